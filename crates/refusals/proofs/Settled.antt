@@ -26,22 +26,19 @@ numbered (suc (suc (suc (suc (suc (suc (suc (suc zero)))))))) p = NoSuchCell p
 numbered (suc (suc (suc (suc (suc (suc (suc (suc (suc zero))))))))) p = AlreadySplit p
 numbered (suc (suc (suc (suc (suc (suc (suc (suc (suc (suc n)))))))))) p = FinestLevel p
 
--- the refusal that was said
-abbrev pub told-refusal : Said → Refusal
-told-refusal (accepted vs) = BadTable
-told-refusal (refused n p) = numbered n p
+-- the answer that was said: its values, or its refusal
+abbrev pub answer : {A : Type 0} → (List ℕ → A) → (Refusal → A) → Said → A
+answer values refusing (accepted vs) = values vs
+answer values refusing (refused n p) = refusing (numbered n p)
 
-pub told-again : (r : Refusal) → told-refusal (refusal r) ≡ r
-told-again WrongVersion = refl
-told-again (WrongLength p) = refl
-told-again (OutOfRange p) = refl
-told-again (Slanted p) = refl
-told-again (UnevenCell p) = refl
-told-again NoRoom = refl
-told-again BadTable = refl
-told-again (NoSuchCell p) = refl
-told-again (AlreadySplit p) = refl
-told-again (FinestLevel p) = refl
-
-pub one-refusal : (what : Said) (a b : Refusal) → refusal a ≡ what → refusal b ≡ what → a ≡ b
-one-refusal = settled refusal told-refusal told-again
+pub answer-refused : {A : Type 0} (values : List ℕ → A) (refusing : Refusal → A) (r : Refusal) → answer values refusing (refusal r) ≡ refusing r
+answer-refused values refusing WrongVersion = refl
+answer-refused values refusing (WrongLength p) = refl
+answer-refused values refusing (OutOfRange p) = refl
+answer-refused values refusing (Slanted p) = refl
+answer-refused values refusing (UnevenCell p) = refl
+answer-refused values refusing NoRoom = refl
+answer-refused values refusing BadTable = refl
+answer-refused values refusing (NoSuchCell p) = refl
+answer-refused values refusing (AlreadySplit p) = refl
+answer-refused values refusing (FinestLevel p) = refl

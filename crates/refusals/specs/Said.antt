@@ -1,5 +1,6 @@
 -- What a call says, in document 01's terms: accepted, with its values, or refused, with a number and a place.
 use Prim.Native.Nat.{ℕ}
+use mathlib.Core.Bool.{Bool, true, false}
 use mathlib.Core.List.{List}
 use Rattle.refusals.specs.declared.Refusal.{Refusal}
 use Rattle.refusals.specs.declared.Refusal.the-variants.{WrongVersion, WrongLength, OutOfRange, Slanted, UnevenCell, NoRoom, BadTable, NoSuchCell, AlreadySplit, FinestLevel}
@@ -20,3 +21,8 @@ refusal BadTable = refused 7 0
 refusal (NoSuchCell id) = refused 8 id
 refusal (AlreadySplit id) = refused 9 id
 refusal (FinestLevel id) = refused 10 id
+
+-- yes and no as a value of an accepted call
+abbrev pub bit : Bool → ℕ
+bit true = 1
+bit false = 0

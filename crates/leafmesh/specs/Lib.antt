@@ -1,0 +1,2 @@
+-- What an exported call says.
+pub mod Outcome

@@ -1,0 +1,14 @@
+-- What an Outcome says, in document 01's terms.
+use mathlib.Core.Bool.{cond}
+use mathlib.Core.List.{[], _∷_}
+use lib.IntN.{ℤ}
+use lib.Dec.{eqb}
+use Rattle.refusals.specs.Said.{Said, accepted, refused}
+use Rattle.contact.specs.declared.Rect.{Rect}
+use Rattle.leafmesh.specs.declared.Outcome.{Outcome}
+
+abbrev pub outcomeSaid : Outcome → Said
+outcomeSaid o = cond (eqb (o .number) 0) (accepted (o .value ∷ [])) (refused (o .number) (o .place))
+
+abbrev pub rectOf : ℤ → ℤ → ℤ → ℤ → Rect
+rectOf x0 y0 x1 y1 = record { x0 = x0; y0 = y0; x1 = x1; y1 = y1 }
