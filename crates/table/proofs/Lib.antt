@@ -1,0 +1,5 @@
+-- Laws that belong to no one function.
+pub mod Numbers
+pub mod All
+pub mod Shape
+pub mod Tests
