@@ -2,3 +2,5 @@
 pub mod Slots
 pub mod Mesh
 pub mod Formed
+pub mod Leaves
+pub mod Refine

@@ -46,6 +46,10 @@ putCell t i c =
     let coordinates = stored (stored (stored (stored t (i * 8) (on (c .x0))) (i * 8 + 1) (on (c .y0))) (i * 8 + 2) (on (c .x1))) (i * 8 + 3) (on (c .y1)) in
     stored (stored (stored (stored coordinates (i * 8 + 4) (kept (c .level))) (i * 8 + 5) (kept (c .parent))) (i * 8 + 6) (kept (c .first))) (i * 8 + 7) (kept (c .poly))
 
+-- the row with another first child for the cell in slot i
+unfoldable pub putFirst : List ℤ → ℕ → ℕ → List ℤ
+putFirst t i first = stored t (i * 8 + 6) (kept first)
+
 -- slot i holds the numbers of a cell: coordinates in range, and the others not negative
 unfoldable pub inSlot : List ℤ → ℕ → Bool
 inSlot t i =

@@ -2,6 +2,8 @@
 //
 // A slot has eight numbers: x0, y0, x1, y1, level, parent, first child, polygon.
 pub mod formed;
+pub mod leaves;
+pub mod refine;
 pub mod slots;
 
 // What a table has beside its row. A call that changes the count answers the head anew.

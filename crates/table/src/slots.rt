@@ -5,7 +5,7 @@ ghost use lib.ListN.{length, getD};
 ghost use lib.IntN.{pos};
 ghost use lib.Signed.{nonNeg};
 ghost use Rattle.cell.specs.Ticks.{inRange, off, on};
-ghost use Rattle.table.specs.Slots.{counted, kept, stored, cellAt, putCell, inSlot};
+ghost use Rattle.table.specs.Slots.{counted, kept, stored, cellAt, putCell, putFirst, inSlot};
 use cell::Cell;
 
 // The number at index j, as a cell holds a coordinate, and as it holds anything else: 0 for a negative number.
@@ -64,6 +64,28 @@ pub fn cell_at(t: &[i64], i: usize) -> Cell
     }
 }
 
+// One number of the cell in slot i, where the rest is not wanted. Internal: the slot is in the row.
+pub fn level_at(t: &[i64], i: usize) -> u64
+    requires { ⌜ i * 8 + 8 ≤ length (now t) ⌝ }
+    ensures { λ r. ⌜ r ≡ cellAt (now (t .entry)) i .level ⌝ }
+{
+    number_at(t, i * 8 + 4)
+}
+
+pub fn first_at(t: &[i64], i: usize) -> u64
+    requires { ⌜ i * 8 + 8 ≤ length (now t) ⌝ }
+    ensures { λ r. ⌜ r ≡ cellAt (now (t .entry)) i .first ⌝ }
+{
+    number_at(t, i * 8 + 6)
+}
+
+pub fn poly_at(t: &[i64], i: usize) -> u64
+    requires { ⌜ i * 8 + 8 ≤ length (now t) ⌝ }
+    ensures { λ r. ⌜ r ≡ cellAt (now (t .entry)) i .poly ⌝ }
+{
+    number_at(t, i * 8 + 7)
+}
+
 // Internal: the slot is in the row.
 pub fn put_cell(t: &mut [i64], i: usize, c: Cell)
     requires { ⌜ i * 8 + 8 ≤ length (now t) ⌝ }
@@ -78,6 +100,14 @@ pub fn put_cell(t: &mut [i64], i: usize, c: Cell)
     put_number(t, b + 5, c.parent);
     put_number(t, b + 6, c.first);
     put_number(t, b + 7, c.poly);
+}
+
+// Names the first child of the cell in slot i. Internal: the slot is in the row.
+pub fn put_first(t: &mut [i64], i: usize, first: u64)
+    requires { ⌜ i * 8 + 8 ≤ length (now t) ⌝ }
+    ensures { λ _. ⌜ now (t .exit) ≡ putFirst (now (t .entry)) i first ⌝ }
+{
+    put_number(t, i * 8 + 6, first);
 }
 
 // Whether number j is in a coordinate's range, and whether it is not negative.

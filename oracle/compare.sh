@@ -1,0 +1,16 @@
+#!/bin/sh
+# Holds the port and the original side by side.
+#
+#   compare.sh [CALLS [COUNT [SEED]]]    CALLS: contact, table, even, or all
+#   compare.sh bench [CALLS]             times of both
+#
+# Exits with 1 if anything differs.
+set -eu
+
+# The groups of calls that the library exports, beside contact: any of "table even".
+FEATURES=""
+
+cd "$(dirname "$0")"
+. ./setup.sh
+(cd .. && rt staticlib leafmesh)
+exec cargo run --offline --release --quiet -p compare --features "$FEATURES" -- "$@"
