@@ -10,5 +10,11 @@ use Rattle.leafmesh.specs.declared.Outcome.{Outcome}
 abbrev pub outcomeSaid : Outcome → Said
 outcomeSaid o = cond (eqb (o .number) 0) (accepted (o .value ∷ [])) (refused (o .number) (o .place))
 
+-- an Outcome has one value: the first, where an answer has more
+abbrev pub firstOf : Said → Said
+firstOf (accepted []) = accepted []
+firstOf (accepted (v ∷ vs)) = accepted (v ∷ [])
+firstOf (refused n p) = refused n p
+
 abbrev pub rectOf : ℤ → ℤ → ℤ → ℤ → Rect
 rectOf x0 y0 x1 y1 = record { x0 = x0; y0 = y0; x1 = x1; y1 = y1 }

@@ -4,11 +4,17 @@
 ghost use mathlib.Core.Path.{_≡_};
 ghost use mathlib.Core.List.{[], _∷_};
 ghost use Rattle.refusals.specs.Said.{accepted, refusal, bit};
-ghost use Rattle.contact.specs.Contact.{contactSays};
-ghost use Rattle.leafmesh.specs.Outcome.{outcomeSaid, rectOf};
+ghost use Rattle.contact.specs.Contact.{contactSaid, contactSays};
+ghost use Rattle.table.specs.Formed.{wellFormed};
+ghost use Rattle.table.specs.Leaves.{leafIds, orderIds, listedSaid, leafCountSays, listSays, listRow};
+ghost use Rattle.table.specs.Refine.{refinedSaid, refineSays, refineRow};
+ghost use Rattle.leafmesh.specs.Outcome.{outcomeSaid, firstOf, rectOf};
 use contact::Contact;
 use contact::Rect;
 use refusals::Refusal;
+use table::Head;
+use table::leaves::Listed;
+use table::refine::Refined;
 
 // number is 0 where the call was accepted, and value then its answer; otherwise the refusal's number, with its place.
 #[repr(C)]
@@ -45,6 +51,33 @@ fn bit_of(b: bool) -> u64
     if b { 1 } else { 0 }
 }
 
+fn of_contact(answer: Contact) -> Outcome
+    ensures { λ r. ⌜ outcomeSaid r ≡ contactSaid answer ⌝ }
+{
+    match answer {
+        Contact::Shares(shared) => accept(bit_of(shared)),
+        Contact::Refused(why) => refuse(why),
+    }
+}
+
+fn of_listed(answer: Listed) -> Outcome
+    ensures { λ r. ⌜ outcomeSaid r ≡ listedSaid answer ⌝ }
+{
+    match answer {
+        Listed::Count(n) => accept(n as u64),
+        Listed::Refused(why) => refuse(why),
+    }
+}
+
+fn of_refined(answer: Refined) -> Outcome
+    ensures { λ r. ⌜ outcomeSaid r ≡ firstOf (refinedSaid answer) ⌝ }
+{
+    match answer {
+        Refined::Done(head) => accept(head.count as u64),
+        Refined::Refused(why) => refuse(why),
+    }
+}
+
 // Whether two rectangles share an edge: value 1 or 0.
 #[no_mangle]
 pub extern "C" fn leafmesh_contact(
@@ -71,8 +104,55 @@ pub extern "C" fn leafmesh_contact(
         x1: bx1,
         y1: by1,
     };
-    match contact::between(a, b) {
-        Contact::Shares(shared) => accept(bit_of(shared)),
-        Contact::Refused(why) => refuse(why),
-    }
+    of_contact(contact::between(a, b))
+}
+
+// How many leaves the table has.
+#[no_mangle]
+pub extern "C" fn leafmesh_leaf_count(table: &[i64], count: usize, max_level: u64) -> Outcome
+    ensures { λ r. ⌜ outcomeSaid r ≡ leafCountSays (now (table .entry)) count «max_level» ⌝ }
+{
+    of_listed(table::leaves::leaf_count(table, Head { count, max_level }))
+}
+
+// The leaves' ids, rising, into the front of out: value is how many.
+#[no_mangle]
+pub extern "C" fn leafmesh_leaves(
+    table: &[i64],
+    count: usize,
+    max_level: u64,
+    out: &mut [u64],
+) -> Outcome
+    ensures { λ r. ⌜ outcomeSaid r ≡ listSays (wellFormed (now (table .entry)) count «max_level») (leafIds (now (table .entry)) count) (now (out .entry)) ⌝ }
+    ensures { λ _. ⌜ now (out .exit) ≡ listRow (wellFormed (now (table .entry)) count «max_level») (leafIds (now (table .entry)) count) (now (out .entry)) ⌝ }
+{
+    of_listed(table::leaves::leaves(table, Head { count, max_level }, out))
+}
+
+// The same by polygon, then id.
+#[no_mangle]
+pub extern "C" fn leafmesh_leaf_order(
+    table: &[i64],
+    count: usize,
+    max_level: u64,
+    out: &mut [u64],
+) -> Outcome
+    ensures { λ r. ⌜ outcomeSaid r ≡ listSays (wellFormed (now (table .entry)) count «max_level») (orderIds (now (table .entry)) count) (now (out .entry)) ⌝ }
+    ensures { λ _. ⌜ now (out .exit) ≡ listRow (wellFormed (now (table .entry)) count «max_level») (orderIds (now (table .entry)) count) (now (out .entry)) ⌝ }
+{
+    of_listed(table::leaves::leaf_order(table, Head { count, max_level }, out))
+}
+
+// Splits the leaf with this id: value is the new count.
+#[no_mangle]
+pub extern "C" fn leafmesh_refine(
+    table: &mut [i64],
+    count: usize,
+    max_level: u64,
+    id: usize,
+) -> Outcome
+    ensures { λ r. ⌜ outcomeSaid r ≡ firstOf (refineSays (now (table .entry)) count «max_level» id) ⌝ }
+    ensures { λ _. ⌜ now (table .exit) ≡ refineRow (now (table .entry)) count «max_level» id ⌝ }
+{
+    of_refined(table::refine::refine(table, Head { count, max_level }, id))
 }

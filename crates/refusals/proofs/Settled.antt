@@ -42,3 +42,16 @@ answer-refused values refusing BadTable = refl
 answer-refused values refusing (NoSuchCell p) = refl
 answer-refused values refusing (AlreadySplit p) = refl
 answer-refused values refusing (FinestLevel p) = refl
+
+-- every refusal is said by a number and a place
+pub as-refused : (r : Refusal) → (n p : ℕ) × (refusal r ≡ refused n p)
+as-refused WrongVersion = (1, 0, refl)
+as-refused (WrongLength p) = (2, p, refl)
+as-refused (OutOfRange p) = (3, p, refl)
+as-refused (Slanted p) = (4, p, refl)
+as-refused (UnevenCell p) = (5, p, refl)
+as-refused NoRoom = (6, 0, refl)
+as-refused BadTable = (7, 0, refl)
+as-refused (NoSuchCell p) = (8, p, refl)
+as-refused (AlreadySplit p) = (9, p, refl)
+as-refused (FinestLevel p) = (10, p, refl)
