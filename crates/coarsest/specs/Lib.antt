@@ -1,0 +1,5 @@
+-- Balance and conform by their passes, and the coarsest splitting by names.
+pub mod Passes
+pub mod Sweep
+pub mod Names
+pub mod Cases

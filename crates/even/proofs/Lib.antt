@@ -1,0 +1,7 @@
+-- Laws that belong to no one function.
+pub mod Pairs
+pub mod Rowing
+pub mod Undoing
+pub mod Turns
+pub mod Passing
+pub mod Demand
