@@ -8,7 +8,7 @@
 set -eu
 
 # The groups of calls that the library exports, beside contact: any of "table even".
-FEATURES="table"
+FEATURES="table even"
 
 cd "$(dirname "$0")"
 . ./setup.sh

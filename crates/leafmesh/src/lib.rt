@@ -8,9 +8,12 @@ ghost use Rattle.contact.specs.Contact.{contactSaid, contactSays};
 ghost use Rattle.table.specs.Formed.{wellFormed};
 ghost use Rattle.table.specs.Leaves.{leafIds, orderIds, listedSaid, leafCountSays, listSays, listRow};
 ghost use Rattle.table.specs.Refine.{refinedSaid, refineSays, refineRow};
+ghost use Rattle.coarsest.specs.Passes.{balancing, conforming};
+ghost use Rattle.even.specs.Even.{eveningSaid, evenSays, evenRow};
 ghost use Rattle.leafmesh.specs.Outcome.{outcomeSaid, firstOf, rectOf};
 use contact::Contact;
 use contact::Rect;
+use even::Evening;
 use refusals::Refusal;
 use table::Head;
 use table::leaves::Listed;
@@ -75,6 +78,15 @@ fn of_refined(answer: Refined) -> Outcome
     match answer {
         Refined::Done(head) => accept(head.count as u64),
         Refined::Refused(why) => refuse(why),
+    }
+}
+
+fn of_evening(answer: Evening) -> Outcome
+    ensures { λ r. ⌜ outcomeSaid r ≡ firstOf (eveningSaid answer) ⌝ }
+{
+    match answer {
+        Evening::Done(splits, _) => accept(splits as u64),
+        Evening::Refused(why) => refuse(why),
     }
 }
 
@@ -155,4 +167,22 @@ pub extern "C" fn leafmesh_refine(
     ensures { λ _. ⌜ now (table .exit) ≡ refineRow (now (table .entry)) count «max_level» id ⌝ }
 {
     of_refined(table::refine::refine(table, Head { count, max_level }, id))
+}
+
+// Balances the table: value is the number of splits, each four cells more.
+#[no_mangle]
+pub extern "C" fn leafmesh_balance(table: &mut [i64], count: usize, max_level: u64) -> Outcome
+    ensures { λ r. ⌜ outcomeSaid r ≡ firstOf (evenSays balancing 1 (now (table .entry)) count «max_level») ⌝ }
+    ensures { λ _. ⌜ now (table .exit) ≡ evenRow balancing 1 (now (table .entry)) count «max_level» ⌝ }
+{
+    of_evening(even::balance(table, Head { count, max_level }))
+}
+
+// The same until no two neighbours differ in level.
+#[no_mangle]
+pub extern "C" fn leafmesh_conform(table: &mut [i64], count: usize, max_level: u64) -> Outcome
+    ensures { λ r. ⌜ outcomeSaid r ≡ firstOf (evenSays conforming 0 (now (table .entry)) count «max_level») ⌝ }
+    ensures { λ _. ⌜ now (table .exit) ≡ evenRow conforming 0 (now (table .entry)) count «max_level» ⌝ }
+{
+    of_evening(even::conform(table, Head { count, max_level }))
 }
