@@ -11,7 +11,7 @@ use Rattle.table.specs.Leaves.{idsTo}
 use Rattle.table.specs.Formed.{Formed, Root}
 use Rattle.coarsest.specs.Passes.{due, step, withEach, eachWith, pass, run, evened, balance, conform}
 use Rattle.coarsest.specs.Cases.{rootAt, twoRoots, p2, countLeaves, counts, splitFrom, splitIds, computed, expected}
-use Rattle.coarsest.proofs.Splits.{not-some, formed-split, kids-in, root-in}
+use Rattle.table.proofs.Meshes.{not-some, formed-split, kids-in, root-in}
 
 pub cases : computed ≡ expected
 unfolding computed expected counts countLeaves splitIds splitFrom p2 twoRoots rootAt split balance conform evened run pass withEach eachWith step due sharesEdge idsTo

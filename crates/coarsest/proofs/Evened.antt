@@ -13,7 +13,7 @@ use Rattle.table.specs.Mesh.{Cell, at}
 use Rattle.table.specs.Formed.{Formed}
 use Rattle.coarsest.specs.Passes.{Engine, pass, run, splitsLeft, evened}
 use Rattle.coarsest.specs.Names.{Splitting, Roots, Coarsest, rootsOf, splitting}
-use Rattle.coarsest.proofs.Splits.{length-split, formed-split}
+use Rattle.table.proofs.Meshes.{length-split, formed-split}
 use Rattle.coarsest.proofs.Least.{due-of, level-most, Way, way-start, way-split, way-end}
 use Rattle.coarsest.proofs.Left.{left-split}
 use Rattle.coarsest.proofs.Sweep.{Keeps, Grown, grown-keeps, grown-least}

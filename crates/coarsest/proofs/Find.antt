@@ -13,7 +13,7 @@ use Rattle.cell.specs.Boxes.{Box, Quad, num, quadrant}
 use Rattle.table.specs.Mesh.{Cell, at, split, isNone}
 use Rattle.coarsest.specs.Names.{Route, place, Stands, rootsOf, rootIf, idIf, plus, kidOf, find, splitIn, splitting, _⊆_}
 use Rattle.table.specs.Formed.{Formed}
-use Rattle.coarsest.proofs.Splits.{not-some, some-is, num-below, kids-in, root-in, View, old, self, new, out, view, kept, kids-kept}
+use Rattle.table.proofs.Meshes.{not-some, some-is, num-below, kids-in, root-in, View, old, self, new, out, view, kept, kids-kept}
 
 -- `find`, one step up
 pub record Up (t : List Cell) (r : ℕ) (q : Quad) (p : Route) (i : ℕ) : Type 0 where

@@ -10,7 +10,7 @@ use Rattle.cell.specs.Boxes.{Quad, sw, se, nw, ne}
 use Rattle.table.specs.Mesh.{Cell, at, child, withKids, split}
 use Rattle.table.specs.Formed.{Formed}
 use Rattle.coarsest.specs.Passes.{Engine, splitsLeft, evened}
-use Rattle.coarsest.proofs.Splits.{not-some, some-is, length-split, Kept, kept, kids-kept, View, old, self, new, out, view}
+use Rattle.table.proofs.Meshes.{not-some, some-is, length-split, Kept, kept, kids-kept, View, old, self, new, out, view}
 use Rattle.coarsest.proofs.Least.{due-of, level-most}
 use Rattle.coarsest.proofs.Sweep.{Keeps}
 use Rattle.coarsest.proofs.Evened.{evened-keeps, evened-formed, evened-spent}

@@ -18,7 +18,8 @@ use Rattle.coarsest.specs.Names.{Route, Splitting, Roots, place, Stands,
 use Rattle.table.specs.Formed.{Formed}
 use Rattle.cell.proofs.Contact.{and-both}
 use Rattle.coarsest.proofs.Forced.{forced}
-use Rattle.coarsest.proofs.Splits.{formed-split, roots-kept}
+use Rattle.table.proofs.Meshes.{formed-split}
+use Rattle.coarsest.proofs.Roots.{roots-kept}
 use Rattle.coarsest.proofs.Find.{at-split, at-leaf, split-at, stands-of, stands-found, find-up, find-rooted, is-root, root-is, tells, named, splits-kept, splits-back}
 
 pub record Due (k : ℕ) (t : List Cell) (f c : ℕ) : Type 0 where

@@ -1,7 +1,7 @@
 -- Laws that belong to no one function.
 pub mod Pair
 pub mod Forced
-pub mod Splits
+pub mod Roots
 pub mod Find
 pub mod Least
 pub mod Left

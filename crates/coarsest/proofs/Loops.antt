@@ -10,7 +10,7 @@ use lib.ListN.{length}
 use Rattle.table.specs.Mesh.{Cell, split, isNone, isLeaf}
 use Rattle.coarsest.specs.Passes.{due, splitIf, Engine, balancing, conforming, step}
 use Rattle.coarsest.specs.Sweep.{row, rows}
-use Rattle.coarsest.proofs.Splits.{at-self}
+use Rattle.table.proofs.Meshes.{at-self}
 use Rattle.coarsest.proofs.Sweep.{dueOf, row-suc, row-grown, rows-grown, grown-least}
 
 -- the cell of the pair that is split

@@ -10,7 +10,7 @@ use Rattle.cell.specs.Boxes.{Quad, sw, se, nw, ne, num, quadAt}
 use Rattle.table.specs.Mesh.{Cell, at}
 use Rattle.table.specs.Formed.{Formed}
 use Rattle.coarsest.specs.Names.{Route, HasCells, rootsOf, find, splitting}
-use Rattle.coarsest.proofs.Splits.{not-some, some-is}
+use Rattle.table.proofs.Meshes.{not-some, some-is}
 use Rattle.coarsest.proofs.Find.{find-up, find-root, find-rooted, is-root, root-is, stands-of, stands-found, tells, named}
 
 quad-num : (q : Quad) → quadAt (num q) ≡ q

@@ -13,7 +13,7 @@ use Rattle.table.specs.Mesh.{Cell, at, split, isNone, isLeaf}
 use Rattle.table.specs.Leaves.{oneIf, idsTo}
 use Rattle.coarsest.specs.Passes.{due, Engine, balancing, conforming, step, withEach, eachWith, pass}
 use Rattle.coarsest.specs.Sweep.{row, rows, sweep}
-use Rattle.coarsest.proofs.Splits.{kids-kept}
+use Rattle.table.proofs.Meshes.{kids-kept}
 use Rattle.coarsest.proofs.Least.{due-of}
 use Rattle.coarsest.proofs.Sweep.{dueOf, Keeps, row-keeps, rows-keeps, rows-grown, rows-calm, Grown, grown-keeps, grown-least, grown-same}
 use Rattle.coarsest.proofs.Loops.{row-skip, row-done, no-leaf-b}

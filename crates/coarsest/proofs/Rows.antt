@@ -11,7 +11,7 @@ use Rattle.table.specs.Formed.{Formed}
 use Rattle.table.specs.Leaves.{oneIf, idsTo}
 use Rattle.coarsest.specs.Passes.{dueCells, due, splitIf, Engine, balancing, conforming, step}
 use Rattle.coarsest.specs.Sweep.{row, splitEach, anyTo}
-use Rattle.coarsest.proofs.Splits.{at-old}
+use Rattle.table.proofs.Meshes.{at-old}
 use Rattle.coarsest.proofs.Least.{due-of, level-most}
 use Rattle.coarsest.proofs.Sweep.{dueOf, row-grown, grown-least}
 use Rattle.coarsest.proofs.Loops.{row-skip, no-leaf, split-no-leaf}

@@ -10,7 +10,7 @@ use lib.ListN.{length}
 use Rattle.table.specs.Mesh.{Cell, split}
 use Rattle.coarsest.specs.Passes.{due, splitIf, Engine, balancing, conforming, step}
 use Rattle.coarsest.specs.Sweep.{row, rows}
-use Rattle.coarsest.proofs.Splits.{length-split}
+use Rattle.table.proofs.Meshes.{length-split}
 
 -- whether the pair (a, b) is due, by the engine
 abbrev pub dueOf : Engine → ℕ → List Cell → ℕ → ℕ → Bool

@@ -22,7 +22,7 @@ use Rattle.coarsest.specs.Passes.{Engine, dueCells, due}
 use Rattle.coarsest.specs.Sweep.{row}
 use Rattle.coarsest.proofs.Pair.{leaf-is}
 use Rattle.coarsest.proofs.Least.{Due, due-of}
-use Rattle.coarsest.proofs.Splits.{length-split}
+use Rattle.table.proofs.Meshes.{length-split}
 use Rattle.coarsest.proofs.Sweep.{dueOf}
 use Rattle.coarsest.proofs.Loops.{coarser, row-due, row-skip, row-most}
 use Rattle.even.specs.Undo.{undone}

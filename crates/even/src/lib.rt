@@ -195,15 +195,15 @@ fn even_table(t: &mut [i64], head: Head, conforms: bool, k: u64) -> Evening
     let n = head.count;
     let m = head.max_level;
     let slots = t.len() / 8;
-    let count = even_out(t, conforms, m, k, n);
-    if slots < count {
+    let cells = even_out(t, conforms, m, k, n);
+    if slots < cells {
         undo(t, n);
         return Evening::Refused(Refusal::NoRoom);
     }
     Evening::Done(
-        (count - n) / 4,
+        (cells - n) / 4,
         Head {
-            count: count,
+            count: cells,
             max_level: m,
         },
     )

@@ -34,6 +34,13 @@ kids-in t i f e = by-cases (decLt i (length t)) (λ h. h) (λ h. not-some (at t 
 pub root-in : (t : List Cell) (i : ℕ) → at t i .parent ≡ none → i < length t
 root-in t i e = by-cases (decLt i (length t)) (λ h. h) (λ h. not-some (at t i .parent) 0 e (ap (λ (c : Cell). c .parent) (beyond t i (omega arith))))
 
+-- what a table u keeps of the cell i of t
+pub record Kept (t u : List Cell) (i : ℕ) : Type 0 where
+  pub box : at u i .box ≡ at t i .box
+  pub level : at u i .level ≡ at t i .level
+  pub parent : at u i .parent ≡ at t i .parent
+  pub polygon : at u i .polygon ≡ at t i .polygon
+
 pub length-split : (t : List Cell) (c : ℕ) → length (split t c) ≡ length t + 4
 unfolding split
 length-split t c = simp (length-append, length-set)
@@ -88,17 +95,10 @@ module _ (t : List Cell) (c : ℕ) (inside : c < length t) where
       let far : length t + 4 ≤ i = omega arith in
       out far (beyond (split t c) i (rw length-split far)))))))
 
-  -- what a split keeps of each cell that was there
-  pub record Kept (i : ℕ) : Type 0 where
-    pub box : at (split t c) i .box ≡ at t i .box
-    pub level : at (split t c) i .level ≡ at t i .level
-    pub parent : at (split t c) i .parent ≡ at t i .parent
-    pub polygon : at (split t c) i .polygon ≡ at t i .polygon
-
-  pub kept : (i : ℕ) → i < length t → Kept i
+  pub kept : (i : ℕ) → i < length t → Kept t (split t c) i
   kept i h = go (view i)
     where
-      go : View i → Kept i
+      go : View i → Kept t (split t c) i
       go (old l n e) = record { box = ap (λ (x : Cell). x .box) e; level = ap (λ (x : Cell). x .level) e; parent = ap (λ (x : Cell). x .parent) e; polygon = ap (λ (x : Cell). x .polygon) e }
       go (self n e) = record { box = ap (λ (x : Cell). x .box) e; level = ap (λ (x : Cell). x .level) e; parent = ap (λ (x : Cell). x .parent) e; polygon = ap (λ (x : Cell). x .polygon) e }
       go (new q n e) = absurd (omega arith)
@@ -114,7 +114,7 @@ module _ (t : List Cell) (c : ℕ) (inside : c < length t) where
         go (new q n d) = let l = kids-in t i f e in absurd (omega arith)
         go (out n d) = let l = kids-in t i f e in absurd (omega arith)
 
-    module _ (M : ℕ) (finer : at t c .level < M) (wf : Formed M t) where
+    module _ (M : ℕ) (finer : at t c .level < M) (formed : Formed M t) where
       kid-kept : (i : ℕ) (q : Quad) (j : ℕ) → i < length t → j < length t → Kid t i q j → Kid (split t c) i q j
       kid-kept i q j hi hj k =
           let a = kept i hi in
@@ -152,11 +152,11 @@ module _ (t : List Cell) (c : ℕ) (inside : c < length t) where
                 };
           }
 
-      split-split : (i f : ℕ) → at (split t c) i .kids ≡ some f → Split M (split t c) i f
-      split-split i f e = go (view i)
+      formed-split-field : (i f : ℕ) → at (split t c) i .kids ≡ some f → Split M (split t c) i f
+      formed-split-field i f e = go (view i)
         where
           go : View i → Split M (split t c) i f
-          go (old l n d) = split-kept i f l (wf .split i f (sym (ap (λ (x : Cell). x .kids) d) ∙ e))
+          go (old l n d) = split-kept i f l (formed .split i f (sym (ap (λ (x : Cell). x .kids) d) ∙ e))
           go (self n d) =
               let g : length t ≡ f = some-is (at (split t c) i .kids) (length t) f (ap (λ (x : Cell). x .kids) d) e in
               subst (λ (x : ℕ). Split M (split t c) x f) (sym n) (subst (λ (x : ℕ). Split M (split t c) c x) g split-new)
@@ -166,12 +166,12 @@ module _ (t : List Cell) (c : ℕ) (inside : c < length t) where
       born-kept : (i j : ℕ) → Born t i j → Born (split t c) i j
       born-kept i j b = record { first = b .first; place = b .place; split = kids-kept j (b .first) (b .split); here = b .here }
 
-      split-born : (i j : ℕ) → i < length (split t c) → at (split t c) i .parent ≡ some j → Born (split t c) i j
-      split-born i j h e = go (view i)
+      formed-born-field : (i j : ℕ) → i < length (split t c) → at (split t c) i .parent ≡ some j → Born (split t c) i j
+      formed-born-field i j h e = go (view i)
         where
           go : View i → Born (split t c) i j
-          go (old l n d) = born-kept i j (wf .born i j l (sym (ap (λ (x : Cell). x .parent) d) ∙ e))
-          go (self n d) = born-kept i j (wf .born i j (omega arith) (sym (ap (λ (x : Cell). x .parent) d) ∙ e))
+          go (old l n d) = born-kept i j (formed .born i j l (sym (ap (λ (x : Cell). x .parent) d) ∙ e))
+          go (self n d) = born-kept i j (formed .born i j (omega arith) (sym (ap (λ (x : Cell). x .parent) d) ∙ e))
           go (new q n d) =
               let g : c ≡ j = some-is (at (split t c) i .parent) c j (ap (λ (x : Cell). x .parent) d) e in
               record { first = length t; place = q; split = rw (← g) (ap (λ (x : Cell). x .kids) at-self); here = n }
@@ -180,14 +180,14 @@ module _ (t : List Cell) (c : ℕ) (inside : c < length t) where
       root-kept : (i : ℕ) → i < length t → Root M (at t i) → Root M (at (split t c) i)
       root-kept i h r = let a = kept i h in record { level = a .level ∙ r .level; wide = rw (a .box) (r .wide); high = rw (a .box) (r .high) }
 
-      split-root : (i : ℕ) → at (split t c) i .parent ≡ none → Root M (at (split t c) i)
-      split-root i e = go (view i)
+      formed-root-field : (i : ℕ) → at (split t c) i .parent ≡ none → Root M (at (split t c) i)
+      formed-root-field i e = go (view i)
         where
           go : View i → Root M (at (split t c) i)
-          go (old l n d) = root-kept i l (wf .root i (sym (ap (λ (x : Cell). x .parent) d) ∙ e))
-          go (self n d) = root-kept i (omega arith) (wf .root i (sym (ap (λ (x : Cell). x .parent) d) ∙ e))
+          go (old l n d) = root-kept i l (formed .root i (sym (ap (λ (x : Cell). x .parent) d) ∙ e))
+          go (self n d) = root-kept i (omega arith) (formed .root i (sym (ap (λ (x : Cell). x .parent) d) ∙ e))
           go (new q n d) = not-some (at (split t c) i .parent) c e (ap (λ (x : Cell). x .parent) d)
           go (out n d) = not-some (at (split t c) i .parent) 0 e (ap (λ (x : Cell). x .parent) d)
 
       pub formed-split : Formed M (split t c)
-      formed-split = record { split = split-split; born = split-born; root = split-root }
+      formed-split = record { split = formed-split-field; born = formed-born-field; root = formed-root-field }

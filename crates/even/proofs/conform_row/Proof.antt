@@ -15,7 +15,7 @@ use Rattle.coarsest.specs.Passes.{conforming, dueCells, splitIf}
 use Rattle.coarsest.specs.Sweep.{row, anyTo}
 use Rattle.coarsest.proofs.Loops.{no-leaf}
 use Rattle.coarsest.proofs.Rows.{row-none, row-finest, conform-row}
-use Rattle.coarsest.proofs.Splits.{length-split}
+use Rattle.table.proofs.Meshes.{length-split}
 use Rattle.even.specs.Parts.{Rowed}
 use Rattle.even.proofs.Pairs.{any-row}
 use Rattle.even.proofs.Turns.{on-start, on-grew, on-as, on-full, on-split, kids-of, none-of}
