@@ -1,2 +1,3 @@
 -- What an exported call says.
 pub mod Outcome
+pub mod Reads

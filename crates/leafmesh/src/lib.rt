@@ -11,6 +11,10 @@ ghost use Rattle.table.specs.Refine.{refinedSaid, refineSays, refineRow};
 ghost use Rattle.coarsest.specs.Passes.{balancing, conforming};
 ghost use Rattle.even.specs.Even.{eveningSaid, evenSays, evenRow};
 ghost use Rattle.leafmesh.specs.Outcome.{outcomeSaid, firstOf, rectOf};
+
+pub mod boards;
+pub mod nets;
+
 use contact::Contact;
 use contact::Rect;
 use even::Evening;
@@ -27,7 +31,7 @@ pub struct Outcome {
     pub value: u64,
 }
 
-fn accept(value: u64) -> Outcome
+pub fn accept(value: u64) -> Outcome
     ensures { λ r. ⌜ outcomeSaid r ≡ accepted (value ∷ []) ⌝ }
 {
     Outcome {
@@ -37,7 +41,7 @@ fn accept(value: u64) -> Outcome
     }
 }
 
-fn refuse(why: Refusal) -> Outcome
+pub fn refuse(why: Refusal) -> Outcome
     ensures { λ r. ⌜ outcomeSaid r ≡ refusal why ⌝ }
 {
     let code = refusals::code_of(why);

@@ -1,0 +1,3 @@
+-- The two checks of a net against a table.
+pub mod Nodes
+pub mod Checks

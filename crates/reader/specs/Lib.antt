@@ -1,0 +1,2 @@
+-- What a reader finds where it stands.
+pub mod Standing

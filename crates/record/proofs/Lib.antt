@@ -1,0 +1,4 @@
+-- Laws that several proofs cite.
+pub mod Numbers
+pub mod Walks
+pub mod Items

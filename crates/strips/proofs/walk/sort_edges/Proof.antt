@@ -1,0 +1,40 @@
+-- `strips::walk::sort_edges` meets its contract: gathered, and then put in order.
+-- Assumes nothing.
+use Rattle.strips.proofs.Walks.{resorted}
+use Rattle.strips.specs.Walk.{edgesOf}
+use lib.Seq.{length-take-le}
+use lib.ListN.{length}
+use mathlib.Core.Path.{_≡_, refl, sym, ap, _∙_}
+use borrow.Author.Needs.{needs}
+use Rattle.strips.proofs.walk.sort_edges.Statement.{statement}
+use Rattle.strips.proofs.walk.sort_edges.Tie as tie
+
+gather-edges-requires : tie.Need-gather-edges-requires
+gather-edges-requires c κs = search needs
+
+slice-relend-prefix-sort : tie.Need-slice-relend-prefix-sort
+slice-relend-prefix-sort c = search needs
+
+slice-aggregate-sort : tie.Need-slice-aggregate-sort
+slice-aggregate-sort c = sym (length-take-le (c .before .before .before .gather-edges .result) _ (c .before .before .before .gather-edges .ensures .fits))
+
+sort-requires : tie.Need-sort-requires
+sort-requires c κs = search needs
+
+same-length : tie.Need-same-length
+same-length c = search needs
+
+returns : tie.Need-returns
+unfolding edgesOf
+returns c = resorted (c .before .before .before .before .before .before .gather-edges .last .1 .0) _ (c .before .before .sort .last .0) _ (c .before .before .before .before .before .before .gather-edges .ensures) (c .before .before .sort .ensures)
+
+pub sort-edges-spec : {M : Type 1} → statement M
+sort-edges-spec =
+    tie.close
+    (tie.spec
+    gather-edges-requires
+    slice-relend-prefix-sort
+    slice-aggregate-sort
+    sort-requires
+    same-length
+    returns)
