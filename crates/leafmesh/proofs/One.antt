@@ -1,0 +1,66 @@
+-- The contracts of the calls that are exported here permit one answer each: any two of which the same is said are one. (Contact, table,
+-- power and the checks have this law beside them.) Assumes nothing.
+use Prim.Native.Nat.{ℕ}
+use mathlib.Core.Path.{_≡_, refl}
+use mathlib.Core.List.{List, [], _∷_}
+use lib.ListN.{getD}
+use Rattle.refusals.specs.Said.{Said}
+use Rattle.refusals.proofs.Settled.{settled, answer, answer-refused}
+use Rattle.even.specs.declared.Evening.{Evening}
+use Rattle.even.specs.declared.Evening.the-variants as E
+use Rattle.even.specs.Even.{eveningSaid}
+use Rattle.strips.specs.declared.Stripped.{Stripped}
+use Rattle.strips.specs.declared.Stripped.the-variants as S
+use Rattle.strips.specs.Said.{strippedSaid}
+use Rattle.build.specs.declared.Built.{Built}
+use Rattle.build.specs.declared.Built.the-variants as B
+use Rattle.build.specs.Says.{builtSaid}
+use Rattle.record.specs.declared.check.Read.{Read}
+use Rattle.record.specs.declared.check.Read.the-variants as R
+use Rattle.board.specs.Reading.{readSaid}
+use Rattle.writing.specs.declared.Written.{Written}
+use Rattle.writing.specs.declared.Written.the-variants as W
+use Rattle.writing.specs.Written.{writeSaid}
+
+abbrev evened : List ℕ → Evening
+evened vs = E.Done (getD vs 0 0) (record { count = getD vs 1 0; «max_level» = getD vs 2 0 })
+
+abbrev readFrom : List ℕ → Read
+readFrom vs =
+    R.Done (record { level = getD vs 0 0; cap = getD vs 1 0; target = getD vs 2 0 })
+    (record { layers = getD vs 3 0; polygons = getD vs 4 0; points = getD vs 5 0; splits = getD vs 6 0 })
+
+pub one-evening : (what : Said) (r q : Evening) → eveningSaid r ≡ what → eveningSaid q ≡ what → r ≡ q
+one-evening = settled eveningSaid (answer evened E.Refused) back
+  where
+    back : (r : Evening) → answer evened E.Refused (eveningSaid r) ≡ r
+    back (E.Done n h) = refl
+    back (E.Refused x) = answer-refused evened E.Refused x
+
+pub one-strips : (what : Said) (r q : Stripped) → strippedSaid r ≡ what → strippedSaid q ≡ what → r ≡ q
+one-strips = settled strippedSaid (answer (λ vs. S.Done (getD vs 0 0)) S.Refused) back
+  where
+    back : (r : Stripped) → answer (λ vs. S.Done (getD vs 0 0)) S.Refused (strippedSaid r) ≡ r
+    back (S.Done n) = refl
+    back (S.Refused x) = answer-refused (λ vs. S.Done (getD vs 0 0)) S.Refused x
+
+pub one-built : (what : Said) (r q : Built) → builtSaid r ≡ what → builtSaid q ≡ what → r ≡ q
+one-built = settled builtSaid (answer (λ vs. B.Done (getD vs 0 0)) B.Refused) back
+  where
+    back : (r : Built) → answer (λ vs. B.Done (getD vs 0 0)) B.Refused (builtSaid r) ≡ r
+    back (B.Done n) = refl
+    back (B.Refused x) = answer-refused (λ vs. B.Done (getD vs 0 0)) B.Refused x
+
+pub one-read : (what : Said) (r q : Read) → readSaid r ≡ what → readSaid q ≡ what → r ≡ q
+one-read = settled readSaid (answer readFrom R.Refused) back
+  where
+    back : (r : Read) → answer readFrom R.Refused (readSaid r) ≡ r
+    back (R.Done g n) = refl
+    back (R.Refused x) = answer-refused readFrom R.Refused x
+
+pub one-written : (what : Said) (r q : Written) → writeSaid r ≡ what → writeSaid q ≡ what → r ≡ q
+one-written = settled writeSaid (answer (λ vs. W.Done (getD vs 0 0)) W.Refused) back
+  where
+    back : (r : Written) → answer (λ vs. W.Done (getD vs 0 0)) W.Refused (writeSaid r) ≡ r
+    back (W.Done n) = refl
+    back (W.Refused x) = answer-refused (λ vs. W.Done (getD vs 0 0)) W.Refused x
