@@ -1,14 +1,17 @@
 #!/bin/sh
 # Holds the port and the original side by side.
 #
-#   compare.sh [CALLS [COUNT [SEED]]]    CALLS: contact, table, even, or all
+#   compare.sh [CALLS [COUNT [SEED]]]    CALLS: contact, table, even, strips, build, record, power,
+#                                        or all
 #   compare.sh bench [CALLS]             times of both
 #
 # Exits with 1 if anything differs.
 set -eu
 
-# The groups of calls that the library exports, beside contact: any of "table even".
-FEATURES="table even"
+# The groups of calls that the library exports, beside contact: any of "table even strips build
+# record power". A group is switched on here once its calls are exported; even brings table with it,
+# and build brings strips.
+FEATURES="table even strips build record power"
 
 cd "$(dirname "$0")"
 . ./setup.sh

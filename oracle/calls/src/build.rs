@@ -33,11 +33,7 @@ pub struct Outlines<'a> {
 /// then polygon by polygon 3 before 4), 5, 6.
 pub fn build(settings: &Settings, outlines: &Outlines, table: &mut [i64]) -> Answer<u64> {
     require(sound_shape(table), 7, 0)?;
-    require(outlines.rows_add_up(), 7, 0)?;
-    require(settings.in_range(), 3, 0)?;
-    require(outlines.sheets.len() <= POLYGONS, 3, 0)?;
-    outlines.judge_polygons()?;
-    let roots = count_roots(settings, outlines)?;
+    let roots = roots_of(settings, outlines)?;
     require(roots <= (table.len() / WIDTH) as u64, 6, 0)?;
 
     let grid = original_grid(settings, outlines);
@@ -45,6 +41,15 @@ pub fn build(settings: &Settings, outlines: &Outlines, table: &mut [i64]) -> Ans
     table.fill(0);
     store_grid(&grid, table);
     Ok(roots)
+}
+
+/// How many roots the board has. Refuses as build does, the room apart.
+pub fn roots_of(settings: &Settings, outlines: &Outlines) -> Answer<u64> {
+    require(outlines.rows_add_up(), 7, 0)?;
+    require(settings.in_range(), 3, 0)?;
+    require(outlines.sheets.len() <= POLYGONS, 3, 0)?;
+    outlines.judge_polygons()?;
+    count_roots(settings, outlines)
 }
 
 impl Settings<'_> {
@@ -55,6 +60,12 @@ impl Settings<'_> {
             && self.layers.len() <= LAYER_ENTRIES
             && self.layers.windows(2).all(|pair| pair[0].0 < pair[1].0)
             && self.layers.iter().all(|&(_, cell)| (0..=CELL).contains(&cell))
+    }
+
+    /// The layer list as the original takes it.
+    pub fn layers_to_original(&self) -> BTreeMap<String, f64> {
+        let entries = self.layers.iter();
+        entries.map(|&(layer, cell)| (layer_name(i64::from(layer)), metres(cell))).collect()
     }
 
     /// The cell size of a layer: its own, or the target where that is 0 or not listed.
@@ -75,7 +86,7 @@ impl Outlines<'_> {
     }
 
     /// The rings one by one; asked for once the counts are known to add up.
-    fn rings(&self) -> Vec<&[TickPoint]> {
+    pub fn rings(&self) -> Vec<&[TickPoint]> {
         let mut rest = self.points;
         let mut rings = Vec::new();
         for &count in self.point_count {
@@ -84,6 +95,12 @@ impl Outlines<'_> {
             rest = behind;
         }
         rings
+    }
+
+    /// The polygons as the original takes them.
+    pub fn to_original(&self) -> Vec<SheetPolygon> {
+        let rings = self.rings().into_iter().enumerate();
+        rings.map(|(polygon, ring)| self.sheets.to_original(polygon, ring)).collect()
     }
 
     fn judge_polygons(&self) -> Answer<()> {
@@ -126,15 +143,7 @@ pub fn cells_along(side: i64, cell: i64, cap: u64) -> u64 {
 }
 
 fn original_grid(settings: &Settings, outlines: &Outlines) -> AdaptiveGrid {
-    let rings = outlines.rings();
-    let polygons: Vec<SheetPolygon> = (0..rings.len())
-        .map(|polygon| outlines.sheets.to_original(polygon, rings[polygon]))
-        .collect();
-    let layers: BTreeMap<String, f64> = settings
-        .layers
-        .iter()
-        .map(|&(layer, cell)| (layer_name(i64::from(layer)), metres(cell)))
-        .collect();
     let target = metres(settings.target);
+    let (polygons, layers) = (outlines.to_original(), settings.layers_to_original());
     AdaptiveGrid::from_polygons(&polygons, target, settings.cap as usize, &layers)
 }

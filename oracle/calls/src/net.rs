@@ -39,15 +39,24 @@ impl NetRows<'_> {
 
     /// Document 01: a net is bad if its rows differ in length, a coordinate is out of range, a cell
     /// or edge names a node not below the count, or a cell's corners aren't SW, SE, NE, NW of a
-    /// rectangle with positive sides.
+    /// rectangle with positive sides. A layer past 16 bits or a component past 32 bits, which a row
+    /// of wider numbers can hold, is read as a coordinate out of range is.
     pub fn is_sound(&self) -> bool {
         let count = self.node_count();
         let known = |&node: &u64| node < count as u64;
         self.rows_are_equal()
-            && (0..count).all(|node| self.node(node)[2..].iter().all(|&n| coordinate_in_range(n)))
+            && (0..count).all(|node| self.is_in_range(node))
             && self.ends.iter().all(known)
             && self.corners.iter().all(known)
             && self.corners.chunks(4).all(|cell| self.is_rectangle(cell))
+    }
+
+    fn is_in_range(&self, node: usize) -> bool {
+        let [layer, component, x, y] = self.node(node);
+        u16::try_from(layer).is_ok()
+            && u32::try_from(component).is_ok()
+            && coordinate_in_range(x)
+            && coordinate_in_range(y)
     }
 
     fn rows_are_equal(&self) -> bool {

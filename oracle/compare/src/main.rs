@@ -3,13 +3,23 @@
 //! `compare [CALLS [COUNT [SEED]]]` runs one group of calls, or `all`; `compare bench CALLS` takes
 //! times. The exit status says whether anything differed.
 
-#[cfg(feature = "even")]
+#[cfg(any(feature = "even", feature = "build", feature = "power"))]
 mod bench;
+#[cfg(feature = "build")]
+mod build;
 mod contact;
 #[cfg(feature = "even")]
 mod even;
 mod port;
+#[cfg(feature = "power")]
+mod power;
+#[cfg(feature = "record")]
+mod record;
 mod report;
+#[cfg(any(feature = "strips", feature = "record", feature = "power"))]
+mod rows;
+#[cfg(feature = "strips")]
+mod strips;
 #[cfg(feature = "table")]
 mod table;
 
@@ -32,7 +42,20 @@ const GROUPS: &[Group] = &[
     #[cfg(feature = "table")]
     Group { name: "table", count: 120_000, compare: table::compare, bench: None },
     #[cfg(feature = "even")]
-    Group { name: "even", count: 60_000, compare: even::compare, bench: Some(bench::even) },
+    Group { name: "even", count: 60_000, compare: even::compare, bench: Some(bench::even::run) },
+    #[cfg(feature = "strips")]
+    Group { name: "strips", count: 200_000, compare: strips::compare, bench: None },
+    #[cfg(feature = "build")]
+    Group {
+        name: "build",
+        count: 150_000,
+        compare: build::compare,
+        bench: Some(bench::build::run),
+    },
+    #[cfg(feature = "record")]
+    Group { name: "record", count: 400_000, compare: record::compare, bench: None },
+    #[cfg(feature = "power")]
+    Group { name: "power", count: 60_000, compare: power::compare, bench: Some(bench::power::run) },
 ];
 
 fn main() -> ExitCode {

@@ -2,8 +2,14 @@
 
 pub mod boards;
 pub mod damage;
+pub mod long_rings;
+pub mod nets;
+pub mod plan_faults;
+pub mod plans;
 pub mod random;
+pub mod records;
 pub mod rectangles;
+pub mod ring_faults;
 pub mod rings;
 pub mod tables;
 

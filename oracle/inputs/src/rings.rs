@@ -104,7 +104,7 @@ fn walk(random: &mut Random) -> Vec<TickPoint> {
 }
 
 /// Points on straight edges and points given twice.
-fn add_idle_points(ring: &mut Vec<TickPoint>, random: &mut Random) {
+pub fn add_idle_points(ring: &mut Vec<TickPoint>, random: &mut Random) {
     for _ in 0..random.below(4) {
         if ring.is_empty() {
             return;

@@ -1,0 +1,2 @@
+-- What the rows of the net's edges and cells hold.
+pub mod Slots

@@ -1,0 +1,2 @@
+-- What the rows of places hold.
+pub mod Places

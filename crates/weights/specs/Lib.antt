@@ -1,0 +1,2 @@
+-- What the rows of the weights' code hold.
+pub mod Sides
