@@ -25,11 +25,11 @@ use Rattle.build.specs.declared.grid.Cut.{Cut}
 use Rattle.build.specs.Grid.{Root, boxed, rowOf, cellOf, rowTo, gridTo, rootsIn, cutOf, evenStrip, allEven, flat}
 use Rattle.build.specs.Board.{Board, polygons, unit, sizeAt, stripsAt, rootsAt, rootsTo, rootsOf}
 use Rattle.build.specs.Says.{rowsShaped, settingsOk, judgeFrom, evenFrom, roomFor, buildSays, filled, buildLeaves}
-use Rattle.build.specs.Steps.{Sizes, Cuts, Fit}
+use Rattle.build.specs.Steps.{Sizes, Cuts, Fit, Tabled}
 use Rattle.build.proofs.Cutting.{cuts}
 use Rattle.build.proofs.Placing.{length-flat}
 use Rattle.build.proofs.Boards.{sizes}
-use Rattle.build.proofs.Fitting.{refused-accepted, sound-passes, even-at, even-passes, fit}
+use Rattle.build.proofs.Fitting.{refused-accepted, sound-passes, even-at, even-passes, tabled, room-fits, fit}
 use Rattle.build.proofs.Tiling.{RootOk, cell-ok}
 
 -- each root of a list
@@ -125,25 +125,46 @@ filled-roots b size e =
 same-count : (m n : ℕ) → _≡_ {A = Said} (accepted (m ∷ [])) (accepted (n ∷ [])) → m ≡ n
 same-count m n e = cc
 
--- the law: of an accepted call the table has the answer's number of roots, and nothing else
-pub built-roots : (b : Board) (components : List ℕ) (sheets : List Float) (t : List ℤ) (n : ℕ) → buildSays b components sheets (length t) ≡ accepted (n ∷ []) → RootsOnly b (buildLeaves b components sheets t) n
-unfolding buildSays buildLeaves
-built-roots b components sheets t n e =
-    split (rowsShaped (b .layers) components sheets (b .counts) (b .points) (length t))
-    (λ s. split (settingsOk b) (λ z. go s z (rw (s, z) at e)) (λ z. absurd (refused-accepted 3 0 (n ∷ []) (rw (s, z) at e))))
-    (λ s. absurd (refused-accepted 7 0 (n ∷ []) (rw s at e)))
-  where
-    go : rowsShaped (b .layers) components sheets (b .counts) (b .points) (length t) ≡ true → settingsOk b ≡ true
-        → judgeFrom sheets (b .counts) (b .points) 0 (polygons b) (evenFrom b 0 (polygons b) (roomFor (length t / 8) (length (rootsOf b)))) ≡ accepted (n ∷ [])
-        → RootsOnly b (buildLeaves b components sheets t) n
-    go s z j =
-        let o = roomFor (length t / 8) (length (rootsOf b)) in
-        let f = fit b components sheets (length t) s z (evenFrom b 0 (polygons b) o) (n ∷ []) j in
-        let v = sound-passes sheets (b .counts) (b .points) (evenFrom b 0 (polygons b) o) (n ∷ []) 0 (polygons b) j in
-        let r = even-passes b o (n ∷ []) 0 (polygons b) v in
-        let w = filled-roots b (length t) (board-ok b f (λ p h. even-at b o (n ∷ []) (polygons b) p v h) (polygons b) (omega arith)) in
-        split (ltb (length t / 8) (length (rootsOf b)))
-        (λ q. absurd (refused-accepted 6 0 (n ∷ []) (rw q at r)))
-        (λ q.
-        let c : length (rootsOf b) ≡ n = same-count (length (rootsOf b)) n (rw q at r) in
-        rw (s, z, j) (rw c at w))
+-- what an accepted call was found to have, and what it leaves
+pub record Passed (b : Board) (t u : List ℤ) (n : ℕ) : Type 0 where
+  pub board : Fit b
+  pub shape : Tabled t
+  pub even : (p : ℕ) → p < polygons b → allEven (unit b) (b .settings .cap) (sizeAt b p) (stripsAt b p) ≡ true
+  pub count : length (rootsOf b) ≡ n
+  pub room : n ≤ length t / 8
+  pub left : u ≡ filled b (length t)
+
+module _ (b : Board) (components : List ℕ) (sheets : List Float) (t : List ℤ) (n : ℕ) (e : buildSays b components sheets (length t) ≡ accepted (n ∷ [])) where
+  pub passed : Passed b t (buildLeaves b components sheets t) n
+  unfolding buildSays buildLeaves
+  passed =
+      split (rowsShaped (b .layers) components sheets (b .counts) (b .points) (length t))
+      (λ s. split (settingsOk b) (λ z. go s z (rw (s, z) at e)) (λ z. absurd (refused-accepted 3 0 (n ∷ []) (rw (s, z) at e))))
+      (λ s. absurd (refused-accepted 7 0 (n ∷ []) (rw s at e)))
+    where
+      go : rowsShaped (b .layers) components sheets (b .counts) (b .points) (length t) ≡ true → settingsOk b ≡ true
+          → judgeFrom sheets (b .counts) (b .points) 0 (polygons b) (evenFrom b 0 (polygons b) (roomFor (length t / 8) (length (rootsOf b)))) ≡ accepted (n ∷ [])
+          → Passed b t (buildLeaves b components sheets t) n
+      go s z j =
+          let o = roomFor (length t / 8) (length (rootsOf b)) in
+          let v = sound-passes sheets (b .counts) (b .points) (evenFrom b 0 (polygons b) o) (n ∷ []) 0 (polygons b) j in
+          let r = even-passes b o (n ∷ []) 0 (polygons b) v in
+          split (ltb (length t / 8) (length (rootsOf b)))
+          (λ q. absurd (refused-accepted 6 0 (n ∷ []) (rw q at r)))
+          (λ q.
+          let c : length (rootsOf b) ≡ n = same-count (length (rootsOf b)) n (rw q at r) in
+          let k : length (rootsOf b) ≤ length t / 8 = ltb-false _ _ q in
+          record {
+            board = fit b components sheets (length t) s z (evenFrom b 0 (polygons b) o) (n ∷ []) j;
+            shape = tabled t (room-fits b components sheets (length t) s);
+            even = λ p h. even-at b o (n ∷ []) (polygons b) p v h;
+            count = c;
+            room = omega arith;
+            left = rw (s, z, j) refl;
+          })
+
+  -- the law: of an accepted call the table has the answer's number of roots, and nothing else
+  pub built-roots : RootsOnly b (buildLeaves b components sheets t) n
+  built-roots =
+      let p = passed in
+      rw (p .left) (rw (p .count) at (filled-roots b (length t) (board-ok b (p .board) (p .even) (polygons b) (omega arith))))

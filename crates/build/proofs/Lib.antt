@@ -7,4 +7,5 @@ pub mod Boards
 pub mod Fitting
 pub mod Tiling
 pub mod Formed
+pub mod Wellformed
 pub mod Cases
