@@ -8,4 +8,3 @@ pub mod Fitting
 pub mod Tiling
 pub mod Formed
 pub mod Wellformed
-pub mod Cases

@@ -1,21 +1,14 @@
--- The boundary cases: one computed check over the list, and that P2's input is a table that the laws speak of. Assumes nothing.
+-- P2's input is a table that the laws speak of. Assumes nothing.
 use mathlib.Core.Path.{_≡_, refl}
 use mathlib.Core.Option.{none}
 use mathlib.Core.List.{List}
 use Prim.Native.Nat.{ℕ, zero, suc, _<_}
 use native.Mathlib.Omega.{arith}
 use lib.ListN.{length}
-use Rattle.cell.specs.Boxes.{sharesEdge}
 use Rattle.table.specs.Mesh.{Cell, at, split}
-use Rattle.table.specs.Leaves.{idsTo}
 use Rattle.table.specs.Formed.{Formed, Root}
-use Rattle.coarsest.specs.Passes.{due, step, withEach, eachWith, pass, run, evened, balance, conform}
-use Rattle.coarsest.specs.Cases.{rootAt, twoRoots, p2, countLeaves, counts, splitFrom, splitIds, computed, expected}
+use Rattle.coarsest.specs.Cases.{rootAt, twoRoots, p2}
 use Rattle.table.proofs.Meshes.{not-some, formed-split, kids-in, root-in}
-
-pub cases : computed ≡ expected
-unfolding computed expected counts countLeaves splitIds splitFrom p2 twoRoots rootAt split balance conform evened run pass withEach eachWith step due sharesEdge idsTo
-cases = refl
 
 -- a list of roots is well formed
 pub roots-formed : (M : ℕ) (t : List Cell) → ((i : ℕ) → i < length t → (at t i .parent ≡ none) × (at t i .kids ≡ none) × Root M (at t i)) → Formed M t

@@ -2,5 +2,4 @@
 pub mod Listed
 pub mod Verdict
 pub mod Never
-pub mod Eight
 pub mod One

@@ -5,5 +5,4 @@ pub mod Walks
 pub mod Laying
 pub mod Crossing
 pub mod Evenness
-pub mod Cases
 pub mod Bounds
