@@ -44,6 +44,7 @@ fn power_of(s: Slope, sheet: f64) -> f64
 }
 
 // The metres from one number of the row to a larger one. Internal: both are coordinates in range.
+// A signed number becomes a fraction in one instruction, an unsigned one in several.
 fn extent(nodes: &[i64], i: usize, j: usize) -> f64
     requires { ⌜ (i < length (now nodes)) × (j < length (now nodes)) ⌝ }
     requires { ⌜ Gap (getD (now nodes) j (pos 0) -ℤ getD (now nodes) i (pos 0)) ⌝ }
@@ -51,7 +52,7 @@ fn extent(nodes: &[i64], i: usize, j: usize) -> f64
 {
     let a = nodes[i];
     let b = nodes[j];
-    cell::ticks::metres((b - a) as u64)
+    ((b - a) as f64) * cell::Cell::TICK
 }
 
 // Slope and extents of cell c. Internal: the cell is one of a sound net, with a potential for each node.

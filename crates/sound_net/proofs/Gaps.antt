@@ -5,7 +5,7 @@ use mathlib.Core.Bool.{true}
 use native.Mathlib.Omega.{arith}
 use lib.IntN.{ℤ, pos, negsuc, _-ℤ_, subℕ}
 use lib.ListN.{length}
-use lib.Signed.{ltZ, nonNeg}
+use lib.Signed.{ltZ}
 use lib.Dec.{T, leb, leb→le, ltb→lt}
 use borrow.Author.Tests.{le-ltb}
 use lib.Ieee.Fits.{and-l, and-r}
@@ -62,9 +62,6 @@ sides n s c h =
       height = gap (yAt (n .nodes) (swAt (n .corners) c)) (yAt (n .nodes) (nwAt (n .corners) c)) (sw .y) (nw .y) (k .box .high);
     }
 
--- such a difference fits 64 bits, signed and unsigned
+-- such a difference fits 64 bits, signed
 pub gap-fits : {z : ℤ} → Gap z → SFits w64 z
 gap-fits {z} g = subst (SFits w64) (sym (g .is)) (record { sfits = omega (arith, g .most) })
-
-pub gap-natural : {z : ℤ} → Gap z → T (nonNeg z)
-gap-natural {z} g = subst (λ (y : ℤ). T (nonNeg y)) (sym (g .is)) tt

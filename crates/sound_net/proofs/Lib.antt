@@ -2,3 +2,4 @@
 pub mod Tests
 pub mod Sound
 pub mod Gaps
+pub mod Marks

@@ -3,16 +3,19 @@
 // nodes: four numbers a node: layer, component, x, y. ends: two numbers an edge. conductances: one an edge.
 // corners: four numbers a cell: its nodes SW, SE, NE, NW. sheets: one a cell.
 ghost use mathlib.Core.Path.{_≡_};
-ghost use Prim.Native.Nat.{_+_, _*_, _/_, _<_, _≤_};
-ghost use lib.ListN.{length};
-ghost use Rattle.sound_net.specs.Nets.{netOf, allBelow, nodeCount, soundNode, soundEdge, rectangle, soundCell, soundNet};
+ghost use Prim.Native.Nat.{_+_, _*_, _/_, _^_, _<_, _≤_};
+ghost use lib.ListN.{length, getD};
+ghost use lib.Dec.{ltb};
+ghost use Rattle.sound_net.specs.Nets.{netOf, allBelow, nodeCount, soundNode, rectangle, soundCell, soundNet};
 
 // Past the last layer and the last component, which have 16 and 32 bits.
 const LAYERS: i64 = 65536;
 
 const COMPONENTS: i64 = 4294967296;
+// The top bit of 64.
+const TOP: u64 = 9223372036854775808;
 
-// The walks below leave at the first thing that is not sound, so each test is one branch that is never taken in a sound net.
+// The walks over nodes and cells leave at the first that is not sound, so each test is one branch that is never taken in a sound net.
 
 // Internal: the node stands in the row.
 fn node_is_sound(nodes: &[i64], n: usize) -> bool
@@ -48,22 +51,23 @@ fn nodes_are_sound(nodes: &[i64]) -> bool
     true
 }
 
-// Internal: the row has two numbers for each of the edges.
-fn edges_are_sound(count: usize, ends: &[u64], edges: usize) -> bool
-    requires { ⌜ edges * 2 ≤ length (now ends) ⌝ }
-    ensures { λ r. ⌜ r ≡ allBelow (soundEdge count (now (ends .entry))) edges ⌝ }
+// Whether each number of the row is below the count: without a branch, so that a machine may take several at a time. A number is
+// below the count exactly if it and the last number below the count less it both lack the top bit. Internal: no row has 2^63 nodes.
+fn all_below(count: usize, row: &[u64]) -> bool
+    requires { ⌜ count ≤ 2 ^ 63 ⌝ }
+    ensures { λ r. ⌜ r ≡ allBelow (λ i. ltb (getD (now (row .entry)) i 0) count) (length (now (row .entry))) ⌝ }
 {
-    let mut e = 0usize;
-    while e < edges {
-        if count <= ends[e * 2] as usize {
-            return false;
-        }
-        if count <= ends[e * 2 + 1] as usize {
-            return false;
-        }
-        e += 1;
+    let last = std::num::wrapping_sub_u64(count as u64, 1);
+    let mut seen = 0u64;
+    let mut left = 0u64;
+    let mut i = 0usize;
+    while i < row.len() {
+        let e = row[i];
+        seen = seen | e;
+        left = left | std::num::wrapping_sub_u64(last, e);
+        i += 1;
     }
-    true
+    (seen < TOP) & (left < TOP)
 }
 
 // Whether four nodes are SW, SE, NE, NW of a rectangle with positive sides. Internal: they stand in the row.
@@ -151,7 +155,5 @@ pub fn is_sound(
         return false;
     }
     let count = nodes.len() / 4;
-    nodes_are_sound(nodes)
-        & edges_are_sound(count, ends, edges)
-        & cells_are_sound(nodes, corners, cells)
+    nodes_are_sound(nodes) & all_below(count, ends) & cells_are_sound(nodes, corners, cells)
 }

@@ -6,7 +6,7 @@ use mathlib.Core.List.{List, [], _∷_, _++_, map}
 use mathlib.Core.Logic.{⊎-elim}
 use native.Mathlib.Omega.{arith}
 use native.Mathlib.Numerals.{add-one}
-use native.Mathlib.Nat.{suc-mul}
+use native.Mathlib.Nat.{suc-mul, mul-le-mul-right}
 use lib.IntN.{ℤ}
 use lib.Dec.{ltb}
 use lib.ListN.{length, take, drop, getD, drop-of-length-le, length-drop, length-append, length-map}
@@ -87,6 +87,11 @@ module _ (ps : List (List ℤ)) (es : List ℕ) where
       let b : suc k < length hs = omega arith in
       rw (add-one k, drop-cons hs k 0 a, drop-cons hs (suc k) 0 b) refl
 
+  -- a band that nothing crosses
+  pub left-flat : (hs : List ℕ) (j k : ℕ) → k + 1 < length hs → ((l : List ℕ) → crossed ps (getD hs k 0) (getD hs (k + 1) 0) l ≡ []) → left ps es j (drop k hs) ≡ left ps es 0 (drop (k + 1) hs)
+  unfolding pairUp
+  left-flat hs j k h f = left-at hs j k h ∙ rw (f (drop j es), left-zero (drop (k + 1) hs)) refl
+
   -- a pair of crossings at the edges a and b of the band k
   module _ (hs : List ℕ) (j k a b : ℕ) (h : k + 1 < length hs) where
     abbrev one : List Strip → List Strip
@@ -131,6 +136,13 @@ pub band-falls : (last k n j : ℕ) → k < last → (last - (k + 1)) * (n + 1) 
 band-falls last k n j h =
     let e : last - k ≡ suc (last - (k + 1)) = omega arith in
     rw (e, suc-mul) (omega arith)
+
+pub bands-fall : (last k r n j : ℕ) → k < last → k + 1 ≤ r → (last - r) * (n + 1) + (n - 0) < (last - k) * (n + 1) + (n - j)
+bands-fall last k r n j h g =
+    let a = band-falls last k n j h in
+    let d : last - r ≤ last - (k + 1) = omega arith in
+    let m : (last - r) * (n + 1) ≤ (last - (k + 1)) * (n + 1) = mul-le-mul-right (n + 1) d in
+    omega arith
 
 pub unsorted-yes : (ps : List (List ℤ)) (i : ℕ) → verticalAt ps i ≡ true → unsortedEdges ps (i + 1) ≡ unsortedEdges ps i ++ (keyOf ps i ∷ [])
 unfolding unsortedEdges

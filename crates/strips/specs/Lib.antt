@@ -3,4 +3,7 @@ pub mod Sorted
 pub mod Rings
 pub mod Strips
 pub mod Said
+pub mod Levels
+pub mod Merging
+pub mod Tally
 pub mod Walk

@@ -72,6 +72,11 @@ left ps es j [] = []
 left ps es j (lo ∷ []) = []
 left ps es j (lo ∷ hi ∷ hs) = pairUp lo hi (crossed ps lo hi (drop j es)) ++ walked ps es (hi ∷ hs)
 
+-- from band r on there is as much to come as from band k on
+pub record Skips (hs : List ℕ) (k r : ℕ) : Type 0 where
+  pub low : k ≤ r
+  pub same : (ps : List (List ℤ)) (es : List ℕ) → left ps es 0 (drop r hs) ≡ left ps es 0 (drop k hs)
+
 -- the strips of a ring of at least 3 points
 unfoldable pub allOf : List (List ℤ) → List ℕ → List ℕ → List Strip
 allOf ps hs es = cond (ltb (length ps) 3) [] (walked ps es hs)

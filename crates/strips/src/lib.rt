@@ -2,6 +2,7 @@
 ghost use mathlib.Core.Path.{_≡_};
 ghost use Prim.Native.Nat.{_<_, _≤_, _+_, _^_, min};
 ghost use lib.ListN.{length, set};
+ghost use Rattle.refusals.specs.Limits.{maxPoints};
 ghost use Rattle.strips.specs.Said.{strippedSaid, stripsSays, stripsLeave, stripRow, laid, counted, ifAccepted};
 ghost use Rattle.strips.specs.Strips.{stripsOf};
 ghost use Rattle.strips.specs.Walk.{allOf, Roomy};
@@ -11,7 +12,11 @@ use refusals::limits::RING_POINTS;
 
 pub mod order;
 pub mod ring;
+pub mod tally;
 pub mod walk;
+
+// Rings of at most so many points have short work rows.
+const FEW: usize = 16;
 
 // How many strips there are, or why there is no answer.
 pub enum Stripped {
@@ -111,6 +116,27 @@ fn cut(
     lay(points, &heights[..n], &edges[..m], out)
 }
 
+// The same with the rows made: short ones where they do, since they are filled with zeros first.
+fn cut_few(points: &[[i64; 2]], out: &mut [[i64; 4]]) -> Stripped
+    requires { ⌜ length (now points) ≤ 16 ⌝ }
+    ensures { λ r. ⌜ strippedSaid r ≡ counted (length (stripsOf (now (points .entry)))) (length (now (out .entry))) ⌝ }
+    ensures { λ r. ⌜ now (out .exit) ≡ ifAccepted (strippedSaid r) (laid (stripsOf (now (points .entry))) (now (out .entry))) (now (out .entry)) ⌝ }
+{
+    let mut heights = [0u64; FEW];
+    let mut edges = [0u64; FEW];
+    cut(points, &mut heights, &mut edges, out)
+}
+
+fn cut_many(points: &[[i64; 2]], out: &mut [[i64; 4]]) -> Stripped
+    requires { ⌜ length (now points) ≤ maxPoints ⌝ }
+    ensures { λ r. ⌜ strippedSaid r ≡ counted (length (stripsOf (now (points .entry)))) (length (now (out .entry))) ⌝ }
+    ensures { λ r. ⌜ now (out .exit) ≡ ifAccepted (strippedSaid r) (laid (stripsOf (now (points .entry))) (now (out .entry))) (now (out .entry)) ⌝ }
+{
+    let mut heights = [0u64; RING_POINTS];
+    let mut edges = [0u64; RING_POINTS];
+    cut(points, &mut heights, &mut edges, out)
+}
+
 // The strips of a ring, by band from the bottom, then left to right: x0, y0, x1, y1 in each row.
 pub fn strips(points: &[[i64; 2]], out: &mut [[i64; 4]]) -> Stripped
     ensures { λ r. ⌜ strippedSaid r ≡ stripsSays (now (points .entry)) (length (now (out .entry))) ⌝ }
@@ -122,7 +148,8 @@ pub fn strips(points: &[[i64; 2]], out: &mut [[i64; 4]]) -> Stripped
     if ring::slanted(points) {
         return Stripped::Refused(Refusal::Slanted(0));
     }
-    let mut heights = [0u64; RING_POINTS];
-    let mut edges = [0u64; RING_POINTS];
-    cut(points, &mut heights, &mut edges, out)
+    if points.len() <= FEW {
+        return cut_few(points, out);
+    }
+    cut_many(points, out)
 }

@@ -43,6 +43,16 @@ module _ (f : ℕ → Bool) where
       (λ (e : n ≡ suc m). rw e (omega arith))
       (top? n (suc m) (omega arith))
 
+  -- at most one an index
+  pub ids-few : (n : ℕ) → length (idsTo f n) ≤ n
+  unfolding idsTo
+  ids-few zero = omega arith
+  ids-few (suc n) = omega (arith, ids-few n, length-append (idsTo f n) (oneIf (f n) n), one (f n))
+    where
+      one : (b : Bool) → length (oneIf b n) ≤ 1
+      one true = omega arith
+      one false = omega arith
+
 -- two tests that agree below n list the same
 pub ids-same : (f g : ℕ → Bool) (n : ℕ) → ((i : ℕ) → i < n → f i ≡ g i) → idsTo f n ≡ idsTo g n
 unfolding idsTo

@@ -3,6 +3,7 @@ pub mod Numbers
 pub mod All
 pub mod Ids
 pub mod Order
+pub mod Runs
 pub mod One
 pub mod Shape
 pub mod Tests

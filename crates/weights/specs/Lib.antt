@@ -1,2 +1,3 @@
 -- What the rows of the weights' code hold.
 pub mod Sides
+pub mod Weigh

@@ -4,6 +4,7 @@ use crate::limits::coordinate_in_range;
 use crate::sheets::layer_name;
 use crate::ticks::{metres, ticks};
 use original::sheet::SheetNetwork;
+use std::collections::BTreeSet;
 
 /// A net's rows as they are lent to a call.
 #[derive(Clone, Copy, Debug)]
@@ -69,6 +70,22 @@ impl NetRows<'_> {
         let (x0, y0) = self.place(cell[0]);
         let (x1, y1) = self.place(cell[2]);
         x0 < x1 && y0 < y1 && self.place(cell[1]) == (x1, y0) && self.place(cell[3]) == (x0, y1)
+    }
+
+    /// Whether a node hangs: one of a cell's own layer and component stands in the middle of one of
+    /// its sides. Asked of sound nets.
+    pub fn has_hanging_nodes(&self) -> bool {
+        let nodes: BTreeSet<[i64; 4]> =
+            (0..self.node_count()).map(|node| self.node(node)).collect();
+        self.corners.chunks(4).any(|cell| self.middles(cell).iter().any(|key| nodes.contains(key)))
+    }
+
+    /// The middles of a cell's sides, with the layer and component of its first corner.
+    fn middles(&self, cell: &[u64]) -> [[i64; 4]; 4] {
+        let [layer, component, x0, y0] = self.node(cell[0] as usize);
+        let (x1, y1) = self.place(cell[2]);
+        let (mx, my) = (x0 + (x1 - x0) / 2, y0 + (y1 - y0) / 2);
+        [(mx, y0), (x1, my), (mx, y1), (x0, my)].map(|(x, y)| [layer, component, x, y])
     }
 
     /// A sound net as the original holds it.

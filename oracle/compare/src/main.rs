@@ -3,20 +3,36 @@
 //! `compare [CALLS [COUNT [SEED]]]` runs one group of calls, or `all`; `compare bench CALLS` takes
 //! times. The exit status says whether anything differed.
 
-#[cfg(any(feature = "even", feature = "build", feature = "power"))]
+#[cfg(any(
+    feature = "even",
+    feature = "build",
+    feature = "power",
+    feature = "network",
+    feature = "checks"
+))]
 mod bench;
 #[cfg(feature = "build")]
 mod build;
+#[cfg(feature = "checks")]
+mod checks;
 mod contact;
 #[cfg(feature = "even")]
 mod even;
+#[cfg(feature = "network")]
+mod network;
 mod port;
 #[cfg(feature = "power")]
 mod power;
 #[cfg(feature = "record")]
 mod record;
 mod report;
-#[cfg(any(feature = "strips", feature = "record", feature = "power"))]
+#[cfg(any(
+    feature = "strips",
+    feature = "record",
+    feature = "power",
+    feature = "network",
+    feature = "checks"
+))]
 mod rows;
 #[cfg(feature = "strips")]
 mod strips;
@@ -56,6 +72,20 @@ const GROUPS: &[Group] = &[
     Group { name: "record", count: 400_000, compare: record::compare, bench: None },
     #[cfg(feature = "power")]
     Group { name: "power", count: 60_000, compare: power::compare, bench: Some(bench::power::run) },
+    #[cfg(feature = "network")]
+    Group {
+        name: "network",
+        count: 60_000,
+        compare: network::compare,
+        bench: Some(bench::network::run),
+    },
+    #[cfg(feature = "checks")]
+    Group {
+        name: "checks",
+        count: 40_000,
+        compare: checks::compare,
+        bench: Some(bench::checks::run),
+    },
 ];
 
 fn main() -> ExitCode {

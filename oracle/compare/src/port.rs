@@ -1,6 +1,11 @@
 //! The port's calls: `extern "C"` names of its library, each behind a safe function over slices. A
 //! group of calls is there only with its feature, so that a library without it still links.
 
+#[cfg(feature = "checks")]
+pub mod checks;
+#[cfg(feature = "network")]
+pub mod network;
+
 use calls::contact::Rect;
 use calls::Outcome;
 

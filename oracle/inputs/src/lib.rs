@@ -2,7 +2,11 @@
 
 pub mod boards;
 pub mod damage;
+pub mod large_meshes;
 pub mod long_rings;
+pub mod mesh_faults;
+pub mod meshes;
+pub mod net_changes;
 pub mod nets;
 pub mod plan_faults;
 pub mod plans;

@@ -65,7 +65,8 @@ fn span(random: &mut Random) -> [i64; 2] {
     [low, low + width]
 }
 
-fn any_sheet(random: &mut Random) -> f64 {
+/// Any sheet resistance in range, the limits among them.
+pub fn any_sheet(random: &mut Random) -> f64 {
     let (least, most) = ((1.0 / R_SHEET).to_bits() as i64, R_SHEET.to_bits() as i64);
     let any = f64::from_bits(random.within(least, most) as u64);
     random.pick(&[any, any, 1.0, R_SHEET, 1.0 / R_SHEET])

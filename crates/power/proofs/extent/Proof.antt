@@ -1,14 +1,29 @@
--- `power::extent` meets its contract: the difference fits, and is not negative. Assumes nothing.
+-- `power::extent` meets its contract: the difference fits, is not negative, and is exact as a fraction. Assumes nothing.
+use mathlib.Core.Path.{_≡_, sym, ap, subst}
+use Prim.Native.Nat.{ℕ, _≤_, _^_}
 use native.Mathlib.Omega.{arith}
 use lib.ListN.{getD}
-use lib.IntN.{pos}
+use lib.Dec.{T, le→leb}
+use lib.IntN.{ℤ, pos}
+use lib.Ieee as Ieee
+use lib.Ieee.{Float, binary64, inFloat, round, ofBits}
 use mir.Syntax.{w64}
 use mir.Val.{SFits}
 use mir.Facts.{toZ-ofZ}
-use Rattle.sound_net.proofs.Gaps.{gap-fits, gap-natural}
+use Rattle.cell.specs.Ticks.{tick}
+use Rattle.sound_net.specs.Facts.{Gap}
+use Rattle.sound_net.proofs.Gaps.{gap-fits}
 use borrow.Author.Needs.{needs}
 use Rattle.power.proofs.extent.Statement.{statement}
 use Rattle.power.proofs.extent.Tie as tie
+
+-- binary64 has every whole number up to 2^53
+small : (n : ℕ) → n ≤ 2 ^ 53 → T (inFloat binary64 (pos n))
+unfolding inFloat
+small n h = le→leb n (2 ^ 53) h
+
+exact : {z : ℤ} → Gap z → T (inFloat binary64 z)
+exact {z} g = subst (λ (y : ℤ). T (inFloat binary64 y)) (sym (g .is)) (small _ (omega (arith, g .most)))
 
 mul-a : tie.Need-mul-a
 mul-a c = search needs
@@ -22,37 +37,30 @@ mul-b c = search needs
 shared-slice-copy-out-b : tie.Need-shared-slice-copy-out-b
 shared-slice-copy-out-b c = search needs
 
-sub-metres : tie.Need-sub-metres
-sub-metres c =
+sub-result : tie.Need-sub-result
+sub-result c =
     let s = c .before .before in
     let nodes = s .args .nodes .now in
     let a : SFits w64 (getD nodes (s .args .i) (pos 0)) = search needs in
     let b : SFits w64 (getD nodes (s .args .j) (pos 0)) = search needs in
     rw (toZ-ofZ b, toZ-ofZ a) (gap-fits (s .pre .1))
 
-cast-metres : tie.Need-cast-metres
-cast-metres c =
-    let s = c .before .before in
+int-to-float-result : tie.Need-int-to-float-result
+int-to-float-result c =
+    let s = c .before .before .before in
     let nodes = s .args .nodes .now in
     let a : SFits w64 (getD nodes (s .args .i) (pos 0)) = search needs in
     let b : SFits w64 (getD nodes (s .args .j) (pos 0)) = search needs in
-    rw (toZ-ofZ b, toZ-ofZ a, toZ-ofZ (gap-fits (s .pre .1))) (gap-natural (s .pre .1), record { fits = omega (arith, s .pre .1 .most) })
-
-metres-requires : tie.Need-metres-requires
-metres-requires c κs =
-    let s = c .before .before in
-    let nodes = s .args .nodes .now in
-    let a : SFits w64 (getD nodes (s .args .i) (pos 0)) = search needs in
-    let b : SFits w64 (getD nodes (s .args .j) (pos 0)) = search needs in
-    rw (toZ-ofZ b, toZ-ofZ a, toZ-ofZ (gap-fits (s .pre .1))) (omega (arith, s .pre .1 .most))
+    rw (toZ-ofZ b, toZ-ofZ a, toZ-ofZ (gap-fits (s .pre .1))) (exact (s .pre .1))
 
 returns : tie.Need-returns
+unfolding round ofBits
 returns c =
     let s = c .before .before .before in
     let nodes = s .args .nodes .now in
     let a : SFits w64 (getD nodes (s .args .i) (pos 0)) = search needs in
     let b : SFits w64 (getD nodes (s .args .j) (pos 0)) = search needs in
-    rw (toZ-ofZ b, toZ-ofZ a, toZ-ofZ (gap-fits (s .pre .1))) at (c .metres .ensures)
+    rw (toZ-ofZ b, toZ-ofZ a, toZ-ofZ (gap-fits (s .pre .1))) (ap (λ (y : ℤ). Ieee.mul binary64 (Ieee.ofInt binary64 y) tick) (s .pre .1 .is))
 
 pub extent-spec : {M : Type 1} → statement M
 extent-spec =
@@ -62,7 +70,6 @@ extent-spec =
     shared-slice-copy-out-a
     mul-b
     shared-slice-copy-out-b
-    sub-metres
-    cast-metres
-    metres-requires
+    sub-result
+    int-to-float-result
     returns)

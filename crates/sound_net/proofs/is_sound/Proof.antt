@@ -1,6 +1,10 @@
 -- `sound_net::is_sound` meets its contract: the lengths, then each walk. Assumes nothing.
+use mathlib.Core.Path.{_≡_, ap, _∙_}
+use lib.ListN.{length, getD}
+use lib.Dec.{ltb}
 use borrow.Author.Tests.{eq-eqb, ne-eqb}
-use Rattle.sound_net.specs.Nets.{soundNet}
+use Rattle.sound_net.specs.Nets.{allBelow, nodeCount, soundEdge, soundNet}
+use Rattle.sound_net.proofs.Marks.{each-end}
 use borrow.Author.Needs.{needs}
 use Rattle.sound_net.proofs.is_sound.Statement.{statement}
 use Rattle.sound_net.proofs.is_sound.Tie as tie
@@ -26,8 +30,8 @@ returns-3 c = simp (eq-eqb _ _ (c .before .before .if1 .left), eq-eqb _ _ (c .be
 nodes-are-sound-requires : tie.Need-nodes-are-sound-requires
 nodes-are-sound-requires c κs = search needs
 
-edges-are-sound-requires : tie.Need-edges-are-sound-requires
-edges-are-sound-requires c κs = search needs
+all-below-requires : tie.Need-all-below-requires
+all-below-requires c κs = search needs
 
 cells-are-sound-requires : tie.Need-cells-are-sound-requires
 cells-are-sound-requires c κs = search needs
@@ -35,12 +39,18 @@ cells-are-sound-requires c κs = search needs
 returns-4 : tie.Need-returns-4
 unfolding soundNet
 returns-4 c =
+    let s = c .before .before .before .before .before .before .before .before .before .before in
+    let ends = s .args .ends .now in
+    let count = nodeCount (s .args .nodes .now) in
+    let edges = length (s .args .conductances .now) in
+    let below : c .before .all-below .result ≡ allBelow (soundEdge count ends) edges =
+    c .before .all-below .ensures ∙ ap (allBelow (λ i. ltb (getD ends i 0) count)) (c .before .before .before .before .if2 .left) ∙ each-end count ends edges in
     rw (
       eq-eqb _ _ (c .before .before .before .before .before .if1 .left),
       eq-eqb _ _ (c .before .before .before .before .if2 .left),
       eq-eqb _ _ (c .before .before .before .if3 .left),
       c .before .before .nodes-are-sound .ensures,
-      c .before .edges-are-sound .ensures,
+      below,
       c .cells-are-sound .ensures,
     )
 
@@ -54,6 +64,6 @@ is-sound-spec =
     mul-if3
     returns-3
     nodes-are-sound-requires
-    edges-are-sound-requires
+    all-below-requires
     cells-are-sound-requires
     returns-4)

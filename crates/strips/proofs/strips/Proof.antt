@@ -23,19 +23,13 @@ returns c = let e : ringInRange (c .before .before .args .points .now) ≡ false
     rw e (refl, refl)
 
 slanted-requires : tie.Need-slanted-requires
-slanted-requires c κs = search needs
+slanted-requires c κs = sym (c .before .in-range .ensures) ∙ not-false _ (c .if1 .left)
 
 returns-2 : tie.Need-returns-2
 unfolding stripsSays stripsLeave
 returns-2 c = let e : ringInRange (c .before .before .before .before .args .points .now) ≡ true = sym (c .before .before .before .in-range .ensures) ∙ not-false _ (c .before .before .if1 .left) in
     let d : ringSlants (c .before .before .before .before .args .points .now) ≡ true = sym (c .before .slanted .ensures) ∙ c .if2 .taken in
     rw (e, d) (refl, refl)
-
-slice-aggregate-cut : tie.Need-slice-aggregate-cut
-slice-aggregate-cut c = search needs
-
-slice-aggregate-cut-2 : tie.Need-slice-aggregate-cut-2
-slice-aggregate-cut-2 c = search needs
 
 -- the ring was judged
 in-range : (c : tie.Else2) → ringInRange (c .before .before .before .before .args .points .now) ≡ true
@@ -44,18 +38,32 @@ in-range c = sym (c .before .before .before .in-range .ensures) ∙ not-false _ 
 straight : (c : tie.Else2) → ringSlants (c .before .before .before .before .args .points .now) ≡ false
 straight c = sym (c .before .slanted .ensures) ∙ c .if2 .left
 
-cut-requires : tie.Need-cut-requires
-cut-requires c κs = let h = few-points _ (in-range (c .before .before .before)) in record { few = h; heights = h; edges = h }
+cut-few-requires : tie.Need-cut-few-requires
+cut-few-requires c κs = c .before .if3 .taken
 
 same-length : tie.Need-same-length
 same-length c = search needs
 
 returns-3 : tie.Need-returns-3
 unfolding stripsSays stripsLeave
-returns-3 c = let a = c .before .before .before .before .before .before .before .before .before .before .before .args in
-    let k = c .before .before .before .cut .ensures in
-    let i = in-range (c .before .before .before .before .before .before .before) in
-    let s = straight (c .before .before .before .before .before .before .before) in
+returns-3 c = let a = c .before .before .before .before .before .before .before .before .args in
+    let k = c .before .cut-few .ensures in
+    let i = in-range (c .before .before .before .before) in
+    let s = straight (c .before .before .before .before) in
+    (rw (i, s) (k .0), rw (i, s) (k .1 ∙ ap (λ (x : Said). ifAccepted x (laid (stripsOf (a .points .now)) (a .out .now)) (a .out .now)) (k .0)))
+
+cut-many-requires : tie.Need-cut-many-requires
+cut-many-requires c κs = few-points _ (in-range (c .before .before))
+
+same-length-2 : tie.Need-same-length-2
+same-length-2 c = search needs
+
+returns-4 : tie.Need-returns-4
+unfolding stripsSays stripsLeave
+returns-4 c = let a = c .before .before .before .before .before .before .before .before .args in
+    let k = c .before .cut-many .ensures in
+    let i = in-range (c .before .before .before .before) in
+    let s = straight (c .before .before .before .before) in
     (rw (i, s) (k .0), rw (i, s) (k .1 ∙ ap (λ (x : Said). ifAccepted x (laid (stripsOf (a .points .now)) (a .out .now)) (a .out .now)) (k .0)))
 
 pub strips-spec : {M : Type 1} → statement M
@@ -66,8 +74,9 @@ strips-spec =
     returns
     slanted-requires
     returns-2
-    slice-aggregate-cut
-    slice-aggregate-cut-2
-    cut-requires
+    cut-few-requires
     same-length
-    returns-3)
+    returns-3
+    cut-many-requires
+    same-length-2
+    returns-4)

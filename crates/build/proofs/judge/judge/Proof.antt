@@ -103,7 +103,7 @@ part-slanted-end : tie.Need-part-slanted-end Inv-loop μ-loop
 part-slanted-end c = ends (c .before .before .before .before .before .before .before)
 
 slanted-requires : tie.Need-slanted-requires Inv-loop μ-loop
-slanted-requires c κs = search needs
+slanted-requires c κs = sym (c .before .before .in-range .ensures) ∙ not-false _ (c .before .if2 .left)
 
 returns-3 : tie.Need-returns-3 Inv-loop μ-loop
 returns-3 c = λ o.

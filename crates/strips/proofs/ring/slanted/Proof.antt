@@ -20,11 +20,8 @@ loop-holds : tie.Need-loop-holds Inv-loop μ-loop
 unfolding someBelow
 loop-holds c = (search needs, refl)
 
-edge-at-requires : tie.Need-edge-at-requires Inv-loop μ-loop
-edge-at-requires c κs = search needs
-
-slants-requires : tie.Need-slants-requires Inv-loop μ-loop
-slants-requires c κs = search needs
+slants-at-requires : tie.Need-slants-at-requires Inv-loop μ-loop
+slants-at-requires c κs = (c .loop-test .taken, c .before .before .pre)
 
 add-i : tie.Need-add-i Inv-loop μ-loop
 add-i c = search needs
@@ -33,7 +30,7 @@ loop-less : tie.Need-loop-less Inv-loop μ-loop
 loop-less c = search needs
 
 loop-again : tie.Need-loop-again Inv-loop μ-loop
-loop-again c = (search needs, rw (c .before .before .before .loop .inv .1, c .slants .ensures, c .before .edge-at .ensures, some-more) refl)
+loop-again c = (search needs, rw (c .before .before .loop .inv .1, c .slants-at .ensures, some-more) refl)
 
 returns : tie.Need-returns Inv-loop μ-loop
 unfolding ringSlants
@@ -46,8 +43,7 @@ slanted-spec =
     Inv-loop
     μ-loop
     loop-holds
-    edge-at-requires
-    slants-requires
+    slants-at-requires
     add-i
     loop-less
     loop-again

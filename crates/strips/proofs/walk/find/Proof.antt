@@ -1,6 +1,6 @@
 -- `strips::walk::find` meets its contract: the edges passed do not span the band.
 -- Assumes nothing.
-use Rattle.strips.proofs.Walks.{crossed-end, crossed-flat, from-end, crossed-yes, crossed-no}
+use Rattle.strips.proofs.Walks.{crossed-end, from-end, crossed-yes, crossed-no}
 use Rattle.strips.specs.Walk.{crossed, Finds}
 use native.Mathlib.Omega.{arith}
 use borrow.Author.Needs.{needs}
@@ -9,16 +9,25 @@ use mathlib.Core.Path.{_≡_, refl, sym, _∙_}
 use Prim.Native.Nat.{_≤_, _-_}
 use Rattle.strips.proofs.walk.find.Statement.{statement}
 use Rattle.strips.proofs.walk.find.Tie as tie
+use mir.Facts.{toZ-ofZ}
+use Rattle.cell.proofs.Offsets.{on-fits}
+use Rattle.strips.specs.Rings.{edgeAt, reaches}
+use Rattle.strips.proofs.Levels.{spans-is}
+use Rattle.refusals.specs.Limits.{maxPoints}
+use Prim.Native.Nat.{_%_}
+use lib.ListN.{getD}
 
 abbrev Inv-loop : tie.InvT-loop
-Inv-loop points edges j lo hi k₀ k = (j ≤ k) × (crossed points lo hi (drop k edges) ≡ crossed points lo hi (drop j edges))
+Inv-loop points edges j lo hi low high k₀ k = (j ≤ k) × (crossed points lo hi (drop k edges) ≡ crossed points lo hi (drop j edges))
 
 abbrev μ-loop : tie.MeasureT-loop
-μ-loop points edges j lo hi k₀ k = length edges - k
+μ-loop points edges j lo hi low high k₀ k = length edges - k
 
-returns : tie.Need-returns Inv-loop μ-loop
-returns c = let a = c .before .before .args in
-    record { low = omega arith; high = omega arith; same = crossed-flat (a .points .now) (a .lo) (a .hi) (c .if1 .taken) (drop (a .j) (a .edges .now)) ∙ sym (from-end (a .points .now) (a .lo) (a .hi) (a .edges .now)) }
+ticks-requires : tie.Need-ticks-requires Inv-loop μ-loop
+ticks-requires c κs = search needs
+
+ticks-requires-2 : tie.Need-ticks-requires-2 Inv-loop μ-loop
+ticks-requires-2 c κs = search needs
 
 loop-holds : tie.Need-loop-holds Inv-loop μ-loop
 loop-holds c = search needs
@@ -32,21 +41,24 @@ shared-slice-read-i c = search needs
 rem-i : tie.Need-rem-i Inv-loop μ-loop
 rem-i c = search needs
 
-edge-at-requires : tie.Need-edge-at-requires Inv-loop μ-loop
-edge-at-requires c κs = search needs
+spans-requires : tie.Need-spans-requires Inv-loop μ-loop
+spans-requires c κs = search needs
 
-reaches-requires : tie.Need-reaches-requires Inv-loop μ-loop
-reaches-requires c κs = search needs
+-- what the edge's test says
+tested : (c : tie.After-spans Inv-loop μ-loop) → c .spans .result ≡ reaches (c .before .before .before .before .before .before .before .args .lo) (c .before .before .before .before .before .before .before .args .hi) (edgeAt (c .before .before .before .before .before .before .before .args .points .now) (getD (c .before .before .before .before .before .before .before .args .edges .now) (c .before .before .before .loop .k) 0 % maxPoints))
+tested c =
+    let a = c .before .before .before .before .before .before .before .args in
+    let h = c .before .before .before .before .before .before .before .pre in
+    c .spans .ensures ∙ rw (c .before .before .before .before .before .ticks .ensures, c .before .before .before .before .ticks2 .ensures, toZ-ofZ (on-fits (a .lo)), toZ-ofZ (on-fits (a .hi))) (spans-is (a .points .now) _ (a .lo) (a .hi) (h .0) (h .1))
 
-returns-2 : tie.Need-returns-2 Inv-loop μ-loop
-returns-2 c = let a = c .before .before .before .before .before .before .before .before .args in
-    let e = rw (c .before .reaches .ensures, c .before .before .edge-at .ensures) at (c .if2 .taken) in
+returns : tie.Need-returns Inv-loop μ-loop
+returns c = let a = c .before .before .before .before .before .before .before .before .args in
     record {
       low = omega arith;
       high = omega arith;
       same =
-          sym (c .before .before .before .before .before .loop .inv .1)
-          ∙ crossed-yes (a .points .now) (a .lo) (a .hi) (a .edges .now) (c .before .before .before .before .before .loop .k) (c .before .before .before .before .loop-test .taken) (c .before .before .before .before .before .before .if1 .left) e;
+          sym (c .before .before .before .before .loop .inv .1)
+          ∙ crossed-yes (a .points .now) (a .lo) (a .hi) (a .edges .now) (c .before .before .before .before .loop .k) (c .before .before .before .loop-test .taken) (c .before .before .before .before .before .before .before .before .pre .0) (sym (tested (c .before)) ∙ c .if1 .taken);
     }
 
 add-k : tie.Need-add-k Inv-loop μ-loop
@@ -56,15 +68,14 @@ loop-less : tie.Need-loop-less Inv-loop μ-loop
 loop-less c = search needs
 
 loop-again : tie.Need-loop-again Inv-loop μ-loop
-loop-again c = let a = c .before .before .before .before .before .before .before .before .args in
-    let e = rw (c .before .reaches .ensures, c .before .before .edge-at .ensures) at (c .if2 .left) in (
-      omega arith,
-      crossed-no (a .points .now) (a .lo) (a .hi) (a .edges .now) (c .before .before .before .before .before .loop .k) (c .before .before .before .before .loop-test .taken) (c .before .before .before .before .before .before .if1 .left) e
-          ∙ c .before .before .before .before .before .loop .inv .1,
-    )
+loop-again c = let a = c .before .before .before .before .before .before .before .before .args in (
+  omega arith,
+  crossed-no (a .points .now) (a .lo) (a .hi) (a .edges .now) (c .before .before .before .before .loop .k) (c .before .before .before .loop-test .taken) (c .before .before .before .before .before .before .before .before .pre .0) (sym (tested (c .before)) ∙ c .if1 .left)
+      ∙ c .before .before .before .before .loop .inv .1,
+)
 
-returns-3 : tie.Need-returns-3 Inv-loop μ-loop
-returns-3 c = let a = c .before .before .before .before .args in
+returns-2 : tie.Need-returns-2 Inv-loop μ-loop
+returns-2 c = let a = c .before .before .before .before .before .args in
     record {
       low = omega arith;
       high = omega arith;
@@ -79,15 +90,15 @@ find-spec =
     (tie.spec
     Inv-loop
     μ-loop
-    returns
+    ticks-requires
+    ticks-requires-2
     loop-holds
     mul-i
     shared-slice-read-i
     rem-i
-    edge-at-requires
-    reaches-requires
-    returns-2
+    spans-requires
+    returns
     add-k
     loop-less
     loop-again
-    returns-3)
+    returns-2)

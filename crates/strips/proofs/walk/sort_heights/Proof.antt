@@ -1,24 +1,29 @@
--- `strips::walk::sort_heights` meets its contract: gathered, and then put in order.
--- Assumes nothing.
-use Rattle.strips.specs.Sorted.{sorted}
-use Rattle.strips.specs.Walk.{heightsOf}
-use mathlib.Core.Path.{_≡_, ap, _∙_}
+use Rattle.strips.proofs.Walks.{length-heights}
+use lib.Seq.{length-take-le}
+use native.Mathlib.Omega.{arith}
+use lib.ListN.{length}
+use mathlib.Core.Path.{_≡_, refl, sym, ap, _∙_}
+use Prim.Native.Nat.{_≤_}
 use borrow.Author.Needs.{needs}
 use Rattle.strips.proofs.walk.sort_heights.Statement.{statement}
 use Rattle.strips.proofs.walk.sort_heights.Tie as tie
+use Rattle.strips.proofs.walk.sort_heights.Reads as reads
+use Rattle.strips.proofs.walk.sort_heights.Lts as lts
+use Rattle.strips.proofs.tally.unpack.Reads as unpack-reads
+use Rattle.strips.proofs.walk.tally_heights.Reads as tally-heights-reads
 
-gather-heights-requires : tie.Need-gather-heights-requires
-gather-heights-requires c κs = search needs
+tally-heights-requires : tie.Need-tally-heights-requires
+tally-heights-requires c κs = search needs
 
-sort-requires : tie.Need-sort-requires
-sort-requires c κs = search needs
+unpack-requires : tie.Need-unpack-requires
+unpack-requires c κs = let t = c .before .before .before .tally-heights in
+    (t .ensures .fits, ap length (t .ensures .same) ∙ length-heights (c .before .before .before .before .before .before .args .points .now) ∙ sym (t .kept .1 .0 ∙ c .before .before .before .before .before .before .pre .0))
 
 same-length : tie.Need-same-length
 same-length c = search needs
 
 returns : tie.Need-returns
-unfolding heightsOf
-returns c = c .before .before .sort .ensures ∙ ap sorted (c .before .before .before .before .before .before .gather-heights .ensures)
+returns c = c .before .before .unpack .ensures ∙ c .before .before .before .before .before .before .tally-heights .ensures .same
 
 pub sort-heights-spec : {M : Type 1} → statement M
-sort-heights-spec = tie.close (tie.spec gather-heights-requires sort-requires same-length returns)
+sort-heights-spec = tie.close (tie.spec tally-heights-requires unpack-requires same-length returns)

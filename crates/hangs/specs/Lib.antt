@@ -1,0 +1,2 @@
+-- What the rows of the hanging nodes' code hold.
+pub mod Items

@@ -1,0 +1,2 @@
+-- The leaves as rows.
+pub mod Rows

@@ -1,0 +1,49 @@
+-- `lines::node_line` meets its contract. Assumes nothing.
+use mathlib.Core.List.{[], _∷_}
+use native.Mathlib.Omega.{arith}
+use mir.Facts.{toZ-ofZ}
+use Rattle.io.proofs.Counting.{counts}
+use Rattle.lines.specs.Text.{nodeWord}
+use Rattle.lines.proofs.Joining.{lined}
+use borrow.Author.Needs.{needs}
+use Rattle.lines.proofs.node_line.Statement.{statement}
+use Rattle.lines.proofs.node_line.Tie as tie
+
+slice-aggregate-named : tie.Need-slice-aggregate-named
+slice-aggregate-named c = search needs
+
+named-requires : tie.Need-named-requires
+named-requires c κs = search needs
+
+slice-aggregate-numbers : tie.Need-slice-aggregate-numbers
+slice-aggregate-numbers c = search needs
+
+numbers-requires : tie.Need-numbers-requires
+numbers-requires c κs = search needs
+
+slice-aggregate-append : tie.Need-slice-aggregate-append
+slice-aggregate-append c = search needs
+
+append-requires : tie.Need-append-requires
+append-requires c κs = search needs
+
+returns : tie.Need-returns
+returns c =
+    let q = c .before .before .before .before in
+    let p = q .before .before .before .before .before in
+    let a = p .before .before .before .before .args in
+    let f = p .before .before .before .before .fits in
+    let e = rw (toZ-ofZ (f .layer), toZ-ofZ (f .component), toZ-ofZ (f .x), toZ-ofZ (f .y)) at (q .numbers .ensures .1) in
+    (counts _ _ (omega (arith, c .append .ensures .0)), lined nodeWord (a .number) (a .layer ∷ a .component ∷ a .x ∷ a .y ∷ []) (p .named .ensures .1) e (c .append .ensures .1))
+
+pub node-line-spec : {M : Type 1} → statement M
+node-line-spec =
+    tie.close
+    (tie.spec
+    slice-aggregate-named
+    named-requires
+    slice-aggregate-numbers
+    numbers-requires
+    slice-aggregate-append
+    append-requires
+    returns)

@@ -1,0 +1,2 @@
+-- What a line of `leafnet` says.
+pub mod Text
