@@ -18,6 +18,9 @@ use Rattle.build.specs.Says.{builtSaid}
 use Rattle.record.specs.declared.check.Read.{Read}
 use Rattle.record.specs.declared.check.Read.the-variants as R
 use Rattle.board.specs.Reading.{readSaid}
+use Rattle.network.specs.declared.Netted.{Netted}
+use Rattle.network.specs.declared.Netted.the-variants as N
+use Rattle.network.specs.Says.{nettedSaid}
 use Rattle.writing.specs.declared.Written.{Written}
 use Rattle.writing.specs.declared.Written.the-variants as W
 use Rattle.writing.specs.Written.{writeSaid}
@@ -64,3 +67,13 @@ one-written = settled writeSaid (answer (λ vs. W.Done (getD vs 0 0)) W.Refused)
     back : (r : Written) → answer (λ vs. W.Done (getD vs 0 0)) W.Refused (writeSaid r) ≡ r
     back (W.Done n) = refl
     back (W.Refused x) = answer-refused (λ vs. W.Done (getD vs 0 0)) W.Refused x
+
+abbrev netted : List ℕ → Netted
+netted vs = N.Done (record { nodes = getD vs 0 0; edges = getD vs 1 0; cells = getD vs 2 0 })
+
+pub one-netted : (what : Said) (r q : Netted) → nettedSaid r ≡ what → nettedSaid q ≡ what → r ≡ q
+one-netted = settled nettedSaid (answer netted N.Refused) back
+  where
+    back : (r : Netted) → answer netted N.Refused (nettedSaid r) ≡ r
+    back (N.Done c) = refl
+    back (N.Refused x) = answer-refused netted N.Refused x
