@@ -3,7 +3,7 @@
 set -eu
 cd "$(dirname "$0")"
 root=../..
-(cd "$root" && rt staticlib leafmesh)
+(cd "$root" && rt staticlib leafmesh >/dev/null)
 folder=$(mktemp -d)
 trap 'rm -rf "$folder"' EXIT
 cc -std=c11 -Wall -Wextra -Werror -I "$root/include" outline_to_net.c "$root/target/staticlib/libleafmesh.a" -o "$folder/outline_to_net"
