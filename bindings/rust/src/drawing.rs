@@ -1,7 +1,7 @@
 //! What leafnet prints, as a picture: leaves by level, edges, nodes, and nodes at the middle of a leaf's edge marked. With potentials the
-//! cells are coloured by power instead.
+//! cells are coloured by their power over their area instead.
 
-use crate::{power, Board, Net, Refusal};
+use crate::{power, Board, Net, Refusal, TICK};
 use std::collections::BTreeMap;
 use std::fmt::{self, Write};
 
@@ -188,8 +188,22 @@ impl Scale {
     }
 }
 
-/// The picture. `powers` are those of the leaves, in order.
+/// Watts over square millimetres of each leaf, from its power.
+pub fn densities(printed: &Printed, powers: &[f64]) -> Vec<f64> {
+    let millimetres = |ticks: i64| ticks as f64 * TICK * 1e3;
+    let area = |[x0, y0, x1, y1]: [i64; 4]| millimetres(x1 - x0) * millimetres(y1 - y0);
+    printed
+        .leaves
+        .iter()
+        .zip(powers)
+        .map(|(leaf, watts)| watts / area(leaf.rect))
+        .collect()
+}
+
+/// The picture. `powers` are those of the leaves, in order; a cell is coloured by its power over its area.
 pub fn svg(printed: &Printed, board: Option<&Board>, powers: Option<&[f64]>) -> String {
+    let densities = powers.map(|all| densities(printed, all));
+    let powers = densities.as_deref();
     let mut text = String::new();
     put(printed, board, powers, &mut text).expect("a string takes all text");
     text
@@ -316,7 +330,7 @@ fn put_legend(
         Some(all) => {
             let most = all.iter().copied().fold(0.0, f64::max);
             entry(&heat(0.0, 1.0), "no power", text)?;
-            entry(&heat(1.0, 1.0), &format!("{most:.3e} W"), text)?;
+            entry(&heat(1.0, 1.0), &format!("{most:.2e} W/mm2"), text)?;
         }
         None => {
             let deepest = printed
