@@ -1,32 +1,31 @@
 -- A board that build accepts to cut is one that the steps can take. Assumes nothing.
-use Prim.Native.Nat.{ℕ, zero, suc, _+_, _-_, _*_, _/_, _%_, _^_, _<_, _≤_}
+use Prim.Native.Nat.{ℕ, zero, suc, _+_, _-_, _*_, _%_, _^_, _<_, _≤_}
 use mathlib.Core.Path.{_≡_, refl, sym, ap, _∙_}
-use mathlib.Core.Bool.{Bool, true, false, cond, _&&_}
+use mathlib.Core.Bool.{true, _&&_}
 use mathlib.Core.List.{List, [], _∷_, _++_}
 use mathlib.Core.Logic.{⊎-elim}
 use native.Mathlib.Omega.{arith}
-use native.Mathlib.Numerals.{add-one}
 use lib.Dec.{eqb, ltb, leb}
 use lib.IntN.{ℤ, pos}
 use lib.Ieee.{Float, nan}
 use lib.ListN.{length, getD, take, drop, replicate}
-use lib.Seq.{take-at}
-use borrow.Author.Tests.{eqb-true, eqb-false, leb-true}
+use lib.Seq.{take-at, take-all}
+use borrow.Author.Tests.{eqb-true, leb-true}
 use Rattle.cell.proofs.Offsets.{below?}
 use Rattle.cell.proofs.Contact.{and-left, and-right}
-use Rattle.refusals.specs.Limits.{maxLevel, maxCap, maxCell, maxLayers, maxPoints, maxPolygons, maxSlots}
+use Rattle.refusals.specs.Limits.{maxLevel, maxCap, maxCell, maxLayers, maxPoints, maxPolygons}
 use Rattle.refusals.specs.Said.{Said, accepted, refused, refusal}
 use Rattle.refusals.specs.declared.Refusal.{Refusal}
 use Rattle.refusals.specs.declared.Refusal.the-variants.{WrongVersion, WrongLength, OutOfRange, Slanted, UnevenCell, NoRoom, BadTable, NoSuchCell, AlreadySplit, FinestLevel}
 use Rattle.strips.specs.Said.{ifAccepted}
 use Rattle.strips.specs.Rings.{ringInRange, ringSlants}
+use Rattle.strips.specs.Strips.{stripsOf}
 use Rattle.strips.proofs.Picking.{split}
 use Rattle.strips.proofs.Laying.{few-points}
-use Rattle.build.specs.declared.Settings.{Settings}
-use Rattle.build.specs.Grid.{allEven, listedAt, flat}
-use Rattle.build.specs.Board.{Board, sumTo, ringAt, polygons, unit, sizeAt, stripsAt, rootsOf}
-use Rattle.build.specs.Says.{roomShaped, rowsShaped, layerIn, entryOk, entriesOk, listOk, numbersOk, settingsOk, sheetOk, judgeFrom, evenFrom, filled}
-use Rattle.build.specs.Steps.{Fit, Tabled, placed}
+use Rattle.build.specs.Grid.{Root, allEven, listedAt, flat, rootsIn}
+use Rattle.build.specs.Board.{Board, sumTo, ringAt, polygons, unit, sizeAt, stripsAt, rootsTo, rootsOf}
+use Rattle.build.specs.Says.{roomShaped, rowsShaped, layerIn, entryOk, entriesOk, listOk, numbersOk, settingsOk, sheetOk, judgeFrom, evenFrom, roomFor, filled}
+use Rattle.build.specs.Steps.{Fit, Tabled, placed, aloneSays, aloneLeaves}
 use Rattle.build.proofs.Placing.{length-flat}
 
 -- every entry of a list that is in order has a cell in range
@@ -118,12 +117,36 @@ pub tabled : (t : List ℤ) → roomShaped (length t) ≡ true → Tabled t
 tabled t e = record { whole = eqb-true _ _ (and-left _ _ e); few = leb-true _ _ (and-right (eqb (length t % 8) 0) _ e) }
 
 -- the roots placed and the rest cleared
-pub cleared : (t u : List ℤ) (b : Board) (k : ℕ) → k ≡ length (rootsOf b) → u ≡ placed t 0 (rootsOf b) → length u ≡ length t → take (k * 8) u ++ replicate (length u - k * 8) (pos 0) ≡ filled b (length t)
-unfolding placed filled
-cleared t u b k e f n =
-    let h : length (flat (rootsOf b)) ≡ k * 8 = length-flat (rootsOf b) ∙ ap (λ (x : ℕ). x * 8) (sym e) in
-    let g : take (k * 8) u ≡ flat (rootsOf b) = ap (take (k * 8)) f ∙ take-at (flat (rootsOf b)) (drop ((0 + length (rootsOf b)) * 8) t) (k * 8) h in
+pub roots-cleared : (t u : List ℤ) (rs : List Root) (k : ℕ) → k ≡ length rs → u ≡ placed t 0 rs → length u ≡ length t → take (k * 8) u ++ replicate (length u - k * 8) (pos 0) ≡ flat rs ++ replicate (length t - length rs * 8) (pos 0)
+unfolding placed
+roots-cleared t u rs k e f n =
+    let h : length (flat rs) ≡ k * 8 = length-flat rs ∙ ap (λ (x : ℕ). x * 8) (sym e) in
+    let g : take (k * 8) u ≡ flat rs = ap (take (k * 8)) f ∙ take-at (flat rs) (drop ((0 + length rs) * 8) t) (k * 8) h in
     rw (g, n, e) refl
+
+pub cleared : (t u : List ℤ) (b : Board) (k : ℕ) → k ≡ length (rootsOf b) → u ≡ placed t 0 (rootsOf b) → length u ≡ length t → take (k * 8) u ++ replicate (length u - k * 8) (pos 0) ≡ filled b (length t)
+unfolding filled
+cleared t u b k e f n = roots-cleared t u (rootsOf b) k e f n
+
+-- a board of one polygon
+module _ (b : Board) (f : Fit b) (one : length (b .counts) ≡ 1) where
+  pub ring-alone : ringAt (b .counts) (b .points) 0 ≡ b .points
+  unfolding ringAt sumTo
+  ring-alone =
+      let s = rw one at (f .sums) in
+      take-all (getD (b .counts) 0 0) (b .points) (omega arith)
+
+  pub roots-alone : rootsOf b ≡ rootsIn 0 (b .settings .cap) (sizeAt b 0) (stripsOf (b .points))
+  unfolding rootsTo
+  roots-alone = rw (one, ring-alone) refl
+
+  pub says-alone : (slots : ℕ) → evenFrom b 0 (polygons b) (roomFor slots (length (rootsOf b))) ≡ aloneSays (unit b) (b .settings .cap) (sizeAt b 0) (stripsOf (b .points)) slots
+  unfolding evenFrom
+  says-alone slots = rw (roots-alone, one, ring-alone) refl
+
+  pub leaves-alone : (size : ℕ) → filled b size ≡ aloneLeaves (b .settings .cap) (sizeAt b 0) (stripsOf (b .points)) size
+  unfolding filled
+  leaves-alone size = rw roots-alone refl
 
 -- from the tests to what the steps ask
 module _ (b : Board) (components : List ℕ) (sheets : List Float) (size : ℕ) (shape : rowsShaped (b .layers) components sheets (b .counts) (b .points) size ≡ true) where

@@ -1,11 +1,11 @@
 -- What the steps of the code promise one another. Internal.
-use Prim.Native.Nat.{ℕ, _+_, _*_, _/_, _%_, _^_, _<_, _≤_, min}
+use Prim.Native.Nat.{ℕ, _+_, _-_, _*_, _/_, _%_, _^_, _<_, _≤_, min}
 use mathlib.Core.Path.{_≡_}
 use mathlib.Core.Bool.{Bool, true, false, cond}
 use mathlib.Core.List.{List, [], _∷_, _++_}
 use lib.Dec.{ltb}
-use lib.IntN.{ℤ}
-use lib.ListN.{length, take, drop}
+use lib.IntN.{ℤ, pos}
+use lib.ListN.{length, take, drop, replicate}
 use Rattle.refusals.specs.Limits.{maxLevel, maxCap, maxCell, maxPoints, maxPolygons, maxSlots}
 use Rattle.strips.specs.declared.walk.Strip.{Strip}
 use Rattle.build.specs.declared.grid.Cut.{Cut}
@@ -14,7 +14,7 @@ use Rattle.build.specs.declared.survey.Tally.the-variants as Tallies
 use Rattle.build.specs.declared.polygons.Survey.{Survey}
 use Rattle.build.specs.declared.polygons.Survey.the-variants.{Roots, Uneven}
 use Rattle.build.specs.Board.{Board, sumTo, ringAt, polygons, rootsOf}
-use Rattle.build.specs.Says.{evenFrom}
+use Rattle.build.specs.Says.{evenFrom, roomFor}
 use Rattle.refusals.specs.Said.{Said, refused}
 use Rattle.build.specs.Grid.{Root, flat, allEven, rootsIn, listedAt}
 
@@ -90,3 +90,10 @@ Surveyed b slots (Uneven p) = (o : Said) → evenFrom b 0 (polygons b) o ≡ ref
 pub record Tabled (t : List ℤ) : Type 0 where
   pub whole : length t % 8 ≡ 0
   pub few : length t / 8 ≤ maxSlots
+
+-- what is said of a board of one polygon with these strips, and what it leaves
+abbrev pub aloneSays : ℕ → ℕ → ℕ → List Strip → ℕ → Said
+aloneSays u cap c ss slots = cond (allEven u cap c ss) (roomFor slots (length (rootsIn 0 cap c ss))) (refused 5 0)
+
+abbrev pub aloneLeaves : ℕ → ℕ → List Strip → ℕ → List ℤ
+aloneLeaves cap c ss size = flat (rootsIn 0 cap c ss) ++ replicate (size - length (rootsIn 0 cap c ss) * 8) (pos 0)

@@ -9,6 +9,7 @@ ghost use Rattle.build.specs.Steps.{Fit, Putting, Tabled};
 use refusals::Refusal;
 use refusals::limits::RING_POINTS;
 
+pub mod alone;
 pub mod grid;
 pub mod judge;
 pub mod polygons;
@@ -48,7 +49,7 @@ fn rows_fit(
 }
 
 // The roots of a board that has been judged: 5 and 6, and then the writing, by way of two work rows. Internal.
-fn cut(
+fn cut_many(
     s: Settings,
     list: &[[u64; 2]],
     layers: &[u16],
@@ -75,6 +76,29 @@ fn cut(
             Built::Done(k)
         }
     }
+}
+
+// The same, by a shorter way for a board of one polygon.
+fn cut(
+    s: Settings,
+    list: &[[u64; 2]],
+    layers: &[u16],
+    counts: &[u64],
+    points: &[[i64; 2]],
+    heights: &mut [u64],
+    edges: &mut [u64],
+    table: &mut [i64],
+) -> Built
+    requires { ⌜ Fit (board s (now list) (now layers) (now counts) (now points)) × (Putting (length (now heights)) (length (now edges)) × Tabled (now table)) ⌝ }
+    ensures { λ r. ⌜ builtSaid r ≡ evenFrom (board s (now (list .entry)) (now (layers .entry)) (now (counts .entry)) (now (points .entry))) 0 (length (now (counts .entry))) (roomFor (length (now (table .entry)) / 8) (length (rootsOf (board s (now (list .entry)) (now (layers .entry)) (now (counts .entry)) (now (points .entry)))))) ⌝ }
+    ensures { λ r. ⌜ now (table .exit) ≡ ifAccepted (builtSaid r) (filled (board s (now (list .entry)) (now (layers .entry)) (now (counts .entry)) (now (points .entry))) (length (now (table .entry)))) (now (table .entry)) ⌝ }
+{
+    if counts.len() == 1 {
+        let unit = grid::unit_of(s.max_level);
+        let c = grid::size_of(list, layers[0] as u64, s.target);
+        return alone::cut_alone(points, heights, edges, c, s.cap, unit, table);
+    }
+    cut_many(s, list, layers, counts, points, heights, edges, table)
 }
 
 // The level-0 table of a board: the roots of every polygon, in order, and zeros behind them.

@@ -99,7 +99,7 @@ fn put_grid(t: &mut [i64], k: usize, s: Strip, g: Cut, poly: u64) -> usize
 }
 
 // A ring's roots, strip by strip. Answers the next slot.
-fn put_strips(
+pub fn put_strips(
     points: &[[i64; 2]],
     heights: &[u64],
     edges: &[u64],

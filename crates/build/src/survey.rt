@@ -28,7 +28,7 @@ fn more(sum: u64, slots: u64, g: Cut) -> u64
 }
 
 // The roots of a ring on top of a count.
-fn tally_strips(
+pub fn tally_strips(
     points: &[[i64; 2]],
     heights: &[u64],
     edges: &[u64],

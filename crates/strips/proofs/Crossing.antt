@@ -1,22 +1,21 @@
 -- The strips of document 01 are those that the code's walk meets: edges that are in order by x, passed by a band's test, give the band's
 -- crossings in order; and the bands between distinct heights are those between neighbours that differ. Assumes nothing.
-use Prim.Native.Nat.{ℕ, zero, suc, _+_, _*_, _/_, _%_, _<_, _≤_}
+use Prim.Native.Nat.{ℕ, zero, suc, _/_, _%_, _<_, _≤_}
 use mathlib.Core.Path.{_≡_, refl, sym, ap, _∙_}
-use mathlib.Core.Bool.{Bool, true, false, cond, _&&_}
-use mathlib.Core.List.{List, [], _∷_, _++_, map}
+use mathlib.Core.Bool.{Bool, cond, _&&_}
+use mathlib.Core.List.{List, [], _∷_, map}
 use mathlib.Core.Logic.{⊎-elim}
 use native.Mathlib.Omega.{arith}
 use lib.IntN.{ℤ}
-use lib.Dec.{ltb, eqb}
+use lib.Dec.{eqb}
 use lib.ListN.{length}
-use borrow.Author.Tests.{lt-ltb, le-ltb, eqb-true, eqb-false, eq-eqb}
+use borrow.Author.Tests.{lt-ltb, eqb-true, eqb-false}
 use Rattle.cell.proofs.Offsets.{below?}
 use Rattle.refusals.specs.Limits.{maxPoints}
 use Rattle.strips.specs.Sorted.{upTo, picked, insert, sorted, distinct}
-use Rattle.strips.specs.Rings.{xAt, yAt, edgeAt, vertical, reaches}
+use Rattle.strips.specs.Rings.{yAt}
 use Rattle.strips.specs.Strips.{levels, crossings, pairUp, banded, stripsOf}
 use Rattle.strips.specs.Walk.{heightsOf, verticalAt, keyOf, unsortedEdges, edgesOf, spans, crossed, walked, allOf, Ready}
-use Rattle.strips.specs.declared.walk.Strip.{Strip}
 use Rattle.strips.proofs.Picking.{split, picked-yes, picked-no, picked-none, picked-append}
 use Rattle.strips.proofs.Walks.{crossed-flat}
 use Rattle.strips.proofs.Orders.{insert-stop, insert-go, insert-none}

@@ -1,23 +1,19 @@
 -- Strips written one after another from the front of a row. Assumes nothing.
-use Prim.Native.Nat.{ℕ, zero, suc, _+_, _<_, _≤_}
+use Prim.Native.Nat.{ℕ, suc, _+_, _<_, _≤_}
 use mathlib.Core.Path.{_≡_, refl, sym, ap, _∙_}
-use mathlib.Core.List.{List, [], _∷_, _++_, map, append-assoc}
+use mathlib.Core.List.{List, [], _∷_, _++_, append-assoc}
 use native.Mathlib.Omega.{arith}
 use native.Mathlib.Numerals.{add-one}
 use lib.IntN.{ℤ}
-use lib.ListN.{length, take, drop, set, take-append-drop}
+use lib.ListN.{length, drop, set, length-set, take-append-drop}
 use lib.Seq.{take-suc-set, drop-set-lt, drop-drop}
 use mathlib.Core.Bool.{true}
 use borrow.Author.Tests.{leb-true}
 use Rattle.cell.proofs.Contact.{and-left}
 use Rattle.refusals.specs.Limits.{maxPoints}
 use Rattle.strips.specs.Rings.{ringInRange, pointInRange, allBelow}
-use Rattle.strips.specs.Said.{laid, stripRow}
+use Rattle.strips.specs.Said.{laid, stripRow, laying}
 use Rattle.strips.specs.declared.walk.Strip.{Strip}
-
--- the row below k, and the strips from k on
-abbrev pub laying : List (List ℤ) → ℕ → List Strip → List (List ℤ)
-laying out k ss = take k out ++ laid ss (drop k out)
 
 pub laid-one : (out : List (List ℤ)) (k : ℕ) (s : Strip) (ss : List Strip) → k < length out → laying (set out k (stripRow s)) (k + 1) ss ≡ laying out k (s ∷ ss)
 unfolding laid
@@ -29,6 +25,14 @@ laid-one out k s ss h =
 pub laid-none : (out : List (List ℤ)) (k : ℕ) → laying out k [] ≡ out
 unfolding laid
 laid-none out k = take-append-drop k out
+
+pub laid-more : (out : List (List ℤ)) (k : ℕ) (ss ts : List Strip) → k + length ss ≤ length out → laying (laying out k ss) (k + length ss) ts ≡ laying out k (ss ++ ts)
+laid-more out k [] ts h = let e : k + 0 ≡ k = omega arith in rw (e, laid-none out k) refl
+laid-more out k (s ∷ ss) ts h =
+    let e : k + suc (length ss) ≡ k + 1 + length ss = omega arith in
+    let n : k + 1 + length ss ≤ length (set out k (stripRow s)) = simp length-set (omega arith) in
+    let i = laid-more (set out k (stripRow s)) (k + 1) ss ts n in
+    rw (← laid-one out k s ss (omega arith), e) i ∙ laid-one out k s (ss ++ ts) (omega arith)
 
 -- a ring that was judged has no more points than the limit
 pub few-points : (ps : List (List ℤ)) → ringInRange ps ≡ true → length ps ≤ maxPoints

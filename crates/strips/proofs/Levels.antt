@@ -1,23 +1,24 @@
 -- Heights as they are lent and as a cell holds them: the same edges span a band. Assumes nothing.
 use Prim.Native.Nat.{ℕ, zero, suc, _+_, _-_, _/_, _%_, min, _<_, _≤_}
-use mathlib.Core.Path.{_≡_, refl, sym, ap, ap₂, _∙_}
+use mathlib.Core.Path.{_≡_, refl, sym, ap₂, _∙_}
 use mathlib.Core.Bool.{Bool, true, false, not, _&&_, _||_}
 use mathlib.Core.List.{List, [], _∷_}
 use mathlib.Core.Logic.{_⊎_, inl, inr, ⊎-elim}
 use native.Mathlib.Omega.{arith}
-use lib.IntN.{ℤ, pos, negsuc, subℕ, _-ℤ_}
-use lib.Signed.{leZ, ltZ}
+use lib.IntN.{ℤ, pos, negsuc, subℕ}
+use lib.Signed.{leZ}
 use lib.Dec.{leb, ltb, eqb}
 use borrow.Author.Tests.{lt-ltb, le-ltb, le-leb, lt-leb, ltb-true, ltb-false, leb-true, leb-false, eq-eqb, ne-eqb}
 use Rattle.refusals.specs.Limits.{coordinate, maxPoints}
 use Rattle.cell.specs.Ticks.{off, on, inRange}
 use Rattle.cell.proofs.Offsets.{below?, on-is, off-le}
-use Rattle.strips.specs.Rings.{xAt, yAt, after, edgeAt, reaches, slants, slantsAt, allBelow, pointInRange, ringInRange}
+use Rattle.strips.specs.Rings.{after, edgeAt, reaches, slants, slantsAt, allBelow, pointInRange, ringInRange}
 use Rattle.strips.specs.Levels.{levelAt, crosses, apart}
-use Rattle.strips.specs.Walk.{spans, crossed}
+use Rattle.strips.specs.Walk.{spans, crossed, left}
 use Rattle.cell.proofs.Contact.{and-left, and-right}
-use lib.ListN.{length, getD}
+use lib.ListN.{length, drop, getD}
 use Rattle.strips.proofs.Picking.{split, picked-no, picked-none}
+use Rattle.strips.proofs.Walks.{crossed-flat, left-flat}
 
 sub-low : (a b : ℕ) → b ≤ a → subℕ a b ≡ pos (a - b)
 sub-low a b h = simp (le-ltb a b h)
@@ -107,6 +108,12 @@ band-no lo hi e =
     split (ltb lo hi)
     (λ t. inr (leb-false hi (coordinate + coordinate) (rw t at e)))
     (λ t. inl (ltb-false lo hi t))
+
+-- a band of no height, or out of range
+pub left-none : (ps : List (List ℤ)) (es hs : List ℕ) (j k : ℕ) → k + 1 < length hs → (ltb (getD hs k 0) (getD hs (k + 1) 0) && leb (getD hs (k + 1) 0) (coordinate + coordinate)) ≡ false → left ps es j (drop k hs) ≡ left ps es 0 (drop (k + 1) hs)
+left-none ps es hs j k h e =
+    left-flat ps es hs j k h
+    (⊎-elim (λ w. crossed-flat ps (getD hs k 0) (getD hs (k + 1) 0) w) (λ w. crossed-high ps (getD hs k 0) (getD hs (k + 1) 0) w) (band-no (getD hs k 0) (getD hs (k + 1) 0) e))
 
 -- numbers in range differ as their offset ones do
 differs : (a b x y : ℕ) → (a ≡ b → x ≡ y) → (x ≡ y → a ≡ b) → (ltb a b || ltb b a) ≡ not (eqb x y)

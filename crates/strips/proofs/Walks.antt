@@ -1,7 +1,7 @@
 -- The walk over a ring's bands: what each step of the code leaves to come. Assumes nothing.
-use Prim.Native.Nat.{ℕ, zero, suc, _+_, _-_, _*_, _/_, _%_, _<_, _≤_}
+use Prim.Native.Nat.{ℕ, suc, _+_, _-_, _*_, _/_, _%_, _<_, _≤_}
 use mathlib.Core.Path.{_≡_, refl, sym, ap, _∙_}
-use mathlib.Core.Bool.{Bool, true, false, cond, _&&_}
+use mathlib.Core.Bool.{true, false}
 use mathlib.Core.List.{List, [], _∷_, _++_, map}
 use mathlib.Core.Logic.{⊎-elim}
 use native.Mathlib.Omega.{arith}
@@ -16,8 +16,7 @@ use Rattle.cell.proofs.Offsets.{below?}
 use Rattle.refusals.specs.Limits.{maxPoints}
 use Rattle.strips.specs.Rings.{yAt, edgeAt, reaches}
 use Rattle.strips.specs.Strips.{pairUp}
-use Rattle.strips.specs.Walk.{spans, crossed, from, walked, left, allOf, startBand, Finds, verticalAt, keyOf, unsortedEdges, heightsOf, Gathered}
-use Rattle.strips.specs.declared.walk.Strip.{Strip}
+use Rattle.strips.specs.Walk.{spans, crossed, inBand, from, walked, left, allOf, startBand, Finds, verticalAt, keyOf, unsortedEdges, heightsOf, Gathered}
 use Rattle.strips.specs.Sorted.{upTo, sorted}
 use Rattle.strips.proofs.Orders.{length-sorted}
 use Rattle.strips.proofs.Picking.{split, picked-yes, picked-no, picked-none, more-yes, more-no, length-upTo}
@@ -57,6 +56,31 @@ module _ (ps : List (List ℤ)) (lo hi : ℕ) where
         rw (add-one k, drop-cons es k 0 h)
         (sym (picked-no (spans ps lo hi) (λ e. e / maxPoints) (getD es k 0) (drop (suc k) es) (rw (lt-ltb lo hi band) e)))
 
+  -- a pair of crossings at the edges a and b
+  module _ (es : List ℕ) (j a b : ℕ) (f : Finds ps lo hi es j a) (g : Finds ps lo hi es (a + 1) b) where
+    paired : b < length es → crossed ps lo hi (drop j es) ≡ getD es a 0 / maxPoints ∷ getD es b 0 / maxPoints ∷ crossed ps lo hi (drop (b + 1) es)
+    paired l =
+        let m : a < length es = omega (arith, g .low) in
+        f .same ∙ from-at es a m ∙ ap (λ (r : List ℕ). getD es a 0 / maxPoints ∷ r) (g .same ∙ from-at es b l)
+
+    pub band-strip : b < length es → getD es a 0 / maxPoints < getD es b 0 / maxPoints → inBand ps lo hi (drop j es) ≡ record { x0 = getD es a 0 / maxPoints; y0 = lo; x1 = getD es b 0 / maxPoints; y1 = hi } ∷ inBand ps lo hi (drop (b + 1) es)
+    unfolding pairUp
+    band-strip l w = rw (paired l, lt-ltb _ _ w) refl
+
+    pub band-thin : b < length es → getD es b 0 / maxPoints ≤ getD es a 0 / maxPoints → inBand ps lo hi (drop j es) ≡ inBand ps lo hi (drop (b + 1) es)
+    unfolding pairUp
+    band-thin l w = rw (paired l, le-ltb _ _ w) refl
+
+    pub band-over : length es ≤ b → inBand ps lo hi (drop j es) ≡ []
+    unfolding pairUp
+    band-over l =
+        let e : b ≡ length es = omega (arith, g .high) in
+        let r : crossed ps lo hi (drop (a + 1) es) ≡ [] = g .same ∙ rw e (from-end es) in
+        ⊎-elim
+        (λ (w : a < length es). rw (f .same ∙ from-at es a w, r) refl)
+        (λ (w : length es ≤ a). let q : a ≡ length es = omega (arith, f .high) in rw (f .same, q, from-end es) refl)
+        (below? a (length es))
+
 module _ (ps : List (List ℤ)) (es : List ℕ) where
   pub left-zero : (hs : List ℕ) → left ps es 0 hs ≡ walked ps es hs
   unfolding left walked
@@ -80,6 +104,9 @@ module _ (ps : List (List ℤ)) (es : List ℕ) where
       (λ e. rw e (left-end hs 0 (length hs) (omega arith)))
       (λ e. rw e (left-zero hs))
 
+  pub none-left : (hs : List ℕ) → length hs ≤ 1 → allOf ps hs es ≡ []
+  none-left hs h = sym (started hs) ∙ left-end hs 0 (startBand ps hs) (omega arith)
+
   left-at : (hs : List ℕ) (j k : ℕ) → k + 1 < length hs → left ps es j (drop k hs) ≡ pairUp (getD hs k 0) (getD hs (k + 1) 0) (crossed ps (getD hs k 0) (getD hs (k + 1) 0) (drop j es)) ++ walked ps es (drop (k + 1) hs)
   unfolding left
   left-at hs j k h =
@@ -92,44 +119,20 @@ module _ (ps : List (List ℤ)) (es : List ℕ) where
   unfolding pairUp
   left-flat hs j k h f = left-at hs j k h ∙ rw (f (drop j es), left-zero (drop (k + 1) hs)) refl
 
-  -- a pair of crossings at the edges a and b of the band k
-  module _ (hs : List ℕ) (j k a b : ℕ) (h : k + 1 < length hs) where
-    abbrev one : List Strip → List Strip
-    one ss =
-        cond (ltb (getD es a 0 / maxPoints) (getD es b 0 / maxPoints))
-        (record { x0 = getD es a 0 / maxPoints; y0 = getD hs k 0; x1 = getD es b 0 / maxPoints; y1 = getD hs (k + 1) 0 } ∷ ss) ss
+  -- a band and those above it
+  pub left-band : (hs : List ℕ) (k : ℕ) → k + 1 < length hs → left ps es 0 (drop k hs) ≡ inBand ps (getD hs k 0) (getD hs (k + 1) 0) es ++ left ps es 0 (drop (k + 1) hs)
+  left-band hs k h = left-at hs 0 k h ∙ rw (left-zero (drop (k + 1) hs)) refl
 
-    module _ (f : Finds ps (getD hs k 0) (getD hs (k + 1) 0) es j a) (g : Finds ps (getD hs k 0) (getD hs (k + 1) 0) es (a + 1) b) where
-      paired : b < length es → crossed ps (getD hs k 0) (getD hs (k + 1) 0) (drop j es) ≡ getD es a 0 / maxPoints ∷ getD es b 0 / maxPoints ∷ crossed ps (getD hs k 0) (getD hs (k + 1) 0) (drop (b + 1) es)
-      paired l =
-          let m : a < length es = omega (arith, g .low) in
-          f .same ∙ from-at ps _ _ es a m ∙ ap (λ (r : List ℕ). getD es a 0 / maxPoints ∷ r) (g .same ∙ from-at ps _ _ es b l)
+  -- the same of the band k, and of those above it
+  module _ (hs : List ℕ) (j k a b : ℕ) (h : k + 1 < length hs) (f : Finds ps (getD hs k 0) (getD hs (k + 1) 0) es j a) (g : Finds ps (getD hs k 0) (getD hs (k + 1) 0) es (a + 1) b) where
+    pub left-strip : b < length es → getD es a 0 / maxPoints < getD es b 0 / maxPoints → left ps es j (drop k hs) ≡ record { x0 = getD es a 0 / maxPoints; y0 = getD hs k 0; x1 = getD es b 0 / maxPoints; y1 = getD hs (k + 1) 0 } ∷ left ps es (b + 1) (drop k hs)
+    left-strip l w = rw (left-at hs j k h, left-at hs (b + 1) k h, band-strip ps _ _ es j a b f g l w) refl
 
-      left-pair : b < length es → left ps es j (drop k hs) ≡ one (left ps es (b + 1) (drop k hs))
-      unfolding pairUp
-      left-pair l =
-          split (ltb (getD es a 0 / maxPoints) (getD es b 0 / maxPoints))
-          (λ e. rw (left-at hs j k h, left-at hs (b + 1) k h, paired l, e) refl)
-          (λ e. rw (left-at hs j k h, left-at hs (b + 1) k h, paired l, e) refl)
+    pub left-thin : b < length es → getD es b 0 / maxPoints ≤ getD es a 0 / maxPoints → left ps es j (drop k hs) ≡ left ps es (b + 1) (drop k hs)
+    left-thin l w = rw (left-at hs j k h, left-at hs (b + 1) k h, band-thin ps _ _ es j a b f g l w) refl
 
-      pub left-strip : b < length es → getD es a 0 / maxPoints < getD es b 0 / maxPoints → left ps es j (drop k hs) ≡ record { x0 = getD es a 0 / maxPoints; y0 = getD hs k 0; x1 = getD es b 0 / maxPoints; y1 = getD hs (k + 1) 0 } ∷ left ps es (b + 1) (drop k hs)
-      left-strip l w = left-pair l ∙ rw (lt-ltb _ _ w) refl
-
-      pub left-thin : b < length es → getD es b 0 / maxPoints ≤ getD es a 0 / maxPoints → left ps es j (drop k hs) ≡ left ps es (b + 1) (drop k hs)
-      left-thin l w = left-pair l ∙ rw (le-ltb _ _ w) refl
-
-      alone : length es ≤ b → pairUp (getD hs k 0) (getD hs (k + 1) 0) (crossed ps (getD hs k 0) (getD hs (k + 1) 0) (drop j es)) ≡ []
-      unfolding pairUp
-      alone l =
-          let e : b ≡ length es = omega (arith, g .high) in
-          let r : crossed ps (getD hs k 0) (getD hs (k + 1) 0) (drop (a + 1) es) ≡ [] = g .same ∙ rw e (from-end ps _ _ es) in
-          ⊎-elim
-          (λ (w : a < length es). rw (f .same ∙ from-at ps _ _ es a w, r) refl)
-          (λ (w : length es ≤ a). let q : a ≡ length es = omega (arith, f .high) in rw (f .same, q, from-end ps _ _ es) refl)
-          (below? a (length es))
-
-      pub left-on : length es ≤ b → left ps es j (drop k hs) ≡ left ps es 0 (drop (k + 1) hs)
-      left-on l = left-at hs j k h ∙ rw (alone l, left-zero (drop (k + 1) hs)) refl
+    pub left-on : length es ≤ b → left ps es j (drop k hs) ≡ left ps es 0 (drop (k + 1) hs)
+    left-on l = left-at hs j k h ∙ rw (band-over ps _ _ es j a b f g l, left-zero (drop (k + 1) hs)) refl
 
 -- the walk ends: it goes to a later edge, or to the next band
 pub band-falls : (last k n j : ℕ) → k < last → (last - (k + 1)) * (n + 1) + (n - 0) < (last - k) * (n + 1) + (n - j)

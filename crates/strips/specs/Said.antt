@@ -2,7 +2,7 @@
 use Prim.Native.Nat.{ℕ}
 use mathlib.Core.Bool.{Bool, true, false, cond}
 use mathlib.Core.List.{List, [], _∷_, _++_, map}
-use lib.ListN.{length, drop}
+use lib.ListN.{length, take, drop}
 use lib.IntN.{ℤ}
 use lib.Dec.{ltb}
 use Rattle.refusals.specs.Said.{Said, accepted, refused, refusal}
@@ -41,6 +41,10 @@ ifAccepted (refused n place) new old = old
 -- strips at the front of a row, and behind them what the row held
 unfoldable pub laid : List Strip → List (List ℤ) → List (List ℤ)
 laid ss row = map stripRow ss ++ drop (length ss) row
+
+-- the row below k, and the strips from k on
+abbrev pub laying : List (List ℤ) → ℕ → List Strip → List (List ℤ)
+laying out k ss = take k out ++ laid ss (drop k out)
 
 unfoldable pub stripsLeave : List (List ℤ) → List (List ℤ) → List (List ℤ)
 stripsLeave ps row = ifAccepted (stripsSays ps (length row)) (laid (stripsOf ps) row) row

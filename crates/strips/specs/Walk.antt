@@ -50,6 +50,10 @@ spans ps lo hi e = ltb lo hi && reaches lo hi (edgeAt ps (e % maxPoints))
 unfoldable pub crossed : List (List ℤ) → ℕ → ℕ → List ℕ → List ℕ
 crossed ps lo hi es = picked (spans ps lo hi) (λ e. e / maxPoints) es
 
+-- the strips of one band
+abbrev pub inBand : List (List ℤ) → ℕ → ℕ → List ℕ → List Strip
+inBand ps lo hi es = pairUp lo hi (crossed ps lo hi es)
+
 -- the crossings from the edge at j on, where `find` answers j: none at the end
 unfoldable pub from : List (List ℤ) → ℕ → ℕ → List ℕ → ℕ → List ℕ
 from ps lo hi es j = cond (ltb j (length es)) (getD es j 0 / maxPoints ∷ crossed ps lo hi (drop (j + 1) es)) []
@@ -95,6 +99,10 @@ pub record Roomy (ps : List (List ℤ)) (hs es : List ℕ) : Type 0 where
   pub few : length ps ≤ maxPoints
   pub heights : length ps ≤ length hs
   pub edges : length ps ≤ length es
+
+-- a ring of at most so many points has short work rows
+abbrev pub fewPoints : ℕ
+fewPoints = 16
 
 -- a strip has a positive width and height and lies in the frame of coordinates
 pub record Sound (s : Strip) : Type 0 where

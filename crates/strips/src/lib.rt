@@ -1,89 +1,25 @@
 // Strips of one ring: polygon_minus_polygon of the Rust with an empty second ring, in whole ticks.
 ghost use mathlib.Core.Path.{_≡_};
-ghost use Prim.Native.Nat.{_<_, _≤_, _+_, _^_, min};
-ghost use lib.ListN.{length, set};
+ghost use Prim.Native.Nat.{_≤_};
+ghost use lib.ListN.{length};
 ghost use Rattle.refusals.specs.Limits.{maxPoints};
-ghost use Rattle.strips.specs.Said.{strippedSaid, stripsSays, stripsLeave, stripRow, laid, counted, ifAccepted};
+ghost use Rattle.strips.specs.Said.{strippedSaid, stripsSays, stripsLeave, laid, counted, ifAccepted};
 ghost use Rattle.strips.specs.Strips.{stripsOf};
-ghost use Rattle.strips.specs.Walk.{allOf, Roomy};
-use cell::ticks;
+ghost use Rattle.strips.specs.Walk.{allOf, Roomy, fewPoints};
+use crate::order::FEW;
 use refusals::Refusal;
 use refusals::limits::RING_POINTS;
 
+pub mod bands;
 pub mod order;
 pub mod ring;
 pub mod tally;
 pub mod walk;
 
-// Rings of at most so many points have short work rows.
-const FEW: usize = 16;
-
 // How many strips there are, or why there is no answer.
 pub enum Stripped {
     Done(usize),
     Refused(Refusal),
-}
-
-// The number of strips, as far as one more than there is room for.
-fn count(points: &[[i64; 2]], heights: &[u64], edges: &[u64], room: usize) -> usize
-    requires { ⌜ room < 2 ^ 63 ⌝ }
-    ensures { λ r. ⌜ r ≡ min (length (allOf (now (points .entry)) (now (heights .entry)) (now (edges .entry)))) (room + 1) ⌝ }
-{
-    let mut band = walk::start(points, heights);
-    let mut edge = 0;
-    let mut n = 0;
-    while n <= room {
-        let walk::Ahead::Found(_, next_band, next_edge) = walk::next(
-            points,
-            heights,
-            edges,
-            band,
-            edge,
-        ) else {
-            return n;
-        };
-        n += 1;
-        band = next_band;
-        edge = next_edge;
-    }
-    n
-}
-
-// One strip, in the caller's ticks.
-fn put(out: &mut [[i64; 4]], k: usize, s: walk::Strip)
-    requires { ⌜ k < length (now out) ⌝ }
-    ensures { λ r. ⌜ now (out .exit) ≡ set (now (out .entry)) k (stripRow s) ⌝ }
-{
-    let x0 = ticks::ticks(s.x0);
-    let y0 = ticks::ticks(s.y0);
-    let x1 = ticks::ticks(s.x1);
-    let y1 = ticks::ticks(s.y1);
-    out[k] = [x0, y0, x1, y1];
-}
-
-// All strips from the front of the row on. Internal: there is room for them.
-fn put_all(points: &[[i64; 2]], heights: &[u64], edges: &[u64], out: &mut [[i64; 4]])
-    requires { ⌜ length (allOf (now points) (now heights) (now edges)) ≤ length (now out) ⌝ }
-    ensures { λ r. ⌜ now (out .exit) ≡ laid (allOf (now (points .entry)) (now (heights .entry)) (now (edges .entry))) (now (out .entry)) ⌝ }
-{
-    let mut band = walk::start(points, heights);
-    let mut edge = 0;
-    let mut k = 0;
-    loop {
-        let walk::Ahead::Found(s, next_band, next_edge) = walk::next(
-            points,
-            heights,
-            edges,
-            band,
-            edge,
-        ) else {
-            return;
-        };
-        put(out, k, s);
-        k += 1;
-        band = next_band;
-        edge = next_edge;
-    }
 }
 
 // The strips into the row if there is room for them. Internal: what `walk::prepare` has made ready is lent.
@@ -92,11 +28,11 @@ fn lay(points: &[[i64; 2]], heights: &[u64], edges: &[u64], out: &mut [[i64; 4]]
     ensures { λ r. ⌜ now (out .exit) ≡ ifAccepted (strippedSaid r) (laid (allOf (now (points .entry)) (now (heights .entry)) (now (edges .entry))) (now (out .entry))) (now (out .entry)) ⌝ }
 {
     let room = out.len();
-    let n = count(points, heights, edges, room);
+    let n = bands::count(points, heights, edges, room);
     if room < n {
         return Stripped::Refused(Refusal::NoRoom);
     }
-    put_all(points, heights, edges, out);
+    bands::put_all(points, heights, edges, out);
     Stripped::Done(n)
 }
 
@@ -118,7 +54,7 @@ fn cut(
 
 // The same with the rows made: short ones where they do, since they are filled with zeros first.
 fn cut_few(points: &[[i64; 2]], out: &mut [[i64; 4]]) -> Stripped
-    requires { ⌜ length (now points) ≤ 16 ⌝ }
+    requires { ⌜ length (now points) ≤ fewPoints ⌝ }
     ensures { λ r. ⌜ strippedSaid r ≡ counted (length (stripsOf (now (points .entry)))) (length (now (out .entry))) ⌝ }
     ensures { λ r. ⌜ now (out .exit) ≡ ifAccepted (strippedSaid r) (laid (stripsOf (now (points .entry))) (now (out .entry))) (now (out .entry)) ⌝ }
 {

@@ -13,7 +13,7 @@ use cell::ticks;
 use refusals::limits::RING_POINTS;
 
 // The highest offset coordinate.
-const COORDINATES: u64 = 137438953472;
+pub const COORDINATES: u64 = 137438953472;
 
 pub struct Strip {
     pub x0: u64,
@@ -91,8 +91,8 @@ pub fn prepare(points: &[[i64; 2]], heights: &mut [u64], edges: &mut [u64]) -> u
     m
 }
 
-// The first edge from j on that spans a band; the number of edges where none does.
-fn find(points: &[[i64; 2]], edges: &[u64], j: usize, lo: u64, hi: u64) -> usize
+// The first edge from j on that spans a band; the number of edges where none does. Internal: the band has a height and is in range.
+pub fn find(points: &[[i64; 2]], edges: &[u64], j: usize, lo: u64, hi: u64) -> usize
     requires { ⌜ (lo < hi) × (hi ≤ coordinate + coordinate) ⌝ }
     ensures { λ r. ⌜ Finds (now (points .entry)) lo hi (now (edges .entry)) j r ⌝ }
 {
@@ -117,7 +117,7 @@ pub fn start(points: &[[i64; 2]], heights: &[u64]) -> usize
 }
 
 // The first band from k on that has a height: heights that are equal are passed at once.
-fn skip(heights: &[u64], k: usize) -> usize
+pub fn skip(heights: &[u64], k: usize) -> usize
     requires { ⌜ k < length (now heights) ⌝ }
     ensures { λ r. ⌜ Skips (now (heights .entry)) k r ⌝ }
 {

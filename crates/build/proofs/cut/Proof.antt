@@ -1,41 +1,36 @@
--- `build::cut` meets its contract: 5, 6, and then the roots with zeros behind them.
+-- `build::cut` meets its contract: a board of one polygon says and leaves what its ring does.
 -- Assumes nothing.
-use Rattle.build.proofs.Fitting.{cleared}
-use Rattle.build.specs.Steps.{SameTo}
-use Rattle.build.specs.Says.{evenFrom}
-use Rattle.build.specs.Board.{Board, board, rootsOf}
-use Rattle.refusals.specs.Said.{Said}
-use borrow.Author.Tests.{lt-ltb, le-ltb}
+use mathlib.Core.Path.{refl, sym, _∙_}
+use lib.Pow.{pow-pos}
 use native.Mathlib.Omega.{arith}
-use lib.ListN.{length}
-use mathlib.Core.Path.{_≡_, refl, sym, ap, _∙_}
-use Prim.Native.Nat.{_+_, _*_, _/_, _<_, _≤_, min}
 use borrow.Author.Needs.{needs}
+use Rattle.build.specs.Board.{board}
+use Rattle.build.proofs.Boards.{unit-fits, sizes}
+use Rattle.build.proofs.Fitting.{ring-alone, says-alone, leaves-alone}
 use Rattle.build.proofs.cut.Statement.{statement}
 use Rattle.build.proofs.cut.Tie as tie
 
--- the board, and what the survey says of it
-abbrev boardAt : tie.After-found2 → Board
-boardAt c = board (c .before .before .before .before .before .before .before .before .before .before .before .before .before .args .s) (c .before .before .before .before .before .before .before .before .before .before .before .before .before .args .list .now) (c .before .before .before .before .before .before .before .before .before .before .before .before .before .args .layers .now) (c .before .before .before .before .before .before .before .before .before .before .before .before .before .args .counts .now) (c .before .before .before .before .before .before .before .before .before .before .before .before .before .args .points .now)
+unit-of-requires : tie.Need-unit-of-requires
+unit-of-requires c κs = search needs
 
-surveyed : (c : tie.After-found2) → ((o : Said) → evenFrom (boardAt c) 0 (length (c .before .before .before .before .before .before .before .before .before .before .before .before .before .args .counts .now)) o ≡ o) × SameTo (length (c .before .before .before .before .before .before .before .before .before .before .before .before .before .args .table .now) / 8) (c .found2 .given .0 .0) (length (rootsOf (boardAt c)))
-surveyed c = rw (c .found2 .given .1) at (c .before .before .before .before .before .before .survey-all .ensures)
+shared-slice-read-size-of : tie.Need-shared-slice-read-size-of
+shared-slice-read-size-of c = search needs
 
--- there is room
-room : (c : tie.Else1) → length (rootsOf (boardAt (c .before .before))) * 8 ≤ length (c .before .before .before .before .before .before .before .before .before .before .before .before .before .before .before .args .table .now)
-room c =
-    let s = surveyed (c .before .before) .1 in
-    let l = c .if1 .left in
-    omega (arith, c .before .before .before .before .before .before .before .before .before .before .before .before .before .before .before .pre .1 .1 .whole)
+cast-size-of : tie.Need-cast-size-of
+cast-size-of c = omega (arith, c .shared-slice-known3 .given 0)
 
-survey-all-requires : tie.Need-survey-all-requires
-survey-all-requires c κs = search needs
+size-of-requires : tie.Need-size-of-requires
+size-of-requires c κs = search needs
 
-enum-known-found : tie.Need-enum-known-found
-enum-known-found c = search needs
-
-enum-known-found-2 : tie.Need-enum-known-found-2
-enum-known-found-2 c = search needs
+cut-alone-requires : tie.Need-cut-alone-requires
+cut-alone-requires c κs = let z = c .before .before .before .before .before .before .before .before .before .before .before .pre in
+    let r = rw (ring-alone (board (c .before .before .before .before .before .before .before .before .before .before .before .args .s) (c .before .before .before .before .before .before .before .before .before .before .before .args .list .now) (c .before .before .before .before .before .before .before .before .before .before .before .args .layers .now) (c .before .before .before .before .before .before .before .before .before .before .before .args .counts .now) (c .before .before .before .before .before .before .before .before .before .before .before .args .points .now)) (z .0) (c .before .before .before .before .before .before .if1 .taken)) at (z .0 .few 0 (omega arith)) in (
+      record { few = r; heights = omega (arith, z .1 .0 .heights); edges = omega (arith, z .1 .0 .edges) },
+      (
+        rw (c .before .before .before .size-of .ensures) (sizes (board (c .before .before .before .before .before .before .before .before .before .before .before .args .s) (c .before .before .before .before .before .before .before .before .before .before .before .args .list .now) (c .before .before .before .before .before .before .before .before .before .before .before .args .layers .now) (c .before .before .before .before .before .before .before .before .before .before .before .args .counts .now) (c .before .before .before .before .before .before .before .before .before .before .before .args .points .now)) (z .0) 0),
+        (rw (c .before .before .before .before .before .unit-of .ensures) (record { unit = pow-pos _; unit-fits = unit-fits _ (z .0 .level); slots-fit = omega arith; count = omega arith }), z .1 .1),
+      ),
+    )
 
 same-length : tie.Need-same-length
 same-length c = search needs
@@ -43,35 +38,20 @@ same-length c = search needs
 same-length-2 : tie.Need-same-length-2
 same-length-2 c = search needs
 
-returns : tie.Need-returns
-returns c = let q = surveyed (c .before .before) in
-    let l : length (c .before .before .before .before .before .before .before .before .before .before .before .before .before .before .before .args .table .now) / 8 < length (rootsOf (boardAt (c .before .before))) = let s = q .1 in let t = c .if1 .taken in omega arith in
-    (sym (q .0 _ ∙ rw (lt-ltb _ _ l) refl), refl)
-
-put-all-requires : tie.Need-put-all-requires
-put-all-requires c κs = let z = c .before .before .before .before .before .before .before .before .before .before .before .before .before .before .before .before .before .before .pre in
-    let v = c .before .before .before .before .before .before .before .before .before .before .before .survey-all in (
-      z .0,
-      (
-        record { heights = omega (arith, z .1 .0 .heights, v .kept .1 .1 .1 .1 .1 .0); edges = omega (arith, z .1 .0 .edges, v .kept .1 .1 .1 .1 .1 .1 .0) },
-        record { room = omega (arith, room (c .before .before .before)); few = omega (arith, z .1 .1 .whole, z .1 .1 .few) },
-      ),
-    )
-
-mul-clear : tie.Need-mul-clear
-mul-clear c = omega (arith, c .before .before .before .before .before .before .put-all .ensures .0, room (c .before .before .before .before .before .before .before .before .before .before), c .before .before .before .before .before .before .before .before .before .before .before .before .before .before .before .before .before .before .before .before .before .before .before .before .before .pre .1 .1 .few, c .before .before .before .before .before .before .before .before .before .before .before .before .before .before .before .before .before .before .before .before .before .before .before .before .before .pre .1 .1 .whole)
-
-clear-requires : tie.Need-clear-requires
-clear-requires c κs = omega (arith, c .before .before .before .before .before .before .put-all .ensures .0, c .before .before .before .before .before .before .put-all .kept .1 .1 .1 .1 .1 .1 .1 .0, room (c .before .before .before .before .before .before .before .before .before .before))
-
 same-length-3 : tie.Need-same-length-3
 same-length-3 c = search needs
 
+returns : tie.Need-returns
+returns c = let f = c .before .before .before .before .before .before .before .before .before .before .before .before .before .before .before .before .before .pre .0 in
+    let one = c .before .before .before .before .before .before .before .before .before .before .before .before .if1 .taken in
+    let k = rw (c .before .before .before .before .before .before .before .before .before .size-of .ensures, c .before .before .before .before .before .before .before .before .before .before .before .unit-of .ensures) at (c .before .before .before .before .before .cut-alone .ensures) in
+    (k .0 ∙ sym (says-alone (board (c .before .before .before .before .before .before .before .before .before .before .before .before .before .before .before .before .before .args .s) (c .before .before .before .before .before .before .before .before .before .before .before .before .before .before .before .before .before .args .list .now) (c .before .before .before .before .before .before .before .before .before .before .before .before .before .before .before .before .before .args .layers .now) (c .before .before .before .before .before .before .before .before .before .before .before .before .before .before .before .before .before .args .counts .now) (c .before .before .before .before .before .before .before .before .before .before .before .before .before .before .before .before .before .args .points .now)) f one _), k .1 ∙ rw (leaves-alone (board (c .before .before .before .before .before .before .before .before .before .before .before .before .before .before .before .before .before .args .s) (c .before .before .before .before .before .before .before .before .before .before .before .before .before .before .before .before .before .args .list .now) (c .before .before .before .before .before .before .before .before .before .before .before .before .before .before .before .before .before .args .layers .now) (c .before .before .before .before .before .before .before .before .before .before .before .before .before .before .before .before .before .args .counts .now) (c .before .before .before .before .before .before .before .before .before .before .before .before .before .before .before .before .before .args .points .now)) f one _) refl)
+
+cut-many-requires : tie.Need-cut-many-requires
+cut-many-requires c κs = search needs
+
 same-length-4 : tie.Need-same-length-4
 same-length-4 c = search needs
-
-returns-2 : tie.Need-returns-2
-returns-2 c = let k = rw (c .before .found .given .1) at (c .before .before .before .before .before .before .before .survey-all .ensures) in (sym (k _), refl)
 
 same-length-5 : tie.Need-same-length-5
 same-length-5 c = search needs
@@ -79,34 +59,24 @@ same-length-5 c = search needs
 same-length-6 : tie.Need-same-length-6
 same-length-6 c = search needs
 
-same-length-7 : tie.Need-same-length-7
-same-length-7 c = search needs
-
-returns-3 : tie.Need-returns-3
-returns-3 c = let v = c .before .before .before .before .before .before .before .before .put-all in
-    let q = surveyed (c .before .before .before .before .before .before .before .before .before .before .before .before .before .before) in
-    let l : length (rootsOf (boardAt (c .before .before .before .before .before .before .before .before .before .before .before .before .before .before))) ≤ length (c .before .before .before .before .before .before .before .before .before .before .before .before .before .before .before .before .before .before .before .before .before .before .before .before .before .before .before .args .table .now) / 8 = omega (arith, room (c .before .before .before .before .before .before .before .before .before .before .before .before)) in (
-      sym (q .0 _ ∙ rw (le-ltb _ _ l, v .ensures .0) refl),
-      c .before .clear .ensures ∙ cleared (c .before .before .before .before .before .before .before .before .before .before .before .before .before .before .before .before .before .before .before .before .before .before .before .before .before .before .before .args .table .now) (v .last .1 .1 .1 .1 .1 .1 .1 .0) (boardAt (c .before .before .before .before .before .before .before .before .before .before .before .before .before .before)) (v .result) (v .ensures .0) (v .ensures .1) (v .kept .1 .1 .1 .1 .1 .1 .1 .0),
-    )
+returns-2 : tie.Need-returns-2
+returns-2 c = search needs
 
 pub cut-spec : {M : Type 1} → statement M
 cut-spec =
     tie.close
     (tie.spec
-    survey-all-requires
-    enum-known-found
-    enum-known-found-2
+    unit-of-requires
+    shared-slice-read-size-of
+    cast-size-of
+    size-of-requires
+    cut-alone-requires
     same-length
     same-length-2
-    returns
-    put-all-requires
-    mul-clear
-    clear-requires
     same-length-3
+    returns
+    cut-many-requires
     same-length-4
-    returns-2
     same-length-5
     same-length-6
-    same-length-7
-    returns-3)
+    returns-2)

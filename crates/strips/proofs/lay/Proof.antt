@@ -1,14 +1,11 @@
 -- `strips::lay` meets its contract: the count is that of all strips where there is room.
 -- Assumes nothing.
-use Rattle.refusals.specs.Said.{accepted}
-use mathlib.Core.List.{[], _∷_}
-use Rattle.strips.specs.Said.{counted}
 use Rattle.strips.specs.Walk.{allOf}
 use borrow.Author.Tests.{lt-ltb, le-ltb}
 use native.Mathlib.Omega.{arith}
 use lib.ListN.{length}
 use Prim.Native.Nat.{_<_, _≤_}
-use mathlib.Core.Path.{_≡_, refl, sym, ap, _∙_}
+use mathlib.Core.Path.{_≡_, refl}
 use borrow.Author.Needs.{needs}
 use Rattle.strips.proofs.lay.Statement.{statement}
 use Rattle.strips.proofs.lay.Tie as tie

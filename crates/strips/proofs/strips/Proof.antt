@@ -2,8 +2,6 @@
 -- Assumes nothing.
 use Rattle.strips.specs.Strips.{stripsOf}
 use Rattle.refusals.specs.Said.{Said}
-use lib.IntN.{ℤ}
-use mathlib.Core.List.{List}
 use Rattle.strips.proofs.Laying.{few-points}
 use Rattle.strips.specs.Said.{stripsSays, stripsLeave, ifAccepted, laid}
 use Rattle.strips.specs.Rings.{ringInRange, ringSlants}

@@ -1,9 +1,9 @@
+-- `strips::ring::crosses` meets its contract: by its tests.
+-- Assumes nothing.
 use Rattle.strips.specs.Levels.{crosses}
 use mir.Facts.{toZ-ofZ}
 use Rattle.strips.proofs.ring.crosses.Statement.{statement}
 use Rattle.strips.proofs.ring.crosses.Tie as tie
-use Rattle.strips.proofs.ring.crosses.Reads as reads
-use Rattle.strips.proofs.ring.crosses.Lts as lts
 
 returns : tie.Need-returns
 unfolding crosses

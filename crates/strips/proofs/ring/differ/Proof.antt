@@ -1,9 +1,9 @@
+-- `strips::ring::differ` meets its contract: by its tests.
+-- Assumes nothing.
 use Rattle.strips.specs.Levels.{apart}
 use mir.Facts.{toZ-ofZ}
 use Rattle.strips.proofs.ring.differ.Statement.{statement}
 use Rattle.strips.proofs.ring.differ.Tie as tie
-use Rattle.strips.proofs.ring.differ.Reads as reads
-use Rattle.strips.proofs.ring.differ.Lts as lts
 
 returns : tie.Need-returns
 unfolding apart

@@ -1,7 +1,7 @@
 -- `strips::ring::edge_at` meets its contract: the edge ends at the next point, the last at the first.
 -- Assumes nothing.
-use Rattle.strips.specs.Rings.{after, edgeAt}
-use mathlib.Core.Path.{_≡_, refl, sym, _∙_}
+use Rattle.strips.specs.Rings.{edgeAt}
+use mathlib.Core.Path.{refl}
 use borrow.Author.Needs.{needs}
 use Rattle.strips.proofs.ring.edge_at.Statement.{statement}
 use Rattle.strips.proofs.ring.edge_at.Tie as tie

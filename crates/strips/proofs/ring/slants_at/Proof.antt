@@ -1,20 +1,17 @@
+-- `strips::ring::slants_at` meets its contract: coordinates in range differ as offset ones do.
+-- Assumes nothing.
 use Rattle.strips.proofs.Levels.{after-inside, slants-is}
-use Rattle.strips.specs.Rings.{after}
 use mir.Facts.{toZ-ofZ}
 use mir.Syntax.{w64}
 use mir.Val.{SFits}
 use lib.IntN.{pos}
 use lib.ListN.{getD}
 use mathlib.Core.List.{[]}
-use mathlib.Core.Path.{_≡_, refl, sym, _∙_}
+use mathlib.Core.Path.{_∙_}
 use native.Mathlib.Omega.{arith}
 use borrow.Author.Needs.{needs}
 use Rattle.strips.proofs.ring.slants_at.Statement.{statement}
 use Rattle.strips.proofs.ring.slants_at.Tie as tie
-use Rattle.strips.proofs.ring.slants_at.Reads as reads
-use Rattle.strips.proofs.ring.slants_at.Lts as lts
-use Rattle.strips.proofs.ring.differ.Reads as differ-reads
-use Rattle.strips.proofs.ring.next_point.Reads as next-point-reads
 
 next-point-requires : tie.Need-next-point-requires
 next-point-requires c κs = search needs

@@ -1,16 +1,13 @@
-use Rattle.strips.specs.Levels.{levelAt, crosses}
+-- `strips::ring::spans` meets its contract: the heights tested are those of the edge.
+-- Assumes nothing.
+use Rattle.strips.specs.Levels.{crosses}
 use mir.Facts.{toZ-ofZ}
 use mir.Syntax.{w64}
 use mir.Val.{SFits}
-use mathlib.Core.Path.{_≡_, refl, sym, _∙_}
-use Rattle.strips.specs.Rings.{after}
+use mathlib.Core.Path.{refl, _∙_}
 use borrow.Author.Needs.{needs}
 use Rattle.strips.proofs.ring.spans.Statement.{statement}
 use Rattle.strips.proofs.ring.spans.Tie as tie
-use Rattle.strips.proofs.ring.spans.Reads as reads
-use Rattle.strips.proofs.ring.spans.Lts as lts
-use Rattle.strips.proofs.ring.crosses.Reads as crosses-reads
-use Rattle.strips.proofs.ring.level_at.Reads as level-at-reads
 
 next-point-requires : tie.Need-next-point-requires
 next-point-requires c κs = search needs

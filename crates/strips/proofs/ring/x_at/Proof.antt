@@ -1,6 +1,5 @@
 -- `strips::ring::x_at` meets its contract: the number that is read is the point's.
 -- Assumes nothing.
-use mathlib.Core.Path.{_≡_}
 use lib.IntN.{pos}
 use mir.Val.{SFits}
 use mir.Syntax.{w64}

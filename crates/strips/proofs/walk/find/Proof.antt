@@ -1,12 +1,12 @@
 -- `strips::walk::find` meets its contract: the edges passed do not span the band.
 -- Assumes nothing.
 use Rattle.strips.proofs.Walks.{crossed-end, from-end, crossed-yes, crossed-no}
-use Rattle.strips.specs.Walk.{crossed, Finds}
+use Rattle.strips.specs.Walk.{crossed}
 use native.Mathlib.Omega.{arith}
 use borrow.Author.Needs.{needs}
-use lib.ListN.{length, drop}
-use mathlib.Core.Path.{_≡_, refl, sym, _∙_}
-use Prim.Native.Nat.{_≤_, _-_}
+use lib.ListN.{length, drop, getD}
+use mathlib.Core.Path.{_≡_, sym, _∙_}
+use Prim.Native.Nat.{_≤_, _-_, _%_}
 use Rattle.strips.proofs.walk.find.Statement.{statement}
 use Rattle.strips.proofs.walk.find.Tie as tie
 use mir.Facts.{toZ-ofZ}
@@ -14,8 +14,6 @@ use Rattle.cell.proofs.Offsets.{on-fits}
 use Rattle.strips.specs.Rings.{edgeAt, reaches}
 use Rattle.strips.proofs.Levels.{spans-is}
 use Rattle.refusals.specs.Limits.{maxPoints}
-use Prim.Native.Nat.{_%_}
-use lib.ListN.{getD}
 
 abbrev Inv-loop : tie.InvT-loop
 Inv-loop points edges j lo hi low high k₀ k = (j ≤ k) × (crossed points lo hi (drop k edges) ≡ crossed points lo hi (drop j edges))

@@ -7,7 +7,7 @@ use lib.Seq.{length-take-le}
 use Rattle.cell.proofs.Offsets.{off-le}
 use Rattle.strips.specs.Rings.{edgeAt}
 use Rattle.strips.specs.Sorted.{picked, upTo}
-use Rattle.strips.proofs.Picking.{front, more-yes, more-no}
+use Rattle.strips.proofs.Picking.{front}
 use Rattle.strips.specs.Walk.{unsortedEdges}
 use native.Mathlib.Omega.{arith}
 use borrow.Author.Needs.{needs}

@@ -1,17 +1,15 @@
 -- `strips::walk::next` meets its contract: the strips that are left stay the same until one is found; each turn goes to a later edge or to the next band.
 -- Assumes nothing.
-use Rattle.strips.proofs.Walks.{left-flat, crossed-flat, left-end, left-strip, left-thin, left-on, band-falls, bands-fall}
-use Rattle.strips.specs.Walk.{left, Finds}
-use lib.ListN.{length, drop}
+use Rattle.strips.proofs.Walks.{left-end, left-strip, left-thin, left-on, band-falls, bands-fall}
+use Rattle.strips.specs.Walk.{left}
+use lib.ListN.{length, drop, getD}
 use borrow.Author.Needs.{needs}
 use native.Mathlib.Omega.{arith}
-use mathlib.Core.Path.{_≡_, refl, sym, _∙_}
+use mathlib.Core.Path.{_≡_, sym, _∙_}
 use Prim.Native.Nat.{_+_, _-_, _*_}
 use Rattle.strips.proofs.walk.next.Statement.{statement}
 use Rattle.strips.proofs.walk.next.Tie as tie
-use lib.ListN.{getD}
-use mathlib.Core.Logic.{⊎-elim}
-use Rattle.strips.proofs.Levels.{band-yes, band-no, crossed-high}
+use Rattle.strips.proofs.Levels.{band-yes, left-none}
 
 abbrev Inv-loop : tie.InvT-loop
 Inv-loop points heights edges band edge last k₀ j₀ k j = left points edges j (drop k heights) ≡ left points edges edge (drop band heights)
@@ -102,8 +100,7 @@ loop-less-3 c = bands-fall (length (c .before .before .before .before .before .b
 
 loop-again-3 : tie.Need-loop-again-3 Inv-loop μ-loop
 loop-again-3 c = c .skip .ensures .same (c .before .before .before .before .before .before .before .before .before .args .points .now) (c .before .before .before .before .before .before .before .before .before .args .edges .now)
-    ∙ sym (left-flat (c .before .before .before .before .before .before .before .before .before .args .points .now) (c .before .before .before .before .before .before .before .before .before .args .edges .now) (c .before .before .before .before .before .before .before .before .before .args .heights .now) (c .before .before .before .before .before .loop .j) (c .before .before .before .before .before .loop .k) (omega (arith, c .before .before .before .before .loop-test .taken))
-    (⊎-elim (λ w. crossed-flat (c .before .before .before .before .before .before .before .before .before .args .points .now) (getD (c .before .before .before .before .before .before .before .before .before .args .heights .now) (c .before .before .before .before .before .loop .k) 0) (getD (c .before .before .before .before .before .before .before .before .before .args .heights .now) (c .before .before .before .before .before .loop .k + 1) 0) w) (λ w. crossed-high (c .before .before .before .before .before .before .before .before .before .args .points .now) (getD (c .before .before .before .before .before .before .before .before .before .args .heights .now) (c .before .before .before .before .before .loop .k) 0) (getD (c .before .before .before .before .before .before .before .before .before .args .heights .now) (c .before .before .before .before .before .loop .k + 1) 0) w) (band-no (getD (c .before .before .before .before .before .before .before .before .before .args .heights .now) (c .before .before .before .before .before .loop .k) 0) (getD (c .before .before .before .before .before .before .before .before .before .args .heights .now) (c .before .before .before .before .before .loop .k + 1) 0) (c .before .if2 .left)))) ∙ c .before .before .before .before .before .loop .inv
+    ∙ sym (left-none (c .before .before .before .before .before .before .before .before .before .args .points .now) (c .before .before .before .before .before .before .before .before .before .args .edges .now) (c .before .before .before .before .before .before .before .before .before .args .heights .now) (c .before .before .before .before .before .loop .j) (c .before .before .before .before .before .loop .k) (omega (arith, c .before .before .before .before .loop-test .taken)) (c .before .if2 .left)) ∙ c .before .before .before .before .before .loop .inv
 
 returns-3 : tie.Need-returns-3 Inv-loop μ-loop
 returns-3 c = let a = c .before .before .before .before .before .args in

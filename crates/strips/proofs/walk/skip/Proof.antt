@@ -7,12 +7,10 @@ use lib.IntN.{ℤ}
 use lib.ListN.{length, drop, getD}
 use native.Mathlib.Omega.{arith}
 use borrow.Author.Needs.{needs}
-use Rattle.strips.specs.Walk.{left, Skips}
+use Rattle.strips.specs.Walk.{left}
 use Rattle.strips.proofs.Walks.{left-flat, crossed-flat}
 use Rattle.strips.proofs.walk.skip.Statement.{statement}
 use Rattle.strips.proofs.walk.skip.Tie as tie
-use Rattle.strips.proofs.walk.skip.Reads as reads
-use Rattle.strips.proofs.walk.skip.Lts as lts
 
 abbrev Inv-loop : tie.InvT-loop
 Inv-loop heights k last b₀ b = (k ≤ b) × (b < length heights) × ((ps : List (List ℤ)) (es : List ℕ) → left ps es 0 (drop b heights) ≡ left ps es 0 (drop k heights))

@@ -1,17 +1,13 @@
+-- `strips::walk::sort_edges` meets its contract: the edges gathered are put in order at the front of the row.
+-- Assumes nothing.
 use Rattle.strips.proofs.Walks.{resorted}
 use Rattle.strips.specs.Walk.{edgesOf}
 use lib.Seq.{length-take-le}
 use native.Mathlib.Omega.{arith}
-use lib.ListN.{length}
-use mathlib.Core.Path.{_≡_, refl, sym, ap, _∙_}
-use Prim.Native.Nat.{_≤_}
+use mathlib.Core.Path.{sym}
 use borrow.Author.Needs.{needs}
 use Rattle.strips.proofs.walk.sort_edges.Statement.{statement}
 use Rattle.strips.proofs.walk.sort_edges.Tie as tie
-use Rattle.strips.proofs.walk.sort_edges.Reads as reads
-use Rattle.strips.proofs.walk.sort_edges.Lts as lts
-use Rattle.strips.proofs.order.sort.Reads as sort-reads
-use Rattle.strips.proofs.walk.gather_edges.Reads as gather-edges-reads
 
 gather-edges-requires : tie.Need-gather-edges-requires
 gather-edges-requires c κs = search needs

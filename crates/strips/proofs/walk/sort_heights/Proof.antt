@@ -1,16 +1,11 @@
+-- `strips::walk::sort_heights` meets its contract: the heights tallied are unpacked.
+-- Assumes nothing.
 use Rattle.strips.proofs.Walks.{length-heights}
-use lib.Seq.{length-take-le}
-use native.Mathlib.Omega.{arith}
 use lib.ListN.{length}
-use mathlib.Core.Path.{_≡_, refl, sym, ap, _∙_}
-use Prim.Native.Nat.{_≤_}
+use mathlib.Core.Path.{sym, ap, _∙_}
 use borrow.Author.Needs.{needs}
 use Rattle.strips.proofs.walk.sort_heights.Statement.{statement}
 use Rattle.strips.proofs.walk.sort_heights.Tie as tie
-use Rattle.strips.proofs.walk.sort_heights.Reads as reads
-use Rattle.strips.proofs.walk.sort_heights.Lts as lts
-use Rattle.strips.proofs.tally.unpack.Reads as unpack-reads
-use Rattle.strips.proofs.walk.tally_heights.Reads as tally-heights-reads
 
 tally-heights-requires : tie.Need-tally-heights-requires
 tally-heights-requires c κs = search needs

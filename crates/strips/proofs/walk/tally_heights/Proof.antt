@@ -1,22 +1,19 @@
+-- `strips::walk::tally_heights` meets its contract: the entries hold the heights of the points passed, in order.
+-- Assumes nothing.
 use Rattle.strips.proofs.Tallies.{heights-none, heights-more, heights-long}
 use Rattle.strips.specs.Walk.{heightsOf}
 use Rattle.strips.specs.Tally.{spread}
 use Rattle.strips.specs.Sorted.{upTo, sorted, insert}
 use Rattle.strips.specs.Rings.{yAt}
-use Rattle.refusals.specs.Limits.{coordinate}
 use Rattle.cell.proofs.Offsets.{off-le}
 use mathlib.Core.List.{map}
 use native.Mathlib.Omega.{arith}
-use lib.ListN.{length, take, drop, getD, length-set}
-use mathlib.Core.Path.{_≡_, refl, sym, ap, subst, _∙_}
-use Prim.Native.Nat.{ℕ, _+_, _-_, _≤_, _<_}
+use lib.ListN.{length, take, drop}
+use mathlib.Core.Path.{_≡_, refl, ap, _∙_}
+use Prim.Native.Nat.{_+_, _-_, _≤_}
 use borrow.Author.Needs.{needs}
 use Rattle.strips.proofs.walk.tally_heights.Statement.{statement}
 use Rattle.strips.proofs.walk.tally_heights.Tie as tie
-use Rattle.strips.proofs.walk.tally_heights.Reads as reads
-use Rattle.strips.proofs.walk.tally_heights.Lts as lts
-use Rattle.strips.proofs.ring.y_at.Reads as y-at-reads
-use Rattle.strips.proofs.tally.add.Reads as add-reads
 
 abbrev Inv-loop : tie.InvT-loop
 Inv-loop points row₀ k₀ i₀ row k i = (i ≤ length points) × (k + i ≤ length points) × (length row ≡ length points) × (spread (take k row) ≡ sorted (drop i (map (yAt points) (upTo (length points)))))

@@ -1,10 +1,10 @@
--- `strips::put` meets its contract: each of the four numbers fits.
+-- `strips::bands::put` meets its contract: each of the four numbers fits.
 -- Assumes nothing.
 use Rattle.cell.proofs.Offsets.{on-fits}
 use mir.Facts.{toZ-ofZ}
 use borrow.Author.Needs.{needs}
-use Rattle.strips.proofs.put.Statement.{statement}
-use Rattle.strips.proofs.put.Tie as tie
+use Rattle.strips.proofs.bands.put.Statement.{statement}
+use Rattle.strips.proofs.bands.put.Tie as tie
 
 ticks-requires : tie.Need-ticks-requires
 ticks-requires c κs = search needs
