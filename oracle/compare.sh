@@ -2,18 +2,26 @@
 # Holds the port and the original side by side.
 #
 #   compare.sh [CALLS [COUNT [SEED]]]    CALLS: contact, table, even, strips, build, record, power,
-#                                        network, checks, or all
+#                                        network, checks, leafnet, or all
 #   compare.sh bench [CALLS]             times of both
+#   compare.sh heap [CALLS]              the heap that each takes for the benchmarks' calls
 #
-# Exits with 1 if anything differs.
+# Exits with 1 if anything differs. With LEAFMESH_LIBRARY or LEAFMESH_PROGRAM set, the port isn't made
+# but taken from there.
 set -eu
 
 # The groups of calls that the library exports, beside contact: any of "table even strips build
-# record power network checks". A group is switched on here once its calls are exported; even brings
-# table with it, and build brings strips.
-FEATURES="table even strips build record network power checks"
+# record power network checks", and the program leafnet. A group is switched on here once its calls
+# are exported; even brings table with it, and build brings strips.
+FEATURES="table even strips build record network power checks leafnet"
 
 cd "$(dirname "$0")"
 . ./setup.sh
-(cd .. && rt staticlib leafmesh)
+[ -n "${LEAFMESH_LIBRARY:-}" ] || (cd .. && rt staticlib leafmesh >&2)
+[ -n "${LEAFMESH_PROGRAM:-}" ] || (cd .. && rt check leafnet >&2)
+if [ "${1:-}" = heap ]; then
+    shift
+    FEATURES="$FEATURES heap"
+    set -- bench "$@"
+fi
 exec cargo run --offline --release --quiet -p compare --features "$FEATURES" -- "$@"

@@ -22,8 +22,9 @@ if [ "$(uname -m)" != x86_64 ]; then
     loader=$(dpkg -L libc6:amd64 | grep '/ld-linux-x86-64\.so\.2$' | head -n 1)
     CARGO_BUILD_TARGET=x86_64-unknown-linux-gnu
     CARGO_TARGET_X86_64_UNKNOWN_LINUX_GNU_LINKER=x86_64-linux-gnu-gcc
-    CARGO_TARGET_X86_64_UNKNOWN_LINUX_GNU_RUNNER="qemu-x86_64 $loader"
-    export RUSTC CARGO_BUILD_TARGET
+    LEAFMESH_RUNNER="qemu-x86_64 $loader"
+    CARGO_TARGET_X86_64_UNKNOWN_LINUX_GNU_RUNNER=$LEAFMESH_RUNNER
+    export RUSTC CARGO_BUILD_TARGET LEAFMESH_RUNNER
     export CARGO_TARGET_X86_64_UNKNOWN_LINUX_GNU_LINKER
     export CARGO_TARGET_X86_64_UNKNOWN_LINUX_GNU_RUNNER
 fi

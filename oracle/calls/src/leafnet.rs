@@ -11,29 +11,35 @@ use crate::record::{read_record, Board, RecordRoom};
 use crate::table::{leaf_order, refine, Slot, WIDTH};
 use std::fmt::Write;
 
-const SLOTS: usize = 64;
-const LONGEST_INPUT: usize = 16_384;
-const ROOM: RecordRoom =
+pub const SLOTS: usize = 64;
+/// Longer input is refused unread.
+pub const LONGEST_INPUT: usize = 16_384;
+pub const ROOM: RecordRoom =
     RecordRoom { layers: LAYER_ENTRIES, polygons: POLYGONS, points: RING_POINTS, splits: 256 };
 
 /// A board that was split and balanced, and its net.
-struct Meshed {
+pub struct Meshed {
     table: Vec<i64>,
     count: usize,
-    splits: u64,
+    pub splits: u64,
     leaves: Vec<u64>,
-    net: Net,
+    pub net: Net,
 }
 
 /// All that the program prints for this input.
 pub fn leafnet(input: &[u8]) -> String {
-    match mesh(input) {
+    printed(&mesh(input))
+}
+
+pub fn printed(answer: &Answer<Meshed>) -> String {
+    match answer {
         Ok(meshed) => meshed.text(),
         Err(refusal) => format!("refused {} {}\n", refusal.number, refusal.place),
     }
 }
 
-fn mesh(input: &[u8]) -> Answer<Meshed> {
+/// Reads, builds, splits and balances the board of this input, and makes its net.
+pub fn mesh(input: &[u8]) -> Answer<Meshed> {
     require(input.len() <= LONGEST_INPUT, 6, 0)?;
     let board = read_record(input, &ROOM)?;
     let mut table = vec![0; SLOTS * WIDTH];

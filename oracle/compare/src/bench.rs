@@ -14,41 +14,77 @@ pub mod network;
 #[cfg(feature = "power")]
 pub mod power;
 
-use std::time::{Duration, Instant};
+#[cfg(feature = "heap")]
+mod heap;
+
+use std::time::Duration;
+#[cfg(not(feature = "heap"))]
+use std::time::Instant;
 
 /// Rounds are repeated until so much time has gone by.
-const ENOUGH: Duration = Duration::from_millis(600);
+#[cfg(not(feature = "heap"))]
+const ENOUGH: Duration = Duration::from_millis(1_500);
 
-/// The shortest of several rounds, and what the last one left.
-type Best<T> = (Duration, T);
-
-fn timed(work: impl FnOnce()) -> Duration {
-    let start = Instant::now();
-    work();
-    start.elapsed()
+/// What a call costs: its time or, in the run that counts it, its heap.
+#[derive(Clone, Copy)]
+struct Cost {
+    time: Duration,
+    #[cfg(feature = "heap")]
+    heap: usize,
 }
 
-fn best<T>(mut round: impl FnMut() -> (Duration, T)) -> Best<T> {
+/// The least of several rounds, and what the last one left.
+type Best<T> = (Cost, T);
+
+#[cfg(not(feature = "heap"))]
+fn timed(work: impl FnOnce()) -> Cost {
+    let start = Instant::now();
+    work();
+    Cost { time: start.elapsed() }
+}
+
+#[cfg(feature = "heap")]
+fn timed(work: impl FnOnce()) -> Cost {
+    Cost { time: Duration::ZERO, heap: heap::most_bytes(work) }
+}
+
+#[cfg(not(feature = "heap"))]
+fn best<T>(mut round: impl FnMut() -> (Cost, T)) -> Best<T> {
     let start = Instant::now();
     let (mut least, mut left) = round();
     while start.elapsed() < ENOUGH {
-        let (time, again) = round();
-        least = least.min(time);
+        let (cost, again) = round();
+        least.time = least.time.min(cost.time);
         left = again;
     }
     (least, left)
 }
 
-/// Prints both times; true if both left the same.
+#[cfg(feature = "heap")]
+fn best<T>(mut round: impl FnMut() -> (Cost, T)) -> Best<T> {
+    round()
+}
+
+/// Prints both costs; true if both left the same.
 fn compare<T: PartialEq>(what: &str, port: Best<T>, original: Best<T>) -> bool {
-    let (port_time, original_time) = (port.0.as_secs_f64(), original.0.as_secs_f64());
     let same = port.1 == original.1;
-    println!(
-        "{what}: port {:.3} ms, original {:.3} ms, ratio {:.3}{}",
-        port_time * 1e3,
-        original_time * 1e3,
-        port_time / original_time,
-        if same { "" } else { ", ANSWERS DIFFER" }
-    );
+    let differ = if same { "" } else { ", ANSWERS DIFFER" };
+    println!("{what}: {}{differ}", side_by_side(&port.0, &original.0));
     same
+}
+
+#[cfg(not(feature = "heap"))]
+fn side_by_side(port: &Cost, original: &Cost) -> String {
+    let (port, original) = (port.time.as_secs_f64(), original.time.as_secs_f64());
+    format!(
+        "port {:.3} ms, original {:.3} ms, ratio {:.3}",
+        port * 1e3,
+        original * 1e3,
+        port / original
+    )
+}
+
+#[cfg(feature = "heap")]
+fn side_by_side(port: &Cost, original: &Cost) -> String {
+    format!("heap of the port {} bytes, of the original {} bytes", port.heap, original.heap)
 }

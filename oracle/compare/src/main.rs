@@ -18,6 +18,8 @@ mod checks;
 mod contact;
 #[cfg(feature = "even")]
 mod even;
+#[cfg(feature = "leafnet")]
+mod leafnet;
 #[cfg(feature = "network")]
 mod network;
 mod port;
@@ -86,6 +88,8 @@ const GROUPS: &[Group] = &[
         compare: checks::compare,
         bench: Some(bench::checks::run),
     },
+    #[cfg(feature = "leafnet")]
+    Group { name: "leafnet", count: 6_000, compare: leafnet::compare, bench: None },
 ];
 
 fn main() -> ExitCode {
@@ -112,8 +116,10 @@ fn run_comparisons(words: &[String]) -> Result<bool, String> {
     let mut same = true;
     for group in groups {
         let start = Instant::now();
-        same &= (group.compare)(count.unwrap_or(group.count), seed);
-        println!("{}: {:.1} s, seed {seed}", group.name, start.elapsed().as_secs_f64());
+        let count = count.unwrap_or(group.count);
+        same &= (group.compare)(count, seed);
+        let seconds = start.elapsed().as_secs_f64();
+        println!("{}: {seconds:.1} s, count {count}, seed {seed}", group.name);
     }
     Ok(same)
 }

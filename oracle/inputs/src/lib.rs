@@ -16,5 +16,6 @@ pub mod rectangles;
 pub mod ring_faults;
 pub mod rings;
 pub mod tables;
+pub mod whole_boards;
 
 pub use random::Random;

@@ -125,7 +125,7 @@ pub fn bad_sheets() -> [f64; 9] {
 }
 
 /// The east or the north end of the ring moves out by one or two ticks.
-fn make_uneven(ring: &mut Vec<TickPoint>, random: &mut Random) {
+pub fn make_uneven(ring: &mut Vec<TickPoint>, random: &mut Random) {
     pad(ring, 1, random);
     let axis = random.index(2);
     let most = ring.iter().map(|point| point[axis]).max().unwrap_or(0);

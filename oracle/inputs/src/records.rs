@@ -279,7 +279,8 @@ pub fn random_record(random: &mut Random) -> Vec<u8> {
     record
 }
 
-fn damage_record(record: &mut Vec<u8>, random: &mut Random) {
+/// One byte or a few cut off, put in, taken out or changed, mostly behind the length.
+pub fn damage_record(record: &mut Vec<u8>, random: &mut Random) {
     if record.is_empty() {
         return;
     }

@@ -1,0 +1,19 @@
+#!/bin/sh
+# Runs all benchmarks and writes docs/BENCHMARK.md from what they print: times of port and original in
+# one run, then in another run the heap that each takes.
+#
+#   write_benchmark.sh
+#
+# Exits with 1 if answers differ.
+set -eu
+cd "$(dirname "$0")"
+
+said=$(mktemp)
+trap 'rm -f "$said"' EXIT
+./compare.sh bench >"$said"
+# The port has just been made.
+LEAFMESH_LIBRARY=${LEAFMESH_LIBRARY:-$(cd .. && pwd)/target/staticlib} LEAFMESH_PROGRAM=unused \
+    ./compare.sh heap >>"$said"
+
+awk -f benchmark.awk "$said" benchmark_text.md >../docs/BENCHMARK.md
+cat ../docs/BENCHMARK.md
