@@ -1,0 +1,41 @@
+-- `cases::load::rectangles_part` meets its contract: what was lent of the row is as long as the case says. Assumes nothing.
+use mathlib.Core.Path.{sym}
+use native.Mathlib.Omega.{arith}
+use lib.Seq.{length-take-le}
+use Rattle.cases.proofs.Fronts.{front-kept}
+use borrow.Author.Needs.{needs}
+use Rattle.cases.proofs.load.rectangles_part.Statement.{statement}
+use Rattle.cases.proofs.load.rectangles_part.Tie as tie
+
+word-requires : tie.Need-word-requires
+word-requires c κs = search needs
+
+returns : tie.Need-returns
+returns c = search needs
+
+slice-relend-prefix-rectangles : tie.Need-slice-relend-prefix-rectangles
+slice-relend-prefix-rectangles c = search needs
+
+slice-aggregate-rectangles : tie.Need-slice-aggregate-rectangles
+slice-aggregate-rectangles c = sym (length-take-le _ _ (omega arith))
+
+rectangles-requires : tie.Need-rectangles-requires
+rectangles-requires c κs = search needs
+
+same-length : tie.Need-same-length
+same-length c = search needs
+
+returns-2 : tie.Need-returns-2
+returns-2 c = front-kept (c .before .before .before .before .word .result .value) (c .before .rectangles .last .1 .1 .0) (c .before .before .before .before .before .before .args .row .now) (omega arith) (c .before .rectangles .kept .1 .1 .0)
+
+pub rectangles-part-spec : {M : Type 1} → statement M
+rectangles-part-spec =
+    tie.close
+    (tie.spec
+    word-requires
+    returns
+    slice-relend-prefix-rectangles
+    slice-aggregate-rectangles
+    rectangles-requires
+    same-length
+    returns-2)
