@@ -10,18 +10,14 @@
 # but taken from there.
 set -eu
 
-# The groups of calls that the library exports, beside contact: any of "table even strips build
-# record power network checks", and the program leafnet. A group is switched on here once its calls
-# are exported; even brings table with it, and build brings strips.
-FEATURES="table even strips build record network power checks leafnet"
-
 cd "$(dirname "$0")"
 . ./setup.sh
 [ -n "${LEAFMESH_LIBRARY:-}" ] || (cd .. && rt staticlib leafmesh >&2)
 [ -n "${LEAFMESH_PROGRAM:-}" ] || (cd .. && rt check leafnet >&2)
+features=""
 if [ "${1:-}" = heap ]; then
     shift
-    FEATURES="$FEATURES heap"
+    features=heap
     set -- bench "$@"
 fi
-exec cargo run --offline --release --quiet -p compare --features "$FEATURES" -- "$@"
+exec cargo run --offline --release --quiet -p compare --features "$features" -- "$@"

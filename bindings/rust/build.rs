@@ -1,9 +1,10 @@
-//! Links the proved library, which `rt staticlib leafmesh` leaves under the repository's root.
+//! Links the proved library, which `rt staticlib leafmesh` leaves under the repository's root. Crates that
+//! depend on this one get it from here.
 
 use std::env;
 use std::path::{Path, PathBuf};
 
-/// Seen from this crate. `LEAFMESH_LIBRARY` names another folder.
+/// `LEAFMESH_LIBRARY` names another folder. Either is seen from this crate unless it is absolute.
 const DEFAULT_FOLDER: &str = "../../target/staticlib";
 
 fn main() {
@@ -19,10 +20,6 @@ fn main() {
 }
 
 fn library_folder() -> PathBuf {
-    match env::var_os("LEAFMESH_LIBRARY") {
-        Some(folder) => PathBuf::from(folder),
-        None => {
-            Path::new(&env::var("CARGO_MANIFEST_DIR").expect("cargo sets it")).join(DEFAULT_FOLDER)
-        }
-    }
+    let folder = env::var_os("LEAFMESH_LIBRARY").unwrap_or_else(|| DEFAULT_FOLDER.into());
+    Path::new(&env::var_os("CARGO_MANIFEST_DIR").expect("cargo sets it")).join(folder)
 }

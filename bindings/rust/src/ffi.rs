@@ -1,17 +1,28 @@
-//! The C names of the library. A slice is a pointer and a length.
+//! The raw declarations of include/leafmesh.h, which says what each function does. A row is a pointer and
+//! the number of its entries; where the number is 0 the pointer may be null. The functions of the crate's
+//! root are these behind slices and `Result`.
+//!
+//! # Safety
+//!
+//! Of every function: each pointer must be that of a row of as many entries as the length behind it says,
+//! the row must live for the call, and one that is written must not overlap another of the same call.
+//! Numbers may be any.
 
 use crate::{Point, Rect};
 
+/// What most calls answer. Number 0 is accepted, others are the refusals. What has no meaning is 0: the
+/// place of an accepted call, the value of a refused one.
 #[repr(C)]
-#[derive(Clone, Copy)]
+#[derive(Clone, Copy, Debug, Default, PartialEq, Eq)]
 pub struct Outcome {
     pub number: u64,
     pub place: u64,
     pub value: u64,
 }
 
+/// Settings and row counts of a record; zeros behind a refusal.
 #[repr(C)]
-#[derive(Clone, Copy)]
+#[derive(Clone, Copy, Debug, Default, PartialEq, Eq)]
 pub struct ReadOutcome {
     pub number: u64,
     pub place: u64,
@@ -24,8 +35,9 @@ pub struct ReadOutcome {
     pub splits: u64,
 }
 
+/// How many nodes, edges and cells a net has; zeros behind a refusal.
 #[repr(C)]
-#[derive(Clone, Copy)]
+#[derive(Clone, Copy, Debug, Default, PartialEq, Eq)]
 pub struct NetOutcome {
     pub number: u64,
     pub place: u64,
@@ -34,8 +46,9 @@ pub struct NetOutcome {
     pub cells: u64,
 }
 
+/// Broken is 1 where a node hangs; zeros where none does, and behind a refusal.
 #[repr(C)]
-#[derive(Clone, Copy)]
+#[derive(Clone, Copy, Debug, Default, PartialEq, Eq)]
 pub struct CheckOutcome {
     pub number: u64,
     pub place: u64,

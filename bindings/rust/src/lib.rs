@@ -3,6 +3,9 @@
 //! Coordinates are whole ticks of 2^-38 m. Every call takes any input and answers `Ok`, or `Err` with a
 //! [`Refusal`]; a refused call changes nothing that it was lent. No call allocates.
 //!
+//! The build links `libleafmesh.a` from target/staticlib under the repository's root, where `rt staticlib
+//! leafmesh` leaves it, or from the folder that `LEAFMESH_LIBRARY` names.
+//!
 //! ```
 //! use leafmesh::{balance, build, network, refine, Head, NetRows, Outlines, Settings};
 //!
@@ -28,7 +31,7 @@
 //! ```
 
 pub mod drawing;
-mod ffi;
+pub mod ffi;
 mod refusal;
 pub mod text;
 

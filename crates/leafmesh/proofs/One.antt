@@ -1,7 +1,8 @@
--- The contracts of the calls that are exported here permit one answer each: any two of which the same is said are one. (Contact, table,
--- power and the checks have this law beside them.) Assumes nothing.
+-- The contracts of the exported calls, and of the calls beneath them, permit one answer each. An export's contract gives the whole answer;
+-- of the others, any two answers of which the same is said are one. (Contact, table, power and the checks have this law beside them.)
+-- Assumes nothing.
 use Prim.Native.Nat.{ℕ}
-use mathlib.Core.Path.{_≡_, refl}
+use mathlib.Core.Path.{_≡_, refl, sym, _∙_}
 use mathlib.Core.List.{List, [], _∷_}
 use lib.ListN.{getD}
 use Rattle.refusals.specs.Said.{Said}
@@ -24,6 +25,10 @@ use Rattle.network.specs.Says.{nettedSaid}
 use Rattle.writing.specs.declared.Written.{Written}
 use Rattle.writing.specs.declared.Written.the-variants as W
 use Rattle.writing.specs.Written.{writeSaid}
+
+-- where the contract is `r ≡ outcomeOf ..` or the like
+pub one-exported : {A : Type 0} (what r q : A) → r ≡ what → q ≡ what → r ≡ q
+one-exported what r q p s = p ∙ sym s
 
 abbrev evened : List ℕ → Evening
 evened vs = E.Done (getD vs 0 0) (record { count = getD vs 1 0; «max_level» = getD vs 2 0 })

@@ -1,4 +1,4 @@
--- What an exported call says.
+-- What an exported call answers.
 pub mod Outcome
 pub mod Reads
 pub mod Nets

@@ -1,19 +1,18 @@
--- What a NetOutcome and a CheckOutcome say, in document 01's terms.
+-- A NetOutcome and a CheckOutcome of what a call says: every field is settled, and one that does not apply is 0.
 use Prim.Native.Nat.{ℕ}
-use mathlib.Core.Bool.{cond}
 use mathlib.Core.List.{[], _∷_}
-use lib.Dec.{eqb}
+use lib.ListN.{getD}
 use Rattle.refusals.specs.Said.{Said, accepted, refused}
 use Rattle.leafmesh.specs.declared.nets.NetOutcome.{NetOutcome}
 use Rattle.leafmesh.specs.declared.nets.CheckOutcome.{CheckOutcome}
 
 -- how many nodes, edges and cells
-abbrev pub netOutcomeSaid : NetOutcome → Said
-netOutcomeSaid o = cond (eqb (o .number) 0) (accepted (o .nodes ∷ o .edges ∷ o .cells ∷ [])) (refused (o .number) (o .place))
+abbrev pub netOutcomeOf : Said → NetOutcome
+netOutcomeOf (accepted vs) = record { number = 0; place = 0; nodes = getD vs 0 0; edges = getD vs 1 0; cells = getD vs 2 0 }
+netOutcomeOf (refused n p) = record { number = n; place = p; nodes = 0; edges = 0; cells = 0 }
 
 -- none, or the node and the edge's two ends
-abbrev pub checkOutcomeSaid : CheckOutcome → Said
-checkOutcomeSaid o =
-    cond (eqb (o .number) 0)
-    (cond (eqb (o .broken) 0) (accepted []) (accepted (o .node ∷ o .from ∷ o .to ∷ [])))
-    (refused (o .number) (o .place))
+abbrev pub checkOutcomeOf : Said → CheckOutcome
+checkOutcomeOf (accepted []) = record { number = 0; place = 0; broken = 0; node = 0; from = 0; to = 0 }
+checkOutcomeOf (accepted (m ∷ ends)) = record { number = 0; place = 0; broken = 1; node = m; from = getD ends 0 0; to = getD ends 1 0 }
+checkOutcomeOf (refused n p) = record { number = n; place = p; broken = 0; node = 0; from = 0; to = 0 }

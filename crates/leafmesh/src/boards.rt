@@ -8,8 +8,8 @@ ghost use Rattle.build.specs.Says.{builtSaid, buildSays, buildLeaves};
 ghost use Rattle.board.specs.Rows.{rowsOf};
 ghost use Rattle.board.specs.Reading.{readSaid, readSays, readLeaves};
 ghost use Rattle.writing.specs.Written.{writeSaid, writeSays, writeLeaves};
-ghost use Rattle.leafmesh.specs.Outcome.{outcomeSaid, cutSettings, boardSettings};
-ghost use Rattle.leafmesh.specs.Reads.{readOutcomeSaid};
+ghost use Rattle.leafmesh.specs.Outcome.{outcomeOf, cutSettings, boardSettings};
+ghost use Rattle.leafmesh.specs.Reads.{readOutcomeOf};
 use crate::Outcome;
 use crate::accept;
 use crate::refuse;
@@ -34,7 +34,7 @@ pub struct ReadOutcome {
 }
 
 fn of_stripped(answer: Stripped) -> Outcome
-    ensures { λ r. ⌜ outcomeSaid r ≡ strippedSaid answer ⌝ }
+    ensures { λ r. ⌜ r ≡ outcomeOf (strippedSaid answer) ⌝ }
 {
     match answer {
         Stripped::Done(n) => accept(n as u64),
@@ -43,7 +43,7 @@ fn of_stripped(answer: Stripped) -> Outcome
 }
 
 fn of_built(answer: Built) -> Outcome
-    ensures { λ r. ⌜ outcomeSaid r ≡ builtSaid answer ⌝ }
+    ensures { λ r. ⌜ r ≡ outcomeOf (builtSaid answer) ⌝ }
 {
     match answer {
         Built::Done(n) => accept(n as u64),
@@ -52,7 +52,7 @@ fn of_built(answer: Built) -> Outcome
 }
 
 fn of_written(answer: Written) -> Outcome
-    ensures { λ r. ⌜ outcomeSaid r ≡ writeSaid answer ⌝ }
+    ensures { λ r. ⌜ r ≡ outcomeOf (writeSaid answer) ⌝ }
 {
     match answer {
         Written::Done(n) => accept(n as u64),
@@ -61,7 +61,7 @@ fn of_written(answer: Written) -> Outcome
 }
 
 fn unread(why: Refusal) -> ReadOutcome
-    ensures { λ r. ⌜ readOutcomeSaid r ≡ refusal why ⌝ }
+    ensures { λ r. ⌜ r ≡ readOutcomeOf (refusal why) ⌝ }
 {
     let code = refusals::code_of(why);
     ReadOutcome {
@@ -78,7 +78,7 @@ fn unread(why: Refusal) -> ReadOutcome
 }
 
 fn of_read(answer: Read) -> ReadOutcome
-    ensures { λ r. ⌜ readOutcomeSaid r ≡ readSaid answer ⌝ }
+    ensures { λ r. ⌜ r ≡ readOutcomeOf (readSaid answer) ⌝ }
 {
     match answer {
         Read::Done(s, n) => ReadOutcome {
@@ -99,7 +99,7 @@ fn of_read(answer: Read) -> ReadOutcome
 // The strips of a ring: value is how many.
 #[no_mangle]
 pub extern "C" fn leafmesh_strips(points: &[[i64; 2]], out: &mut [[i64; 4]]) -> Outcome
-    ensures { λ r. ⌜ outcomeSaid r ≡ stripsSays (now (points .entry)) (length (now (out .entry))) ⌝ }
+    ensures { λ r. ⌜ r ≡ outcomeOf (stripsSays (now (points .entry)) (length (now (out .entry)))) ⌝ }
     ensures { λ _. ⌜ now (out .exit) ≡ stripsLeave (now (points .entry)) (now (out .entry)) ⌝ }
 {
     of_stripped(strips::strips(points, out))
@@ -119,7 +119,7 @@ pub extern "C" fn leafmesh_build(
     points: &[[i64; 2]],
     table: &mut [i64],
 ) -> Outcome
-    ensures { λ r. ⌜ outcomeSaid r ≡ buildSays (board (cutSettings «max_level» cap target) (now (list .entry)) (now (layers .entry)) (now (counts .entry)) (now (points .entry))) (now (components .entry)) (now (sheets .entry)) (length (now (table .entry))) ⌝ }
+    ensures { λ r. ⌜ r ≡ outcomeOf (buildSays (board (cutSettings «max_level» cap target) (now (list .entry)) (now (layers .entry)) (now (counts .entry)) (now (points .entry))) (now (components .entry)) (now (sheets .entry)) (length (now (table .entry)))) ⌝ }
     ensures { λ _. ⌜ now (table .exit) ≡ buildLeaves (board (cutSettings «max_level» cap target) (now (list .entry)) (now (layers .entry)) (now (counts .entry)) (now (points .entry))) (now (components .entry)) (now (sheets .entry)) (now (table .entry)) ⌝ }
 {
     let s = build::Settings {
@@ -140,7 +140,7 @@ pub extern "C" fn leafmesh_read(
     points: &mut [[i64; 2]],
     splits: &mut [u64],
 ) -> ReadOutcome
-    ensures { λ r. ⌜ readOutcomeSaid r ≡ readSays (now (bytes .entry)) (rowsOf (now (layers .entry)) (now (polygons .entry)) (now (sheets .entry)) (now (points .entry)) (now (splits .entry))) ⌝ }
+    ensures { λ r. ⌜ r ≡ readOutcomeOf (readSays (now (bytes .entry)) (rowsOf (now (layers .entry)) (now (polygons .entry)) (now (sheets .entry)) (now (points .entry)) (now (splits .entry)))) ⌝ }
     ensures { λ _. ⌜ rowsOf (now (layers .exit)) (now (polygons .exit)) (now (sheets .exit)) (now (points .exit)) (now (splits .exit)) ≡ readLeaves (now (bytes .entry)) (rowsOf (now (layers .entry)) (now (polygons .entry)) (now (sheets .entry)) (now (points .entry)) (now (splits .entry))) ⌝ }
 {
     of_read(board::read(bytes, layers, polygons, sheets, points, splits))
@@ -159,7 +159,7 @@ pub extern "C" fn leafmesh_write(
     splits: &[u64],
     out: &mut [u8],
 ) -> Outcome
-    ensures { λ r. ⌜ outcomeSaid r ≡ writeSays (rowsOf (now (layers .entry)) (now (polygons .entry)) (now (sheets .entry)) (now (points .entry)) (now (splits .entry))) (length (now (out .entry))) ⌝ }
+    ensures { λ r. ⌜ r ≡ outcomeOf (writeSays (rowsOf (now (layers .entry)) (now (polygons .entry)) (now (sheets .entry)) (now (points .entry)) (now (splits .entry))) (length (now (out .entry)))) ⌝ }
     ensures { λ _. ⌜ now (out .exit) ≡ writeLeaves (boardSettings level cap target) (rowsOf (now (layers .entry)) (now (polygons .entry)) (now (sheets .entry)) (now (points .entry)) (now (splits .entry))) (now (out .entry)) ⌝ }
 {
     let s = record::Settings {

@@ -10,7 +10,7 @@ ghost use Rattle.table.specs.Leaves.{leafIds, orderIds, listedSaid, leafCountSa
 ghost use Rattle.table.specs.Refine.{refinedSaid, refineSays, refineRow};
 ghost use Rattle.coarsest.specs.Passes.{balancing, conforming};
 ghost use Rattle.even.specs.Even.{eveningSaid, evenSays, evenRow};
-ghost use Rattle.leafmesh.specs.Outcome.{outcomeSaid, firstOf, rectOf};
+ghost use Rattle.leafmesh.specs.Outcome.{outcomeOf, rectOf};
 
 pub mod boards;
 pub mod nets;
@@ -24,6 +24,7 @@ use table::leaves::Listed;
 use table::refine::Refined;
 
 // number is 0 where the call was accepted, and value then its answer; otherwise the refusal's number, with its place.
+// In every answer of this library a field that does not apply is 0.
 #[repr(C)]
 pub struct Outcome {
     pub number: u64,
@@ -32,7 +33,7 @@ pub struct Outcome {
 }
 
 pub fn accept(value: u64) -> Outcome
-    ensures { λ r. ⌜ outcomeSaid r ≡ accepted (value ∷ []) ⌝ }
+    ensures { λ r. ⌜ r ≡ outcomeOf (accepted (value ∷ [])) ⌝ }
 {
     Outcome {
         number: 0,
@@ -42,7 +43,7 @@ pub fn accept(value: u64) -> Outcome
 }
 
 pub fn refuse(why: Refusal) -> Outcome
-    ensures { λ r. ⌜ outcomeSaid r ≡ refusal why ⌝ }
+    ensures { λ r. ⌜ r ≡ outcomeOf (refusal why) ⌝ }
 {
     let code = refusals::code_of(why);
     Outcome {
@@ -59,7 +60,7 @@ fn bit_of(b: bool) -> u64
 }
 
 fn of_contact(answer: Contact) -> Outcome
-    ensures { λ r. ⌜ outcomeSaid r ≡ contactSaid answer ⌝ }
+    ensures { λ r. ⌜ r ≡ outcomeOf (contactSaid answer) ⌝ }
 {
     match answer {
         Contact::Shares(shared) => accept(bit_of(shared)),
@@ -68,7 +69,7 @@ fn of_contact(answer: Contact) -> Outcome
 }
 
 fn of_listed(answer: Listed) -> Outcome
-    ensures { λ r. ⌜ outcomeSaid r ≡ listedSaid answer ⌝ }
+    ensures { λ r. ⌜ r ≡ outcomeOf (listedSaid answer) ⌝ }
 {
     match answer {
         Listed::Count(n) => accept(n as u64),
@@ -77,7 +78,7 @@ fn of_listed(answer: Listed) -> Outcome
 }
 
 fn of_refined(answer: Refined) -> Outcome
-    ensures { λ r. ⌜ outcomeSaid r ≡ firstOf (refinedSaid answer) ⌝ }
+    ensures { λ r. ⌜ r ≡ outcomeOf (refinedSaid answer) ⌝ }
 {
     match answer {
         Refined::Done(head) => accept(head.count as u64),
@@ -86,7 +87,7 @@ fn of_refined(answer: Refined) -> Outcome
 }
 
 fn of_evening(answer: Evening) -> Outcome
-    ensures { λ r. ⌜ outcomeSaid r ≡ firstOf (eveningSaid answer) ⌝ }
+    ensures { λ r. ⌜ r ≡ outcomeOf (eveningSaid answer) ⌝ }
 {
     match answer {
         Evening::Done(splits, _) => accept(splits as u64),
@@ -106,7 +107,7 @@ pub extern "C" fn leafmesh_contact(
     bx1: i64,
     by1: i64,
 ) -> Outcome
-    ensures { λ r. ⌜ outcomeSaid r ≡ contactSays (rectOf ax0 ay0 ax1 ay1) (rectOf bx0 by0 bx1 by1) ⌝ }
+    ensures { λ r. ⌜ r ≡ outcomeOf (contactSays (rectOf ax0 ay0 ax1 ay1) (rectOf bx0 by0 bx1 by1)) ⌝ }
 {
     let a = Rect {
         x0: ax0,
@@ -126,7 +127,7 @@ pub extern "C" fn leafmesh_contact(
 // How many leaves the table has.
 #[no_mangle]
 pub extern "C" fn leafmesh_leaf_count(table: &[i64], count: usize, max_level: u64) -> Outcome
-    ensures { λ r. ⌜ outcomeSaid r ≡ leafCountSays (now (table .entry)) count «max_level» ⌝ }
+    ensures { λ r. ⌜ r ≡ outcomeOf (leafCountSays (now (table .entry)) count «max_level») ⌝ }
 {
     of_listed(table::leaves::leaf_count(table, Head { count, max_level }))
 }
@@ -139,7 +140,7 @@ pub extern "C" fn leafmesh_leaves(
     max_level: u64,
     out: &mut [u64],
 ) -> Outcome
-    ensures { λ r. ⌜ outcomeSaid r ≡ listSays (wellFormed (now (table .entry)) count «max_level») (leafIds (now (table .entry)) count) (now (out .entry)) ⌝ }
+    ensures { λ r. ⌜ r ≡ outcomeOf (listSays (wellFormed (now (table .entry)) count «max_level») (leafIds (now (table .entry)) count) (now (out .entry))) ⌝ }
     ensures { λ _. ⌜ now (out .exit) ≡ listRow (wellFormed (now (table .entry)) count «max_level») (leafIds (now (table .entry)) count) (now (out .entry)) ⌝ }
 {
     of_listed(table::leaves::leaves(table, Head { count, max_level }, out))
@@ -153,7 +154,7 @@ pub extern "C" fn leafmesh_leaf_order(
     max_level: u64,
     out: &mut [u64],
 ) -> Outcome
-    ensures { λ r. ⌜ outcomeSaid r ≡ listSays (wellFormed (now (table .entry)) count «max_level») (orderIds (now (table .entry)) count) (now (out .entry)) ⌝ }
+    ensures { λ r. ⌜ r ≡ outcomeOf (listSays (wellFormed (now (table .entry)) count «max_level») (orderIds (now (table .entry)) count) (now (out .entry))) ⌝ }
     ensures { λ _. ⌜ now (out .exit) ≡ listRow (wellFormed (now (table .entry)) count «max_level») (orderIds (now (table .entry)) count) (now (out .entry)) ⌝ }
 {
     of_listed(table::leaves::leaf_order(table, Head { count, max_level }, out))
@@ -167,7 +168,7 @@ pub extern "C" fn leafmesh_refine(
     max_level: u64,
     id: usize,
 ) -> Outcome
-    ensures { λ r. ⌜ outcomeSaid r ≡ firstOf (refineSays (now (table .entry)) count «max_level» id) ⌝ }
+    ensures { λ r. ⌜ r ≡ outcomeOf (refineSays (now (table .entry)) count «max_level» id) ⌝ }
     ensures { λ _. ⌜ now (table .exit) ≡ refineRow (now (table .entry)) count «max_level» id ⌝ }
 {
     of_refined(table::refine::refine(table, Head { count, max_level }, id))
@@ -176,7 +177,7 @@ pub extern "C" fn leafmesh_refine(
 // Balances the table: value is the number of splits, each four cells more.
 #[no_mangle]
 pub extern "C" fn leafmesh_balance(table: &mut [i64], count: usize, max_level: u64) -> Outcome
-    ensures { λ r. ⌜ outcomeSaid r ≡ firstOf (evenSays balancing 1 (now (table .entry)) count «max_level») ⌝ }
+    ensures { λ r. ⌜ r ≡ outcomeOf (evenSays balancing 1 (now (table .entry)) count «max_level») ⌝ }
     ensures { λ _. ⌜ now (table .exit) ≡ evenRow balancing 1 (now (table .entry)) count «max_level» ⌝ }
 {
     of_evening(even::balance(table, Head { count, max_level }))
@@ -185,7 +186,7 @@ pub extern "C" fn leafmesh_balance(table: &mut [i64], count: usize, max_level: u
 // The same until no two neighbours differ in level.
 #[no_mangle]
 pub extern "C" fn leafmesh_conform(table: &mut [i64], count: usize, max_level: u64) -> Outcome
-    ensures { λ r. ⌜ outcomeSaid r ≡ firstOf (evenSays conforming 0 (now (table .entry)) count «max_level») ⌝ }
+    ensures { λ r. ⌜ r ≡ outcomeOf (evenSays conforming 0 (now (table .entry)) count «max_level») ⌝ }
     ensures { λ _. ⌜ now (table .exit) ≡ evenRow conforming 0 (now (table .entry)) count «max_level» ⌝ }
 {
     of_evening(even::conform(table, Head { count, max_level }))

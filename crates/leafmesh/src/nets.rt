@@ -10,8 +10,8 @@ ghost use Rattle.network.specs.Says.{polygons, rows, nettedSaid, networkSays, n
 ghost use Rattle.conforming.specs.Checks as Checks;
 ghost use Rattle.checks.specs.Rooms.{workRow};
 ghost use Rattle.power.specs.Powers.{powerSaid, powerSays, powerRow};
-ghost use Rattle.leafmesh.specs.Outcome.{outcomeSaid, padded};
-ghost use Rattle.leafmesh.specs.Nets.{netOutcomeSaid, checkOutcomeSaid};
+ghost use Rattle.leafmesh.specs.Outcome.{outcomeOf};
+ghost use Rattle.leafmesh.specs.Nets.{netOutcomeOf, checkOutcomeOf};
 use crate::Outcome;
 use crate::accept;
 use crate::refuse;
@@ -31,7 +31,7 @@ pub struct NetOutcome {
     pub cells: u64,
 }
 
-// What a check found: broken is 1 where the node lacks a half of the leaf edge between the two ends.
+// What a check found: broken is 1 where the node lacks a half of the leaf edge between the two ends, 0 where none does.
 #[repr(C)]
 pub struct CheckOutcome {
     pub number: u64,
@@ -43,7 +43,7 @@ pub struct CheckOutcome {
 }
 
 fn unmade(why: Refusal) -> NetOutcome
-    ensures { λ r. ⌜ netOutcomeSaid r ≡ refusal why ⌝ }
+    ensures { λ r. ⌜ r ≡ netOutcomeOf (refusal why) ⌝ }
 {
     let code = refusals::code_of(why);
     NetOutcome {
@@ -56,7 +56,7 @@ fn unmade(why: Refusal) -> NetOutcome
 }
 
 fn of_netted(answer: Netted) -> NetOutcome
-    ensures { λ r. ⌜ netOutcomeSaid r ≡ nettedSaid answer ⌝ }
+    ensures { λ r. ⌜ r ≡ netOutcomeOf (nettedSaid answer) ⌝ }
 {
     match answer {
         Netted::Done(c) => NetOutcome {
@@ -71,7 +71,7 @@ fn of_netted(answer: Netted) -> NetOutcome
 }
 
 fn unchecked(why: Refusal) -> CheckOutcome
-    ensures { λ r. ⌜ checkOutcomeSaid r ≡ refusal why ⌝ }
+    ensures { λ r. ⌜ r ≡ checkOutcomeOf (refusal why) ⌝ }
 {
     let code = refusals::code_of(why);
     CheckOutcome {
@@ -85,7 +85,7 @@ fn unchecked(why: Refusal) -> CheckOutcome
 }
 
 fn of_checked(answer: Checked) -> CheckOutcome
-    ensures { λ r. ⌜ checkOutcomeSaid r ≡ Checks.checkedSaid answer ⌝ }
+    ensures { λ r. ⌜ r ≡ checkOutcomeOf (Checks.checkedSaid answer) ⌝ }
 {
     match answer {
         Checked::Conforms => CheckOutcome {
@@ -109,7 +109,7 @@ fn of_checked(answer: Checked) -> CheckOutcome
 }
 
 fn of_power(answer: Power) -> Outcome
-    ensures { λ r. ⌜ outcomeSaid r ≡ padded (powerSaid answer) ⌝ }
+    ensures { λ r. ⌜ r ≡ outcomeOf (powerSaid answer) ⌝ }
 {
     match answer {
         Power::Done => accept(0),
@@ -128,7 +128,7 @@ pub extern "C" fn leafmesh_power(
     potentials: &[f64],
     answers: &mut [f64],
 ) -> Outcome
-    ensures { λ r. ⌜ outcomeSaid r ≡ padded (powerSays (netOf (now (nodes .entry)) (now (ends .entry)) (now (conductances .entry)) (now (corners .entry)) (now (sheets .entry))) (now (potentials .entry)) (now (answers .entry))) ⌝ }
+    ensures { λ r. ⌜ r ≡ outcomeOf (powerSays (netOf (now (nodes .entry)) (now (ends .entry)) (now (conductances .entry)) (now (corners .entry)) (now (sheets .entry))) (now (potentials .entry)) (now (answers .entry))) ⌝ }
     ensures { λ _. ⌜ now (answers .exit) ≡ powerRow (netOf (now (nodes .entry)) (now (ends .entry)) (now (conductances .entry)) (now (corners .entry)) (now (sheets .entry))) (now (potentials .entry)) (now (answers .entry)) ⌝ }
 {
     of_power(power::cell_power(
@@ -158,7 +158,7 @@ pub extern "C" fn leafmesh_network(
     cells: &mut [f64],
     work: &mut [u64],
 ) -> NetOutcome
-    ensures { λ r. ⌜ netOutcomeSaid r ≡ networkSays (now (table .entry)) count «max_level» (polygons (now (layers .entry)) (now (components .entry)) (now (sheets .entry))) (rows (now (nodes .entry)) (now (ends .entry)) (now (conductances .entry)) (now (corners .entry)) (now (cells .entry)) (now (work .entry))) ⌝ }
+    ensures { λ r. ⌜ r ≡ netOutcomeOf (networkSays (now (table .entry)) count «max_level» (polygons (now (layers .entry)) (now (components .entry)) (now (sheets .entry))) (rows (now (nodes .entry)) (now (ends .entry)) (now (conductances .entry)) (now (corners .entry)) (now (cells .entry)) (now (work .entry)))) ⌝ }
     ensures { λ _. ⌜ rows (now (nodes .exit)) (now (ends .exit)) (now (conductances .exit)) (now (corners .exit)) (now (cells .exit)) (now (work .exit)) ≡ networkLeaves (now (table .entry)) count «max_level» (polygons (now (layers .entry)) (now (components .entry)) (now (sheets .entry))) (rows (now (nodes .entry)) (now (ends .entry)) (now (conductances .entry)) (now (corners .entry)) (now (cells .entry)) (now (work .entry))) ⌝ }
 {
     of_netted(network::network(
@@ -189,7 +189,7 @@ pub extern "C" fn leafmesh_check_network_conforming(
     sheets: &[f64],
     work: &mut [u64],
 ) -> CheckOutcome
-    ensures { λ r. ⌜ checkOutcomeSaid r ≡ Checks.networkSays (now (table .entry)) count «max_level» (netOf (now (nodes .entry)) (now (ends .entry)) (now (conductances .entry)) (now (corners .entry)) (now (sheets .entry))) ⌝ }
+    ensures { λ r. ⌜ r ≡ checkOutcomeOf (Checks.networkSays (now (table .entry)) count «max_level» (netOf (now (nodes .entry)) (now (ends .entry)) (now (conductances .entry)) (now (corners .entry)) (now (sheets .entry)))) ⌝ }
     ensures { λ _. ⌜ now (work .exit) ≡ workRow (nodeCount (now (nodes .entry))) (length (now (ends .entry)) / 2) (wellFormed (now (table .entry)) count «max_level» && soundNet (netOf (now (nodes .entry)) (now (ends .entry)) (now (conductances .entry)) (now (corners .entry)) (now (sheets .entry)))) (now (work .entry)) ⌝ }
 {
     of_checked(checks::check_network_conforming(
@@ -219,7 +219,7 @@ pub extern "C" fn leafmesh_check_by_layer(
     components: &[u32],
     work: &mut [u64],
 ) -> CheckOutcome
-    ensures { λ r. ⌜ checkOutcomeSaid r ≡ Checks.layersSays (now (table .entry)) count «max_level» (netOf (now (nodes .entry)) (now (ends .entry)) (now (conductances .entry)) (now (corners .entry)) (now (sheets .entry))) (now (layers .entry)) (now (components .entry)) ⌝ }
+    ensures { λ r. ⌜ r ≡ checkOutcomeOf (Checks.layersSays (now (table .entry)) count «max_level» (netOf (now (nodes .entry)) (now (ends .entry)) (now (conductances .entry)) (now (corners .entry)) (now (sheets .entry))) (now (layers .entry)) (now (components .entry))) ⌝ }
     ensures { λ _. ⌜ now (work .exit) ≡ workRow (nodeCount (now (nodes .entry))) (length (now (ends .entry)) / 2) (wellFormed (now (table .entry)) count «max_level» && soundNet (netOf (now (nodes .entry)) (now (ends .entry)) (now (conductances .entry)) (now (corners .entry)) (now (sheets .entry))) && Checks.polygonsFit (now (table .entry)) count (now (layers .entry)) (now (components .entry))) (now (work .entry)) ⌝ }
 {
     of_checked(checks::check_by_layer(

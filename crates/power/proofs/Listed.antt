@@ -1,6 +1,6 @@
 -- A row that is filled from the front. Assumes nothing.
 use Prim.Native.Nat.{ℕ, zero, suc, _+_, _<_}
-use mathlib.Core.Path.{_≡_, refl, sym, _∙_}
+use mathlib.Core.Path.{_≡_, refl, sym, ap, _∙_}
 use mathlib.Core.List.{List, [], _∷_, _++_, append-assoc}
 use native.Mathlib.Numerals.{add-one}
 use mathlib.Core.Logic.{⊎-elim}
@@ -25,7 +25,7 @@ listed-at f (suc n) i d h =
     (λ (l : i < n). List·getD-append (listed f n) (f n ∷ []) d i (rw (listed-length f n) l) ∙ listed-at f n i d l)
     (eq-or-lt-of-le (omega arith))
 
--- the row before the first turn, and after one more
+-- the row before the first turn, after one more, and after two more
 pub front-none : (f : ℕ → Float) (row : List Float) → row ≡ listed f 0 ++ drop 0 row
 unfolding listed
 front-none f row = refl
@@ -38,3 +38,8 @@ front-more f row i d h =
 
 pub front-turn : (f : ℕ → Float) (row₀ row : List Float) (i : ℕ) (v : Float) → i < length row₀ → row ≡ listed f i ++ drop i row₀ → v ≡ f i → set row i v ≡ listed f (i + 1) ++ drop (i + 1) row₀
 front-turn f row₀ row i v h e k = rw (e, k) (front-more f row₀ i nan h)
+
+pub front-two : (f : ℕ → Float) (row₀ row : List Float) (i : ℕ) (v w : Float) → i + 1 < length row₀ → row ≡ listed f i ++ drop i row₀ → v ≡ f i → w ≡ f (i + 1) → set (set row i v) (i + 1) w ≡ listed f (i + 2) ++ drop (i + 2) row₀
+front-two f row₀ row i v w h e k l =
+    let t : i + 1 + 1 ≡ i + 2 = omega arith in
+    front-turn f row₀ (set row i v) (i + 1) w h (front-turn f row₀ row i v (omega arith) e k) l ∙ ap (λ j. listed f j ++ drop j row₀) t

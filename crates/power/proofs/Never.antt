@@ -20,7 +20,7 @@ use Rattle.sound_net.specs.Nets.{Net, swAt, seAt, neAt, nwAt, soundNet}
 use Rattle.sound_net.proofs.Tests.{yes}
 use Rattle.power.specs.declared.Slope.{Slope}
 use Rattle.power.specs.Formulas.{powerOf}
-use Rattle.power.specs.Powers.{valueAt, gradAt, powerAt, listed, inRanges, powerSays, powerRow}
+use Rattle.power.specs.Powers.{valueAt, valuesAt, gradAt, powerAt, listed, inRanges, powerSays, powerRow}
 use Rattle.power.proofs.Listed.{listed-length, listed-at}
 use Rattle.power.proofs.Verdict.{ranged, sloped, done}
 
@@ -93,7 +93,7 @@ power-nonneg s sheet a b c d e =
 
 -- ---- the power of a cell of a sound net, its values in range
 pub cell-nonneg : (n : Net) (us : List Float) → T (soundNet n) → T (inRanges (n .nodes) (n .sheets) us) → (c : ℕ) → c < length (n .sheets) → T (nonneg (powerAt (n .nodes) (n .corners) (n .sheets) us c))
-unfolding powerAt gradAt
+unfolding powerAt gradAt valuesAt
 cell-nonneg n us s r c h =
     let k = sloped n us s r c h in
     let v = ranged (n .nodes) (n .sheets) us r in

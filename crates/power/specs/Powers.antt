@@ -12,26 +12,34 @@ use Rattle.cell.specs.Ticks.{metresOf}
 use Rattle.floats.specs.Fractions.{inSheet, inPotential}
 use Rattle.sound_net.specs.Nets.{Net, allBelow, nodeCount, xAt, yAt, swAt, seAt, neAt, nwAt, soundNet}
 use Rattle.sound_net.specs.Facts.{SoundCell, Sides}
+use Rattle.power.specs.declared.Values.{Values}
 use Rattle.power.specs.declared.Slope.{Slope}
 use Rattle.power.specs.declared.Power.{Power}
 use Rattle.power.specs.declared.Power.the-variants.{Done, Refused}
 use Rattle.power.specs.Formulas.{slopeOf, powerOf}
 
--- the distance of two coordinates, in metres
-abbrev pub apart : ℤ → ℤ → Float
-apart a b = metresOf (natAbs (b -ℤ a))
-
 abbrev pub valueAt : List Float → ℕ → Float
 valueAt row i = getD row i nan
 
--- slopes and extents of cell c
-unfoldable pub gradAt : List ℤ → List ℕ → List Float → ℕ → Slope
-gradAt nodes corners potentials c =
+-- what the slopes of cell c are worked out from: potentials at SW, SE, NE, NW, and the sides in ticks
+unfoldable pub valuesAt : List ℤ → List ℕ → List Float → ℕ → Values
+valuesAt nodes corners potentials c =
     let sw = swAt corners c in
     let se = seAt corners c in
     let ne = neAt corners c in
     let nw = nwAt corners c in
-    slopeOf (valueAt potentials sw) (valueAt potentials se) (valueAt potentials ne) (valueAt potentials nw) (apart (xAt nodes sw) (xAt nodes se)) (apart (yAt nodes sw) (yAt nodes nw))
+    record {
+      u0 = valueAt potentials sw;
+      u1 = valueAt potentials se;
+      u2 = valueAt potentials ne;
+      u3 = valueAt potentials nw;
+      width = natAbs (xAt nodes se -ℤ xAt nodes sw);
+      height = natAbs (yAt nodes nw -ℤ yAt nodes sw);
+    }
+
+-- slopes and extents of cell c
+unfoldable pub gradAt : List ℤ → List ℕ → List Float → ℕ → Slope
+gradAt nodes corners potentials c = let v = valuesAt nodes corners potentials c in slopeOf (v .u0) (v .u1) (v .u2) (v .u3) (metresOf (v .width)) (metresOf (v .height))
 
 -- the power of cell c
 unfoldable pub powerAt : List ℤ → List ℕ → List Float → List Float → ℕ → Float

@@ -2,15 +2,26 @@
 //
 // The rows of a net are those of `sound_net`. Lengths are in metres.
 ghost use mathlib.Core.Path.{_≡_};
-ghost use Prim.Native.Nat.{ℕ, _+_, _*_, _<_, _≤_};
-ghost use lib.IntN.{pos, _-ℤ_};
+ghost use Prim.Native.Nat.{ℕ, _+_, _*_, _^_, _<_, _≤_};
+ghost use lib.IntN.{pos, natAbs, _-ℤ_};
 ghost use lib.ListN.{length, getD};
+ghost use Rattle.cell.specs.Ticks.{metresOf};
 ghost use Rattle.floats.specs.Fractions.{inSheet, inPotential};
 ghost use Rattle.sound_net.specs.Nets.{netOf, allBelow};
 ghost use Rattle.sound_net.specs.Facts.{Gap};
 ghost use Rattle.power.specs.Formulas.{slopeOf, powerOf};
-ghost use Rattle.power.specs.Powers.{apart, valueAt, gradAt, powered, inRanges, powerSaid, powerSays, powerRow, Sloped};
+ghost use Rattle.power.specs.Powers.{valueAt, valuesAt, powered, inRanges, powerSaid, powerSays, powerRow, Sloped};
 use refusals::Refusal;
+
+// What a cell's slope is worked out from: the potentials at SW, SE, NE, NW and the sides in ticks.
+pub struct Values {
+    pub u0: f64,
+    pub u1: f64,
+    pub u2: f64,
+    pub u3: f64,
+    pub width: u64,
+    pub height: u64,
+}
 
 // A cell's slope and extents.
 pub struct Slope {
@@ -25,13 +36,24 @@ pub enum Power {
     Refused(Refusal),
 }
 
-// The slopes from the potentials at SW, SE, NE, NW and the sides.
-fn slope_of(u0: f64, u1: f64, u2: f64, u3: f64, dx: f64, dy: f64) -> Slope
-    ensures { λ r. ⌜ r ≡ slopeOf u0 u1 u2 u3 dx dy ⌝ }
+// A length in metres. Internal: it is exact. A signed number becomes a fraction in one instruction, an unsigned one in several.
+fn metres(ticks: u64) -> f64
+    requires { ⌜ ticks < 2 ^ 53 ⌝ }
+    ensures { λ r. ⌜ r ≡ metresOf ticks ⌝ }
 {
+    ((ticks as i64) as f64) * cell::Cell::TICK
+}
+
+// A cell's slope and extents from its values. Internal: the sides are those of a sound cell.
+fn cell_grad(v: Values) -> Slope
+    requires { ⌜ (v .width < 2 ^ 53) × (v .height < 2 ^ 53) ⌝ }
+    ensures { λ r. ⌜ r ≡ slopeOf (v .u0) (v .u1) (v .u2) (v .u3) (metresOf (v .width)) (metresOf (v .height)) ⌝ }
+{
+    let dx = metres(v.width);
+    let dy = metres(v.height);
     Slope {
-        gx: ((u1 + u2) - (u0 + u3)) / (2.0 * dx),
-        gy: ((u2 + u3) - (u0 + u1)) / (2.0 * dy),
+        gx: ((v.u1 + v.u2) - (v.u0 + v.u3)) / (2.0 * dx),
+        gy: ((v.u2 + v.u3) - (v.u0 + v.u1)) / (2.0 * dy),
         dx: dx,
         dy: dy,
     }
@@ -43,38 +65,37 @@ fn power_of(s: Slope, sheet: f64) -> f64
     (((s.gx * s.gx + s.gy * s.gy) * s.dx) * s.dy) / sheet
 }
 
-// The metres from one number of the row to a larger one. Internal: both are coordinates in range.
-// A signed number becomes a fraction in one instruction, an unsigned one in several.
-fn extent(nodes: &[i64], i: usize, j: usize) -> f64
+// The ticks from one number of the row to a larger one. Internal: both are coordinates in range.
+fn gap(nodes: &[i64], i: usize, j: usize) -> u64
     requires { ⌜ (i < length (now nodes)) × (j < length (now nodes)) ⌝ }
     requires { ⌜ Gap (getD (now nodes) j (pos 0) -ℤ getD (now nodes) i (pos 0)) ⌝ }
-    ensures { λ r. ⌜ r ≡ apart (getD (now (nodes .entry)) i (pos 0)) (getD (now (nodes .entry)) j (pos 0)) ⌝ }
+    ensures { λ r. ⌜ r ≡ natAbs (getD (now (nodes .entry)) j (pos 0) -ℤ getD (now (nodes .entry)) i (pos 0)) ⌝ }
 {
     let a = nodes[i];
     let b = nodes[j];
-    ((b - a) as f64) * cell::Cell::TICK
+    (b - a) as u64
 }
 
-// Slope and extents of cell c. Internal: the cell is one of a sound net, with a potential for each node.
-fn cell_grad(nodes: &[i64], corners: &[u64], potentials: &[f64], c: usize) -> Slope
+// The values of cell c. Internal: the cell is one of a sound net, with a potential for each node.
+fn cell_values(nodes: &[i64], corners: &[u64], potentials: &[f64], c: usize) -> Values
     requires { ⌜ Sloped (now nodes) (now corners) (now potentials) c ⌝ }
-    ensures { λ r. ⌜ r ≡ gradAt (now (nodes .entry)) (now (corners .entry)) (now (potentials .entry)) c ⌝ }
+    ensures { λ r. ⌜ r ≡ valuesAt (now (nodes .entry)) (now (corners .entry)) (now (potentials .entry)) c ⌝ }
 {
     let at = c * 4;
     let sw = corners[at] as usize;
     let se = corners[at + 1] as usize;
     let ne = corners[at + 2] as usize;
     let nw = corners[at + 3] as usize;
-    let dx = extent(nodes, sw * 4 + 2, se * 4 + 2);
-    let dy = extent(nodes, sw * 4 + 3, nw * 4 + 3);
-    slope_of(
-        potentials[sw],
-        potentials[se],
-        potentials[ne],
-        potentials[nw],
-        dx,
-        dy,
-    )
+    let width = gap(nodes, sw * 4 + 2, se * 4 + 2);
+    let height = gap(nodes, sw * 4 + 3, nw * 4 + 3);
+    Values {
+        u0: potentials[sw],
+        u1: potentials[se],
+        u2: potentials[ne],
+        u3: potentials[nw],
+        width: width,
+        height: height,
+    }
 }
 
 fn potentials_in_range(potentials: &[f64]) -> bool
@@ -101,16 +122,25 @@ fn sheets_in_range(sheets: &[f64]) -> bool
     good
 }
 
-// Puts the power of each cell in its answer. Internal: the net is sound, with a potential for each node and room for the answers.
+// Puts the power of each cell in its answer, two cells a turn: both are loaded before either is divided, so that the divisions go together. Internal: the net is sound, with a potential for each node and room for the answers.
 fn fill(nodes: &[i64], corners: &[u64], sheets: &[f64], potentials: &[f64], answers: &mut [f64])
     requires { ⌜ (length (now sheets) ≤ length (now answers)) × ((c : ℕ) → c < length (now sheets) → Sloped (now nodes) (now corners) (now potentials) c) ⌝ }
     ensures { λ _. ⌜ now (answers .exit) ≡ powered (now (nodes .entry)) (now (corners .entry)) (now (sheets .entry)) (now (potentials .entry)) (now (answers .entry)) ⌝ }
 {
     let mut c = 0usize;
     while c < sheets.len() {
-        let s = cell_grad(nodes, corners, potentials, c);
-        answers[c] = power_of(s, sheets[c]);
-        c += 1;
+        let first = cell_values(nodes, corners, potentials, c);
+        // The last of an odd number.
+        if c + 1 == sheets.len() {
+            answers[c] = power_of(cell_grad(first), sheets[c]);
+            return;
+        }
+        let second = cell_values(nodes, corners, potentials, c + 1);
+        let p = power_of(cell_grad(first), sheets[c]);
+        let q = power_of(cell_grad(second), sheets[c + 1]);
+        answers[c] = p;
+        answers[c + 1] = q;
+        c += 2;
     }
 }
 

@@ -3,3 +3,4 @@ pub mod Tests
 pub mod Sound
 pub mod Gaps
 pub mod Marks
+pub mod Cells

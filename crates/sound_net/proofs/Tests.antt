@@ -1,5 +1,5 @@
 -- Laws of the tests: a walk over indices, `&&`, and equality of signed numbers. Assumes nothing.
-use Prim.Native.Nat.{ℕ, zero, suc, _+_, _<_}
+use Prim.Native.Nat.{ℕ, zero, suc, _+_, _<_, _≤_}
 use mathlib.Core.Path.{_≡_, refl, sym, ap, subst, _∙_}
 use mathlib.Core.Bool.{Bool, true, false, _&&_}
 use mathlib.Core.Logic.{_⊎_, ⊎-elim}
@@ -24,6 +24,10 @@ same true true f g = refl
 same true false f g = absurd (f tt)
 same false true f g = absurd (g tt)
 same false false f g = refl
+
+no : (b : Bool) → (T b → ⊥) → b ≡ false
+no true f = absurd (f tt)
+no false f = refl
 
 -- ---- a walk over the indices
 pub all-none : (p : ℕ → Bool) → true ≡ allBelow p 0
@@ -57,10 +61,23 @@ so-far p i e f = all-more p i ∙ both e f
 
 pub fails : (p : ℕ → Bool) (n i : ℕ) → i < n → p i ≡ false → allBelow p n ≡ false
 fails p n i h e = no (allBelow p n) (λ t. absurd (subst T e (all-at p n t i h)))
-  where
-    no : (b : Bool) → (T b → ⊥) → b ≡ false
-    no true f = absurd (f tt)
-    no false f = refl
+
+-- a walk that fails on fewer indices
+pub all-fewer : (p : ℕ → Bool) (m n : ℕ) → m ≤ n → allBelow p m ≡ false → allBelow p n ≡ false
+all-fewer p m n h e =
+    no (allBelow p n) (λ (t : T (allBelow p n)). absurd (subst T e (all-of p m (λ i k. all-at p n t i (omega arith)))))
+
+-- two tests at each index, each walked by itself
+pub turn : (p q r s : Bool) → ((p && r) && (q && s)) ≡ ((p && q) && (r && s))
+turn true q true s = refl
+turn true true false s = refl
+turn true false false s = refl
+turn false q r s = refl
+
+pub all-both : (p q r : ℕ → Bool) → ((i : ℕ) → r i ≡ (p i && q i)) → (n : ℕ) → allBelow r n ≡ (allBelow p n && allBelow q n)
+unfolding allBelow
+all-both p q r e zero = refl
+all-both p q r e (suc n) = rw (all-both p q r e n, e n) (turn (allBelow p n) (p n) (allBelow q n) (q n))
 
 -- ---- equal signed numbers
 pub eqZ-true : (a b : ℤ) → T (eqZ a b) → a ≡ b

@@ -22,4 +22,4 @@ pub mod table;
 pub mod ticks;
 pub mod well_formed;
 
-pub use outcome::{Answer, Outcome, Refusal};
+pub use outcome::{Answer, Refusal};

@@ -1,17 +1,11 @@
 //! Times of port and original, taken in the same run on the same inputs. Only the calls are timed, for
 //! the port its judging of what it is lent included; the best of several rounds counts.
 
-#[cfg(any(feature = "even", feature = "network", feature = "checks"))]
 mod boards;
-#[cfg(feature = "build")]
 pub mod build;
-#[cfg(feature = "checks")]
 pub mod checks;
-#[cfg(feature = "even")]
 pub mod even;
-#[cfg(feature = "network")]
 pub mod network;
-#[cfg(feature = "power")]
 pub mod power;
 
 #[cfg(feature = "heap")]

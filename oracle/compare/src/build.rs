@@ -1,14 +1,13 @@
 //! Build: boards to roots.
 
-use crate::port::build as port;
+use crate::port::{build as port, outcome_of};
 use crate::report::Report;
 use crate::rows::{difference, shown, unused};
-use calls::build::{build, roots_of, Outlines, Settings};
+use calls::build::{build, roots_of};
 use calls::limits::{COORDINATE, SLOTS};
-use calls::sheets::Sheets;
 use calls::strips::TickPoint;
 use calls::table::WIDTH;
-use calls::{Answer, Outcome};
+use calls::Answer;
 use inputs::long_rings::{comb_of, LONGEST_COMB};
 use inputs::plan_faults::{every_two_faults, put_fault};
 use inputs::plans::{random_plan, Plan, Polygon};
@@ -109,31 +108,14 @@ fn any_length(plan: &Plan, random: &mut Random) -> usize {
 }
 
 fn roots(plan: &Plan) -> Answer<u64> {
-    with_calls_rows(plan, roots_of)
-}
-
-/// The plan as the original's side takes it, in narrower numbers. Settings that don't fit these are
-/// out of range, and so is a target of 0: it stands for them, since all of them are `3 0`.
-fn with_calls_rows<T>(plan: &Plan, call: impl FnOnce(&Settings, &Outlines) -> T) -> T {
-    let narrow =
-        |entry: &[u64; 2]| Some((u16::try_from(entry[0]).ok()?, i64::try_from(entry[1]).ok()?));
-    let layers: Option<Vec<(u16, i64)>> = plan.list.iter().map(narrow).collect();
-    let target = if layers.is_some() { i64::try_from(plan.target).unwrap_or(0) } else { 0 };
-    let settings = Settings {
-        max_level: plan.max_level,
-        cap: plan.cap,
-        target,
-        layers: &layers.unwrap_or_default(),
-    };
-    let sheets = Sheets { layer: &plan.layers, component: &plan.components, r_sheet: &plan.sheets };
-    call(&settings, &Outlines { sheets, point_count: &plan.counts, points: &plan.points })
+    plan.with_calls_rows(roots_of)
 }
 
 fn run(plan: &Plan, length: usize, report: &mut Report) {
     let mut table = unused(length, |number| number as i64);
     let mut port_table = table.clone();
-    let answer = with_calls_rows(plan, |settings, outlines| build(settings, outlines, &mut table));
-    let expected = Outcome::from(answer);
+    let answer = plan.with_calls_rows(|settings, outlines| build(settings, outlines, &mut table));
+    let expected = outcome_of(answer);
     let got = port::build(plan, &mut port_table);
     report.ran(expected, got == expected && port_table == table, || {
         let rows = difference("number", &table, &port_table);

@@ -1,19 +1,20 @@
 //! The two checks: the original's, and the by-layer check against this folder's own reading of
 //! document 01.
 
-use crate::port::checks::{self as port, CheckOutcome};
+use crate::port::{checks as port, outcome_of};
 use crate::report::Report;
 use crate::rows::{difference, shown, unused};
 use calls::checks::{check_by_layer, check_network_conforming, Hanging};
 use calls::net::Net;
 use calls::sheets::Sheets;
-use calls::{Answer, Outcome};
+use calls::Answer;
 use inputs::damage::damage;
 use inputs::large_meshes::large_mesh;
 use inputs::mesh_faults::{add_too_many, drop_polygons, spoil_rows};
 use inputs::meshes::{any_mesh, boundary_meshes, Mesh};
 use inputs::net_changes::change_net;
 use inputs::Random;
+use leafmesh::ffi::CheckOutcome;
 
 /// What the port's quick walk asks for: so many numbers a node and an edge.
 const WORK_A_NODE: usize = 9;
@@ -218,7 +219,7 @@ fn judge(
 ) {
     let expected = expected_outcome(answer);
     let work_is_right = work.is_right(answer.is_ok(), plenty(mesh, net));
-    let outcome = Outcome::from(answer.map(|found| u64::from(found.is_some())));
+    let outcome = outcome_of(answer.map(|found| u64::from(found.is_some())));
     report.ran(outcome, got == expected && work_is_right, || {
         let about = match work_is_right {
             true => String::new(),

@@ -1,9 +1,8 @@
 //! Contact of two rectangles.
 
-use crate::port;
+use crate::port::{self, outcome_of};
 use crate::report::Report;
 use calls::contact::contact;
-use calls::Outcome;
 use inputs::rectangles::{random_pair, small_pair, Pair, SMALL_PAIRS};
 use inputs::Random;
 
@@ -22,7 +21,7 @@ pub fn compare(count: u64, seed: u64) -> bool {
 
 fn run(pair: Pair, report: &mut Report) {
     let (a, b) = pair;
-    let expected = Outcome::from(contact(a, b));
+    let expected = outcome_of(contact(a, b));
     let got = port::contact(a, b);
     report.ran(expected, got == expected, || {
         let words = format!("{a:?} and {b:?}: original {expected:?}, port {got:?}");

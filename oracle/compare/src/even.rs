@@ -1,7 +1,7 @@
 //! Balance and conform: against the original, number by number, and against the coarsest splitting,
 //! by names.
 
-use crate::port;
+use crate::port::{self, outcome_of};
 use crate::report::Report;
 use crate::table::{difference, first_difference};
 use calls::coarsest::{coarsest, Splitting};
@@ -9,7 +9,6 @@ use calls::even::{even, Allowed};
 use calls::limits::SLOTS;
 use calls::table::Slot;
 use calls::well_formed::well_formed;
-use calls::Outcome;
 use inputs::damage::damage;
 use inputs::tables::{random_table, random_unbalanced_table, Table};
 use inputs::Random;
@@ -107,7 +106,7 @@ impl Reports {
         let (mut row, mut port_row) = (table.row.clone(), table.row.clone());
         let (count, max_level) = (table.count, table.max_level);
         let answer = even(&mut row, count, max_level, allowed);
-        let expected = Outcome::from(answer);
+        let expected = outcome_of(answer);
         let got = port::even::even(&mut port_row, count, max_level, allowed);
         let same = got == expected
             && port_row == row

@@ -1,8 +1,8 @@
 //! The program `leafnet`: what it prints for a whole record, byte for byte.
 
+use crate::port::outcome_of;
 use crate::report::Report;
 use calls::leafnet::{mesh, printed};
-use calls::Outcome;
 use inputs::whole_boards::{boundary_records, random_whole_record};
 use inputs::Random;
 use std::env;
@@ -75,7 +75,7 @@ impl Tally {
         }
         // What is counted as a value is whether there are cells.
         let value = answer.map(|meshed| meshed.net.rows().cell_count() as u64);
-        self.report.ran(Outcome::from(value), same, || {
+        self.report.ran(outcome_of(value), same, || {
             let words = format!("{}; {}", hex(input), first_difference(&expected, &got));
             (input.len() as u128, words)
         });

@@ -3,42 +3,19 @@
 //! `compare [CALLS [COUNT [SEED]]]` runs one group of calls, or `all`; `compare bench CALLS` takes
 //! times. The exit status says whether anything differed.
 
-#[cfg(any(
-    feature = "even",
-    feature = "build",
-    feature = "power",
-    feature = "network",
-    feature = "checks"
-))]
 mod bench;
-#[cfg(feature = "build")]
 mod build;
-#[cfg(feature = "checks")]
 mod checks;
 mod contact;
-#[cfg(feature = "even")]
 mod even;
-#[cfg(feature = "leafnet")]
 mod leafnet;
-#[cfg(feature = "network")]
 mod network;
 mod port;
-#[cfg(feature = "power")]
 mod power;
-#[cfg(feature = "record")]
 mod record;
 mod report;
-#[cfg(any(
-    feature = "strips",
-    feature = "record",
-    feature = "power",
-    feature = "network",
-    feature = "checks"
-))]
 mod rows;
-#[cfg(feature = "strips")]
 mod strips;
-#[cfg(feature = "table")]
 mod table;
 
 use std::env;
@@ -57,38 +34,29 @@ struct Group {
 
 const GROUPS: &[Group] = &[
     Group { name: "contact", count: 1_000_000, compare: contact::compare, bench: None },
-    #[cfg(feature = "table")]
     Group { name: "table", count: 120_000, compare: table::compare, bench: None },
-    #[cfg(feature = "even")]
     Group { name: "even", count: 60_000, compare: even::compare, bench: Some(bench::even::run) },
-    #[cfg(feature = "strips")]
     Group { name: "strips", count: 200_000, compare: strips::compare, bench: None },
-    #[cfg(feature = "build")]
     Group {
         name: "build",
         count: 150_000,
         compare: build::compare,
         bench: Some(bench::build::run),
     },
-    #[cfg(feature = "record")]
     Group { name: "record", count: 400_000, compare: record::compare, bench: None },
-    #[cfg(feature = "power")]
     Group { name: "power", count: 60_000, compare: power::compare, bench: Some(bench::power::run) },
-    #[cfg(feature = "network")]
     Group {
         name: "network",
         count: 60_000,
         compare: network::compare,
         bench: Some(bench::network::run),
     },
-    #[cfg(feature = "checks")]
     Group {
         name: "checks",
         count: 40_000,
         compare: checks::compare,
         bench: Some(bench::checks::run),
     },
-    #[cfg(feature = "leafnet")]
     Group { name: "leafnet", count: 6_000, compare: leafnet::compare, bench: None },
 ];
 
@@ -142,7 +110,7 @@ fn named(word: Option<&String>) -> Result<Vec<&'static Group>, String> {
     let groups: Vec<&Group> =
         GROUPS.iter().filter(|group| name == "all" || name == group.name).collect();
     if groups.is_empty() {
-        return Err(format!("no calls are named {name}, or the library doesn't export them yet"));
+        return Err(format!("no calls are named {name}"));
     }
     Ok(groups)
 }

@@ -1,15 +1,17 @@
 //! The network: nodes, edges, cells and conductances of a table's leaves.
 
-use crate::port::network::{self as port, NetOutcome, Rows};
+use crate::port::network::{self as port, Rows};
+use crate::port::outcome_of;
 use crate::report::Report;
 use crate::rows::{bits, difference, put, shown, unused};
 use calls::net::Net;
 use calls::network::{network_in_rows, NetLengths, NetRoom};
-use calls::{Answer, Outcome};
+use calls::Answer;
 use inputs::large_meshes::{large_mesh, LARGE};
 use inputs::mesh_faults::put_fault;
 use inputs::meshes::{any_mesh, boundary_meshes, Mesh};
 use inputs::Random;
+use leafmesh::ffi::NetOutcome;
 
 /// Meshes of thousands of leaves, beside those that are asked for.
 const LARGE_MESHES: usize = 20;
@@ -164,7 +166,7 @@ impl Tally {
         let expected = expected_outcome(&answer);
         let got = port::network(&mesh.table, &mesh.polygons(), &mut port_rows);
         let differ = differences(&rows, &port_rows);
-        let outcome = Outcome::from(answer.as_ref().map(|_| expected.cells).map_err(|why| *why));
+        let outcome = outcome_of(answer.as_ref().map(|_| expected.cells).map_err(|why| *why));
         self.report.ran(outcome, got == expected && differ.is_empty(), || {
             let words = format!(
                 "{}, {lengths:?}; {differ}original {expected:?}, port {got:?}",

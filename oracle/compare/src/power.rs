@@ -1,12 +1,11 @@
 //! The power of a net's cells.
 
-use crate::port::power as port;
+use crate::port::{outcome_of, power as port};
 use crate::report::Report;
 use crate::rows::{bits, difference, shown, unused};
 use calls::limits::{COORDINATE, POTENTIAL};
 use calls::net::Net;
 use calls::power::cell_power;
-use calls::Outcome;
 use inputs::nets::{damage_net, every_damage, random_net, random_potentials, spoil_potentials};
 use inputs::Random;
 
@@ -103,10 +102,10 @@ fn run(net: &Net, potentials: &[f64], room: usize, report: &mut Report) {
     let mut answers = unused(room, |number| number as f64);
     let mut port_answers = answers.clone();
     let answer = cell_power(&net.rows(), potentials, &mut answers);
-    let expected = Outcome::from(answer.map(|_| 0));
+    let expected = outcome_of(answer.map(|_| 0));
     let got = port::power(&net.rows(), potentials, &mut port_answers);
     let (row, port_row) = (bits(&answers), bits(&port_answers));
-    report.ran(Outcome::from(answer), got == expected && port_row == row, || {
+    report.ran(outcome_of(answer), got == expected && port_row == row, || {
         let differ = difference("answer's bits", &row, &port_row);
         let words = format!(
             "{}, potentials {}, room {room}; {differ}original {expected:?}, port {got:?}",

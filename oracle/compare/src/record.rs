@@ -1,18 +1,20 @@
 //! The board record: read against this folder's own reader, write against its own writer.
 
-use crate::port::record::{self as port, ReadOutcome, Rows};
+use crate::port::outcome_of;
+use crate::port::record::{self as port, Rows};
 use crate::report::Report;
 use crate::rows::{bits, difference, put, shown, unused};
 use calls::limits::{LAYER_ENTRIES, POLYGONS, RING_POINTS};
 use calls::outcome::require;
 use calls::record::{read_record, write_record, Board, RecordRoom};
 use calls::strips::TickPoint;
-use calls::{Answer, Outcome};
+use calls::Answer;
 use inputs::records::{
     every_border, every_byte, every_cut, every_length, large_boards, random_board_in_range,
     random_record, shortest, small_boards, unsound_boards,
 };
 use inputs::Random;
+use leafmesh::ffi::ReadOutcome;
 
 /// Lengths of the lent rows, in their order: layers, polygons, sheets, points, splits.
 type Room = [usize; 5];
@@ -106,7 +108,7 @@ impl Reports {
         let got = port::read(record, &mut port_rows);
         let same = got == expected && equal(&rows, &port_rows);
         // What is counted as a value is whether there are polygons.
-        let value = Outcome::from(answer.map(|board| board.layer.len() as u64));
+        let value = outcome_of(answer.map(|board| board.layer.len() as u64));
         self.read.ran(value, same, || {
             let differ = rows_difference(&rows, &port_rows);
             let words = format!(
@@ -141,7 +143,7 @@ impl Reports {
         let mut out = unused(room, |number| number as u8);
         let mut port_out = out.clone();
         let answer = write_rows(settings, rows, &mut out);
-        let expected = Outcome::from(answer);
+        let expected = outcome_of(answer);
         let got = port::write(settings, rows, &mut port_out);
         let whole = answer.map_or(true, |length| reads_back(&port_out[..length as usize], rows));
         let same = got == expected && port_out == out && whole;

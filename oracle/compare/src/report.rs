@@ -1,6 +1,6 @@
 //! Counts what was run and keeps the smallest input that differs.
 
-use calls::Outcome;
+use leafmesh::ffi::Outcome;
 use std::collections::BTreeSet;
 
 /// Refusals have the numbers 1 to 10.

@@ -11,13 +11,11 @@ pub fn unused<T>(length: usize, make: impl Fn(u64) -> T) -> Vec<T> {
 }
 
 /// Puts the answers over the front of a row.
-#[cfg(any(feature = "record", feature = "network"))]
 pub fn put<T: Copy>(row: &mut [T], answers: &[T]) {
     row[..answers.len()].copy_from_slice(answers);
 }
 
 /// The numbers of a row as bits, so that zeros of both signs differ and a NaN equals itself.
-#[cfg(any(feature = "record", feature = "power", feature = "network"))]
 pub fn bits(row: &[f64]) -> Vec<u64> {
     row.iter().map(|number| number.to_bits()).collect()
 }

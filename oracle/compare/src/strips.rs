@@ -1,12 +1,11 @@
 //! Strips of one ring.
 
-use crate::port::strips as port;
+use crate::port::{outcome_of, strips as port};
 use crate::report::Report;
 use crate::rows::{difference, shown, unused};
 use calls::contact::Rect;
 use calls::limits::{COORDINATE, RING_POINTS};
 use calls::strips::{strips, strips_by_the_words, TickPoint};
-use calls::Outcome;
 use inputs::long_rings::{longest_rings, pad, random_long_ring};
 use inputs::ring_faults::{push_to_the_limit, put_out_of_range, slant, spoil};
 use inputs::rings::random_ring;
@@ -92,7 +91,7 @@ fn run_in_rooms(ring: &[TickPoint], random: &mut Random, report: &mut Report) {
 fn run(ring: &[TickPoint], room: usize, report: &mut Report) {
     let mut out: Vec<Rect> = unused(room, |n| [n as i64, -(n as i64), n as i64 + 1, 7]);
     let mut port_out = out.clone();
-    let expected = Outcome::from(strips(ring, &mut out));
+    let expected = outcome_of(strips(ring, &mut out));
     let got = port::strips(ring, &mut port_out);
     report.ran(expected, got == expected && port_out == out, || {
         let rows = difference("strip", &out, &port_out);

@@ -1,13 +1,14 @@
 //! Leaf count, leaves, leaf order and refine on lent tables, half of them damaged.
 
-use crate::port::table as port;
+use crate::port::{outcome_of, table as port};
 use crate::report::Report;
 use calls::limits::SLOTS;
 use calls::table::{leaf_count, leaf_order, leaves, refine, Slot, WIDTH};
-use calls::{Answer, Outcome};
+use calls::Answer;
 use inputs::damage::{damage, every_number};
 use inputs::tables::{random_roomy_table, random_table, Table};
 use inputs::Random;
+use leafmesh::ffi::Outcome;
 
 /// Most cells of an ordinary random table.
 const CELLS: usize = 40;
@@ -111,7 +112,7 @@ impl Reports {
 
     fn leaf_count(&mut self, table: &Table) -> Option<u64> {
         let answer = leaf_count(&table.row, table.count, table.max_level);
-        let expected = Outcome::from(answer);
+        let expected = outcome_of(answer);
         let got = port::leaf_count(&table.row, table.count, table.max_level);
         let detail = || difference(table, expected, got, "");
         self.leaf_count.ran(expected, got == expected, detail);
@@ -120,7 +121,7 @@ impl Reports {
 
     fn refine(&mut self, table: &Table, id: usize) {
         let (mut row, mut port_row) = (table.row.clone(), table.row.clone());
-        let expected = Outcome::from(refine(&mut row, table.count, table.max_level, id));
+        let expected = outcome_of(refine(&mut row, table.count, table.max_level, id));
         let got = port::refine(&mut port_row, table.count, table.max_level, id);
         let same = got == expected && port_row == row;
         let detail = || {
@@ -142,7 +143,7 @@ impl Reports {
 fn run_list(table: &Table, room: usize, list: List, port_list: PortList, report: &mut Report) {
     let mut out: Vec<u64> = (0..room as u64).map(|place| SENTINEL + place).collect();
     let mut port_out = out.clone();
-    let expected = Outcome::from(list(&table.row, table.count, table.max_level, &mut out));
+    let expected = outcome_of(list(&table.row, table.count, table.max_level, &mut out));
     let got = port_list(&table.row, table.count, table.max_level, &mut port_out);
     let same = got == expected && port_out == out;
     report.ran(expected, same, || {

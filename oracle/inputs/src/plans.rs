@@ -5,8 +5,10 @@ use crate::long_rings::random_long_ring;
 use crate::random::Random;
 use crate::ring_faults::push_to_the_limit;
 use crate::rings::random_ring;
+use calls::build::{Outlines, Settings};
 use calls::limits::{COORDINATE, LAYER_ENTRIES, POLYGONS, R_SHEET, WIDEST_LEVEL};
 use calls::record::Board;
+use calls::sheets::Sheets;
 use calls::strips::TickPoint;
 
 /// Settings and polygon rows; the table's length apart.
@@ -85,6 +87,25 @@ impl Plan {
             counts: board.point_count.clone(),
             points: board.points.clone(),
         }
+    }
+
+    /// Calls the original's side with the plan as that takes it, in narrower numbers. Settings that
+    /// don't fit these are out of range, and so is a target of 0: it stands for them, since all of
+    /// them are `3 0`.
+    pub fn with_calls_rows<T>(&self, call: impl FnOnce(&Settings, &Outlines) -> T) -> T {
+        let narrow =
+            |entry: &[u64; 2]| Some((u16::try_from(entry[0]).ok()?, i64::try_from(entry[1]).ok()?));
+        let layers: Option<Vec<(u16, i64)>> = self.list.iter().map(narrow).collect();
+        let target = if layers.is_some() { i64::try_from(self.target).unwrap_or(0) } else { 0 };
+        let settings = Settings {
+            max_level: self.max_level,
+            cap: self.cap,
+            target,
+            layers: &layers.unwrap_or_default(),
+        };
+        let sheets =
+            Sheets { layer: &self.layers, component: &self.components, r_sheet: &self.sheets };
+        call(&settings, &Outlines { sheets, point_count: &self.counts, points: &self.points })
     }
 }
 

@@ -1,10 +1,9 @@
 //! Strips and build, on small rings and boards.
 
 use crate::replay::{class, Case, Replay};
-use calls::build::{build, roots_of, Outlines, Settings};
+use calls::build::{build, roots_of};
 use calls::contact::Rect;
 use calls::limits::{COORDINATE, RING_POINTS};
-use calls::sheets::Sheets;
 use calls::strips::{strips, strips_by_the_words, TickPoint};
 use calls::table::WIDTH;
 use inputs::long_rings::pad;
@@ -147,27 +146,10 @@ fn any_plan(random: &mut Random) -> Plan {
 
 /// Exactly the roots, mostly; one slot short, more; now and then no whole slots.
 fn any_length(plan: &Plan, random: &mut Random) -> usize {
-    let exact = with_calls_rows(plan, roots_of).map_or(SOME_ROOM, |roots| roots as usize).min(ROOM);
+    let exact = plan.with_calls_rows(roots_of).map_or(SOME_ROOM, |roots| roots as usize).min(ROOM);
     let slots = random.pick(&[exact, exact, exact.saturating_sub(1), exact + 2]);
     let ragged = if random.one_in(20) { 1 + random.index(WIDTH - 1) } else { 0 };
     slots * WIDTH + ragged
-}
-
-/// The plan as the original's side takes it, in narrower numbers. Settings that don't fit these are
-/// out of range, and so is a target of 0: it stands for them, since all of them are `3 0`.
-fn with_calls_rows<T>(plan: &Plan, call: impl FnOnce(&Settings, &Outlines) -> T) -> T {
-    let narrow =
-        |entry: &[u64; 2]| Some((u16::try_from(entry[0]).ok()?, i64::try_from(entry[1]).ok()?));
-    let layers: Option<Vec<(u16, i64)>> = plan.list.iter().map(narrow).collect();
-    let target = if layers.is_some() { i64::try_from(plan.target).unwrap_or(0) } else { 0 };
-    let settings = Settings {
-        max_level: plan.max_level,
-        cap: plan.cap,
-        target,
-        layers: &layers.unwrap_or_default(),
-    };
-    let sheets = Sheets { layer: &plan.layers, component: &plan.components, r_sheet: &plan.sheets };
-    call(&settings, &Outlines { sheets, point_count: &plan.counts, points: &plan.points })
 }
 
 /// A refusal at the first polygon and one at a later are two classes, and so are few roots and more.
@@ -185,7 +167,7 @@ fn run_build(plan: &Plan, length: usize, replay: &mut Replay) {
     case.numbers(plan.points.iter().flatten().map(|&number| number as u64));
     case.signed_row(&table);
 
-    let answer = with_calls_rows(plan, |settings, outlines| build(settings, outlines, &mut table));
+    let answer = plan.with_calls_rows(|settings, outlines| build(settings, outlines, &mut table));
     case.answer("build", answer.map(|roots| vec![roots]));
     case.print(&table);
     let class = match answer {

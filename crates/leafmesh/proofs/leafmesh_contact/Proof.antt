@@ -1,5 +1,6 @@
 -- `leafmesh::leafmesh_contact` meets its contract. Assumes nothing.
-use mathlib.Core.Path.{_≡_, _∙_}
+use mathlib.Core.Path.{ap, _∙_}
+use Rattle.leafmesh.specs.Outcome.{outcomeOf}
 use mir.Facts.{toZ-ofZ}
 use borrow.Author.Needs.{needs}
 use Rattle.leafmesh.proofs.leafmesh_contact.Statement.{statement}
@@ -15,7 +16,8 @@ returns : tie.Need-returns
 returns c =
     let f = c .before .before .fits in
     c .of-contact .ensures
-    ∙ (rw (toZ-ofZ (f .ax0), toZ-ofZ (f .ay0), toZ-ofZ (f .ax1), toZ-ofZ (f .ay1), toZ-ofZ (f .bx0), toZ-ofZ (f .by0), toZ-ofZ (f .bx1), toZ-ofZ (f .by1))
+    ∙ ap outcomeOf
+    (rw (toZ-ofZ (f .ax0), toZ-ofZ (f .ay0), toZ-ofZ (f .ax1), toZ-ofZ (f .ay1), toZ-ofZ (f .bx0), toZ-ofZ (f .by0), toZ-ofZ (f .bx1), toZ-ofZ (f .by1))
     at (c .before .between .ensures))
 
 pub leafmesh-contact-spec : {M : Type 1} → statement M

@@ -1,9 +1,10 @@
 -- `leafmesh::of_contact` meets its contract. Assumes nothing.
-use mathlib.Core.Path.{_≡_, sym, ap, _∙_}
+use mathlib.Core.Path.{sym, ap, _∙_}
 use Prim.Native.Nat.{ℕ}
 use mathlib.Core.List.{[], _∷_}
 use Rattle.refusals.specs.Said.{accepted}
 use Rattle.contact.specs.Contact.{contactSaid}
+use Rattle.leafmesh.specs.Outcome.{outcomeOf}
 use borrow.Author.Needs.{needs}
 use Rattle.leafmesh.proofs.of_contact.Statement.{statement}
 use Rattle.leafmesh.proofs.of_contact.Tie as tie
@@ -26,11 +27,11 @@ refuse-requires c κs = search needs
 returns : tie.Need-returns
 returns c =
     c .accept .ensures
-    ∙ ap (λ (n : ℕ). accepted (n ∷ [])) (c .before .bit-of .ensures)
-    ∙ ap contactSaid (sym (c .before .before .before .answer .given .1))
+    ∙ ap (λ (n : ℕ). outcomeOf (accepted (n ∷ []))) (c .before .bit-of .ensures)
+    ∙ ap outcomeOf (ap contactSaid (sym (c .before .before .before .answer .given .1)))
 
 returns-2 : tie.Need-returns-2
-returns-2 c = c .refuse .ensures ∙ ap contactSaid (sym (c .before .before .answer2 .given .1))
+returns-2 c = c .refuse .ensures ∙ ap outcomeOf (ap contactSaid (sym (c .before .before .answer2 .given .1)))
 
 pub of-contact-spec : {M : Type 1} → statement M
 of-contact-spec =

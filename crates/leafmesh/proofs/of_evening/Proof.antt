@@ -1,9 +1,7 @@
 -- `leafmesh::of_evening` meets its contract. Assumes nothing.
 use mathlib.Core.Path.{sym, ap, _∙_}
-use Rattle.even.specs.declared.Evening.{Evening}
 use Rattle.even.specs.Even.{eveningSaid}
-use Rattle.leafmesh.specs.Outcome.{firstOf}
-use Rattle.leafmesh.proofs.First.{first-refused}
+use Rattle.leafmesh.specs.Outcome.{outcomeOf}
 use borrow.Author.Needs.{needs}
 use Rattle.leafmesh.proofs.of_evening.Statement.{statement}
 use Rattle.leafmesh.proofs.of_evening.Tie as tie
@@ -21,10 +19,10 @@ refuse-requires : tie.Need-refuse-requires
 refuse-requires c κs = search needs
 
 returns : tie.Need-returns
-returns c = c .accept .ensures ∙ ap (λ (a : Evening). firstOf (eveningSaid a)) (sym (c .before .before .answer .given .1))
+returns c = c .accept .ensures ∙ ap outcomeOf (ap eveningSaid (sym (c .before .before .answer .given .1)))
 
 returns-2 : tie.Need-returns-2
-returns-2 c = c .refuse .ensures ∙ sym (first-refused (c .before .before .answer2 .given .0 .0)) ∙ ap (λ (a : Evening). firstOf (eveningSaid a)) (sym (c .before .before .answer2 .given .1))
+returns-2 c = c .refuse .ensures ∙ ap outcomeOf (ap eveningSaid (sym (c .before .before .answer2 .given .1)))
 
 pub of-evening-spec : {M : Type 1} → statement M
 of-evening-spec =

@@ -1,6 +1,7 @@
 -- `leafmesh::of_listed` meets its contract. Assumes nothing.
 use mathlib.Core.Path.{sym, ap, _∙_}
 use Rattle.table.specs.Leaves.{listedSaid}
+use Rattle.leafmesh.specs.Outcome.{outcomeOf}
 use borrow.Author.Needs.{needs}
 use Rattle.leafmesh.proofs.of_listed.Statement.{statement}
 use Rattle.leafmesh.proofs.of_listed.Tie as tie
@@ -18,10 +19,10 @@ refuse-requires : tie.Need-refuse-requires
 refuse-requires c κs = search needs
 
 returns : tie.Need-returns
-returns c = c .accept .ensures ∙ ap listedSaid (sym (c .before .before .answer .given .1))
+returns c = c .accept .ensures ∙ ap outcomeOf (ap listedSaid (sym (c .before .before .answer .given .1)))
 
 returns-2 : tie.Need-returns-2
-returns-2 c = c .refuse .ensures ∙ ap listedSaid (sym (c .before .before .answer2 .given .1))
+returns-2 c = c .refuse .ensures ∙ ap outcomeOf (ap listedSaid (sym (c .before .before .answer2 .given .1)))
 
 pub of-listed-spec : {M : Type 1} → statement M
 of-listed-spec =

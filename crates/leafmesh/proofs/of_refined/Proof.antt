@@ -1,10 +1,7 @@
 -- `leafmesh::of_refined` meets its contract. Assumes nothing.
 use mathlib.Core.Path.{sym, ap, _∙_}
-use Rattle.refusals.specs.Said.{Said}
-use Rattle.table.specs.declared.refine.Refined.{Refined}
 use Rattle.table.specs.Refine.{refinedSaid}
-use Rattle.leafmesh.specs.Outcome.{firstOf}
-use Rattle.leafmesh.proofs.First.{first-refused}
+use Rattle.leafmesh.specs.Outcome.{outcomeOf}
 use borrow.Author.Needs.{needs}
 use Rattle.leafmesh.proofs.of_refined.Statement.{statement}
 use Rattle.leafmesh.proofs.of_refined.Tie as tie
@@ -22,10 +19,10 @@ refuse-requires : tie.Need-refuse-requires
 refuse-requires c κs = search needs
 
 returns : tie.Need-returns
-returns c = c .accept .ensures ∙ ap (λ (a : Refined). firstOf (refinedSaid a)) (sym (c .before .before .answer .given .1))
+returns c = c .accept .ensures ∙ ap outcomeOf (ap refinedSaid (sym (c .before .before .answer .given .1)))
 
 returns-2 : tie.Need-returns-2
-returns-2 c = c .refuse .ensures ∙ sym (first-refused (c .before .before .answer2 .given .0 .0)) ∙ ap (λ (a : Refined). firstOf (refinedSaid a)) (sym (c .before .before .answer2 .given .1))
+returns-2 c = c .refuse .ensures ∙ ap outcomeOf (ap refinedSaid (sym (c .before .before .answer2 .given .1)))
 
 pub of-refined-spec : {M : Type 1} → statement M
 of-refined-spec =

@@ -1,6 +1,6 @@
--- `leafmesh::refuse` meets its contract: no refusal has the number 0. Assumes nothing.
-use native.Mathlib.Omega.{arith}
-use borrow.Author.Tests.{ne-eqb}
+-- `leafmesh::refuse` meets its contract. Assumes nothing.
+use mathlib.Core.Path.{ap}
+use Rattle.leafmesh.specs.Outcome.{outcomeOf}
 use borrow.Author.Needs.{needs}
 use Rattle.leafmesh.proofs.refuse.Statement.{statement}
 use Rattle.leafmesh.proofs.refuse.Tie as tie
@@ -9,7 +9,7 @@ code-of-requires : tie.Need-code-of-requires
 code-of-requires c κs = search needs
 
 returns : tie.Need-returns
-returns c = rw (ne-eqb (c .code-of .result .number) 0 (λ e. omega (arith, c .code-of .ensures .1))) (c .code-of .ensures .0)
+returns c = ap outcomeOf (c .code-of .ensures .0)
 
 pub refuse-spec : {M : Type 1} → statement M
 refuse-spec = tie.close (tie.spec code-of-requires returns)

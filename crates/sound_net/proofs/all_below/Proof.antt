@@ -1,25 +1,25 @@
--- `sound_net::all_below` meets its contract. The loop's invariant: no top bit so far exactly if what was passed is below. Assumes nothing.
-use Prim.Native.Nat.{ℕ, _<_, _≤_, _-_, _^_}
+-- `sound_net::all_below` meets its contract. The loop's invariant: both joined numbers are below 2^60 exactly if what was passed is below. Assumes nothing.
+use Prim.Native.Nat.{ℕ, _≤_, _-_, _^_}
 use mathlib.Core.Path.{_≡_, sym, ap, _∙_}
 use mathlib.Core.Bool.{Bool, _&&_}
 use native.Mathlib.Omega.{arith}
 use lib.ListN.{length, getD}
 use lib.Dec.{ltb}
-use borrow.Author.Needs.{needs}
 use Rattle.sound_net.specs.Nets.{allBelow}
 use Rattle.sound_net.proofs.Tests.{all-none, all-more}
-use Rattle.sound_net.proofs.Marks.{both-more}
+use Rattle.sound_net.proofs.Marks.{both-more, marked}
+use borrow.Author.Needs.{needs}
 use Rattle.sound_net.proofs.all_below.Statement.{statement}
 use Rattle.sound_net.proofs.all_below.Tie as tie
 
 abbrev Inv-loop : tie.InvT-loop
-Inv-loop count row last seen₀ left₀ i₀ seen left i = (i ≤ length row) × ((ltb seen (2 ^ 63) && ltb left (2 ^ 63)) ≡ allBelow (λ k. ltb (getD row k 0) count) i)
+Inv-loop count row rest seen₀ made₀ i₀ seen made i = (i ≤ length row) × ((ltb seen (2 ^ 60) && ltb made (2 ^ 60)) ≡ allBelow (λ k. ltb (getD row k 0) count) i)
 
 abbrev μ-loop : tie.MeasureT-loop
-μ-loop count row last seen₀ left₀ i₀ seen left i = length row - i
+μ-loop count row rest seen₀ made₀ i₀ seen made i = length row - i
 
-wrapping-sub-u64-requires : tie.Need-wrapping-sub-u64-requires Inv-loop μ-loop
-wrapping-sub-u64-requires c κs = search needs
+lack-requires : tie.Need-lack-requires Inv-loop μ-loop
+lack-requires c κs = search needs
 
 loop-holds : tie.Need-loop-holds Inv-loop μ-loop
 loop-holds c = (omega arith, all-none _)
@@ -30,8 +30,8 @@ mul-e c = search needs
 shared-slice-read-e : tie.Need-shared-slice-read-e Inv-loop μ-loop
 shared-slice-read-e c = search needs
 
-wrapping-sub-u64-requires-2 : tie.Need-wrapping-sub-u64-requires-2 Inv-loop μ-loop
-wrapping-sub-u64-requires-2 c κs = search needs
+wrapping-add-u64-requires : tie.Need-wrapping-add-u64-requires Inv-loop μ-loop
+wrapping-add-u64-requires c κs = search needs
 
 add-i : tie.Need-add-i Inv-loop μ-loop
 add-i c = search needs
@@ -42,15 +42,14 @@ loop-less c = search needs
 loop-again : tie.Need-loop-again Inv-loop μ-loop
 loop-again c =
     let l = c .before .before .before in
-    let w = l .before in
-    let s = w .before .before in
+    let k = l .before in
+    let s = k .before .before in
     let row = s .args .row .now in
     let e = getD row (l .loop .i) 0 in
-    let r = c .wrapping-sub-u642 .result in
+    let r = c .wrapping-add-u64 .result in
     let p : ℕ → Bool = λ k. ltb (getD row k 0) (s .args .count) in
-    let f : e < 2 ^ 64 = omega (arith, c .before .shared-slice-known2 .given (l .loop .i)) in
-    let g : r < 2 ^ 64 = omega arith in
-    (omega arith, both-more (s .args .count) (w .wrapping-sub-u64 .result) e r (s .pre) (w .wrapping-sub-u64 .ensures) (c .wrapping-sub-u642 .ensures) f g (l .loop .seen) (l .loop .left) (l .loop .inv .1) ∙ sym (all-more p (l .loop .i)))
+    let m : (ltb e (2 ^ 60) && ltb r (2 ^ 60)) ≡ p (l .loop .i) = marked (s .args .count) (k .lack .result) e r (k .lack .ensures) (c .wrapping-add-u64 .ensures) in
+    (omega arith, both-more 60 60 (l .loop .seen) (l .loop .made) e r (l .loop .inv .1) ∙ ap (λ (b : Bool). allBelow p (l .loop .i) && b) m ∙ sym (all-more p (l .loop .i)))
 
 returns : tie.Need-returns Inv-loop μ-loop
 returns c =
@@ -65,11 +64,11 @@ all-below-spec =
     (tie.spec
     Inv-loop
     μ-loop
-    wrapping-sub-u64-requires
+    lack-requires
     loop-holds
     mul-e
     shared-slice-read-e
-    wrapping-sub-u64-requires-2
+    wrapping-add-u64-requires
     add-i
     loop-less
     loop-again

@@ -2,7 +2,6 @@
 
 use calls::contact::Rect;
 use calls::limits::SLOTS;
-#[cfg(any(feature = "network", feature = "checks"))]
 use inputs::meshes::Mesh;
 use inputs::tables::Table;
 
@@ -44,7 +43,6 @@ fn raster(cells: i64) -> Vec<Rect> {
 }
 
 /// The same balanced, of one polygon.
-#[cfg(any(feature = "network", feature = "checks"))]
 pub fn balanced_board(cells: i64) -> Mesh {
     let mut mesh = Mesh::of_table(board_with_eight_corners(cells));
     mesh.push_polygon(1, 0, 1.5);

@@ -2,10 +2,11 @@
 
 use super::boards::balanced_board;
 use super::{best, compare, timed, Best};
-use crate::port::checks::{check_by_layer, check_network_conforming, CheckOutcome};
+use crate::port::checks::{check_by_layer, check_network_conforming};
 use calls::net::Net;
 use calls::table::to_grid;
 use inputs::meshes::Mesh;
+use leafmesh::ffi::CheckOutcome;
 
 /// Base cells a side.
 const CELLS: i64 = 99;

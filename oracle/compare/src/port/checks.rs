@@ -2,68 +2,14 @@
 
 use calls::net::NetRows;
 use inputs::tables::Table;
-
-/// Broken is 1 where a node hangs; zeros where none does, and behind a refusal.
-#[repr(C)]
-#[derive(Clone, Copy, Debug, Default, PartialEq, Eq)]
-pub struct CheckOutcome {
-    pub number: u64,
-    pub place: u64,
-    pub broken: u64,
-    pub node: u64,
-    pub from: u64,
-    pub to: u64,
-}
-
-extern "C" {
-    fn leafmesh_check_network_conforming(
-        table: *const i64,
-        length: usize,
-        count: usize,
-        max_level: u64,
-        nodes: *const i64,
-        nodes_length: usize,
-        ends: *const u64,
-        ends_length: usize,
-        conductances: *const f64,
-        conductances_length: usize,
-        corners: *const u64,
-        corners_length: usize,
-        sheets: *const f64,
-        sheets_length: usize,
-        work: *mut u64,
-        work_length: usize,
-    ) -> CheckOutcome;
-    fn leafmesh_check_by_layer(
-        table: *const i64,
-        length: usize,
-        count: usize,
-        max_level: u64,
-        nodes: *const i64,
-        nodes_length: usize,
-        ends: *const u64,
-        ends_length: usize,
-        conductances: *const f64,
-        conductances_length: usize,
-        corners: *const u64,
-        corners_length: usize,
-        sheets: *const f64,
-        sheets_length: usize,
-        layers: *const u16,
-        layers_length: usize,
-        components: *const u32,
-        components_length: usize,
-        work: *mut u64,
-        work_length: usize,
-    ) -> CheckOutcome;
-}
+use leafmesh::ffi::{self, CheckOutcome};
 
 // SAFETY, of both: each pointer comes with the length of the slice it was taken from, and the slice
 // outlives the call.
 
 pub fn check_network_conforming(table: &Table, net: &NetRows, work: &mut [u64]) -> CheckOutcome {
     unsafe {
-        leafmesh_check_network_conforming(
+        ffi::leafmesh_check_network_conforming(
             table.row.as_ptr(),
             table.row.len(),
             table.count,
@@ -92,7 +38,7 @@ pub fn check_by_layer(
     work: &mut [u64],
 ) -> CheckOutcome {
     unsafe {
-        leafmesh_check_by_layer(
+        ffi::leafmesh_check_by_layer(
             table.row.as_ptr(),
             table.row.len(),
             table.count,

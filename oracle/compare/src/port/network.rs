@@ -3,17 +3,7 @@
 use calls::network::NetLengths;
 use calls::sheets::Sheets;
 use inputs::tables::Table;
-
-/// How many nodes, edges and cells the net has; zeros behind a refusal.
-#[repr(C)]
-#[derive(Clone, Copy, Debug, Default, PartialEq, Eq)]
-pub struct NetOutcome {
-    pub number: u64,
-    pub place: u64,
-    pub nodes: u64,
-    pub edges: u64,
-    pub cells: u64,
-}
+use leafmesh::ffi::{self, NetOutcome};
 
 /// The rows lent for a net, and the work room.
 #[derive(Clone, Debug)]
@@ -39,37 +29,10 @@ impl Rows {
     }
 }
 
-extern "C" {
-    fn leafmesh_network(
-        table: *const i64,
-        length: usize,
-        count: usize,
-        max_level: u64,
-        layers: *const u16,
-        layers_length: usize,
-        components: *const u32,
-        components_length: usize,
-        sheets: *const f64,
-        sheets_length: usize,
-        nodes: *mut i64,
-        nodes_length: usize,
-        ends: *mut u64,
-        ends_length: usize,
-        conductances: *mut f64,
-        conductances_length: usize,
-        corners: *mut u64,
-        corners_length: usize,
-        cell_sheets: *mut f64,
-        cell_sheets_length: usize,
-        work: *mut u64,
-        work_length: usize,
-    ) -> NetOutcome;
-}
-
 pub fn network(table: &Table, polygons: &Sheets, rows: &mut Rows) -> NetOutcome {
     // SAFETY: each pointer comes with the length of its slice, which outlives the call.
     unsafe {
-        leafmesh_network(
+        ffi::leafmesh_network(
             table.row.as_ptr(),
             table.row.len(),
             table.count,

@@ -1,5 +1,6 @@
 -- `leafmesh::boards::leafmesh_read` meets its contract. Assumes nothing.
-use mathlib.Core.Path.{_∙_}
+use mathlib.Core.Path.{ap, _∙_}
+use Rattle.leafmesh.specs.Reads.{readOutcomeOf}
 use borrow.Author.Needs.{needs}
 use Rattle.leafmesh.proofs.boards.leafmesh_read.Statement.{statement}
 use Rattle.leafmesh.proofs.boards.leafmesh_read.Tie as tie
@@ -26,7 +27,7 @@ same-length-5 : tie.Need-same-length-5
 same-length-5 c = search needs
 
 returns : tie.Need-returns
-returns c = (c .of-read .ensures ∙ c .before .before .before .before .before .before .before .before .read .ensures .0, c .before .before .before .before .before .before .before .before .read .ensures .1)
+returns c = (c .of-read .ensures ∙ ap readOutcomeOf (c .before .before .before .before .before .before .before .before .read .ensures .0), c .before .before .before .before .before .before .before .before .read .ensures .1)
 
 pub leafmesh-read-spec : {M : Type 1} → statement M
 leafmesh-read-spec =

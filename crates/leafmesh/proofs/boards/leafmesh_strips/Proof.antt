@@ -1,5 +1,6 @@
 -- `leafmesh::boards::leafmesh_strips` meets its contract. Assumes nothing.
-use mathlib.Core.Path.{_∙_}
+use mathlib.Core.Path.{ap, _∙_}
+use Rattle.leafmesh.specs.Outcome.{outcomeOf}
 use borrow.Author.Needs.{needs}
 use Rattle.leafmesh.proofs.boards.leafmesh_strips.Statement.{statement}
 use Rattle.leafmesh.proofs.boards.leafmesh_strips.Tie as tie
@@ -14,7 +15,7 @@ same-length : tie.Need-same-length
 same-length c = search needs
 
 returns : tie.Need-returns
-returns c = (c .of-stripped .ensures ∙ c .before .before .strips .ensures .0, c .before .before .strips .ensures .1)
+returns c = (c .of-stripped .ensures ∙ ap outcomeOf (c .before .before .strips .ensures .0), c .before .before .strips .ensures .1)
 
 pub leafmesh-strips-spec : {M : Type 1} → statement M
 leafmesh-strips-spec =

@@ -1,5 +1,6 @@
 -- `leafmesh::nets::leafmesh_network` meets its contract. Assumes nothing.
-use mathlib.Core.Path.{_∙_}
+use mathlib.Core.Path.{ap, _∙_}
+use Rattle.leafmesh.specs.Nets.{netOutcomeOf}
 use borrow.Author.Needs.{needs}
 use Rattle.leafmesh.proofs.nets.leafmesh_network.Statement.{statement}
 use Rattle.leafmesh.proofs.nets.leafmesh_network.Tie as tie
@@ -29,7 +30,7 @@ same-length-6 : tie.Need-same-length-6
 same-length-6 c = search needs
 
 returns : tie.Need-returns
-returns c = (c .of-netted .ensures ∙ c .before .before .before .before .before .before .before .before .before .before .before .before .network .ensures .0, c .before .before .before .before .before .before .before .before .before .before .before .before .network .ensures .1)
+returns c = (c .of-netted .ensures ∙ ap netOutcomeOf (c .before .before .before .before .before .before .before .before .before .before .before .before .network .ensures .0), c .before .before .before .before .before .before .before .before .before .before .before .before .network .ensures .1)
 
 pub leafmesh-network-spec : {M : Type 1} → statement M
 leafmesh-network-spec =

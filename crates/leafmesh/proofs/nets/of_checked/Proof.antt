@@ -1,6 +1,7 @@
 -- `leafmesh::nets::of_checked` meets its contract. Assumes nothing.
 use mathlib.Core.Path.{sym, ap, _∙_}
 use Rattle.conforming.specs.Checks.{checkedSaid}
+use Rattle.leafmesh.specs.Nets.{checkOutcomeOf}
 use borrow.Author.Needs.{needs}
 use Rattle.leafmesh.proofs.nets.of_checked.Statement.{statement}
 use Rattle.leafmesh.proofs.nets.of_checked.Tie as tie
@@ -18,13 +19,13 @@ unchecked-requires : tie.Need-unchecked-requires
 unchecked-requires c κs = search needs
 
 returns : tie.Need-returns
-returns c = search needs
+returns c = ap checkOutcomeOf (ap checkedSaid (sym (c .enum-told .given .1)))
 
 returns-2 : tie.Need-returns-2
-returns-2 c = ap checkedSaid (sym (c .before .answer .given .1))
+returns-2 c = ap checkOutcomeOf (ap checkedSaid (sym (c .before .answer .given .1)))
 
 returns-3 : tie.Need-returns-3
-returns-3 c = c .unchecked .ensures ∙ ap checkedSaid (sym (c .before .before .answer2 .given .1))
+returns-3 c = c .unchecked .ensures ∙ ap checkOutcomeOf (ap checkedSaid (sym (c .before .before .answer2 .given .1)))
 
 pub of-checked-spec : {M : Type 1} → statement M
 of-checked-spec =

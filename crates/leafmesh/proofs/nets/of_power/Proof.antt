@@ -1,9 +1,7 @@
 -- `leafmesh::nets::of_power` meets its contract. Assumes nothing.
 use mathlib.Core.Path.{sym, ap, _∙_}
-use Rattle.power.specs.declared.Power.{Power}
 use Rattle.power.specs.Powers.{powerSaid}
-use Rattle.leafmesh.specs.Outcome.{padded}
-use Rattle.leafmesh.proofs.First.{padded-refused}
+use Rattle.leafmesh.specs.Outcome.{outcomeOf}
 use borrow.Author.Needs.{needs}
 use Rattle.leafmesh.proofs.nets.of_power.Statement.{statement}
 use Rattle.leafmesh.proofs.nets.of_power.Tie as tie
@@ -21,10 +19,10 @@ refuse-requires : tie.Need-refuse-requires
 refuse-requires c κs = search needs
 
 returns : tie.Need-returns
-returns c = c .accept .ensures ∙ ap (λ (a : Power). padded (powerSaid a)) (sym (c .before .enum-told .given .1))
+returns c = c .accept .ensures ∙ ap outcomeOf (ap powerSaid (sym (c .before .enum-told .given .1)))
 
 returns-2 : tie.Need-returns-2
-returns-2 c = c .refuse .ensures ∙ sym (padded-refused (c .before .before .answer .given .0 .0)) ∙ ap (λ (a : Power). padded (powerSaid a)) (sym (c .before .before .answer .given .1))
+returns-2 c = c .refuse .ensures ∙ ap outcomeOf (ap powerSaid (sym (c .before .before .answer .given .1)))
 
 pub of-power-spec : {M : Type 1} → statement M
 of-power-spec =

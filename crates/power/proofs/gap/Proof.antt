@@ -1,29 +1,18 @@
--- `power::extent` meets its contract: the difference fits, is not negative, and is exact as a fraction. Assumes nothing.
-use mathlib.Core.Path.{_≡_, sym, ap, subst}
-use Prim.Native.Nat.{ℕ, _≤_, _^_}
+-- `power::gap` meets its contract: the difference fits and is not negative. Assumes nothing.
+use mathlib.Core.Path.{_≡_, refl, sym, subst}
 use native.Mathlib.Omega.{arith}
 use lib.ListN.{getD}
-use lib.Dec.{T, le→leb}
-use lib.IntN.{ℤ, pos}
-use lib.Ieee as Ieee
-use lib.Ieee.{Float, binary64, inFloat, round, ofBits}
+use lib.Dec.{T}
+use lib.IntN.{ℤ, pos, natAbs}
+use lib.Signed.{nonNeg}
 use mir.Syntax.{w64}
-use mir.Val.{SFits}
+use mir.Val.{Fits, SFits}
 use mir.Facts.{toZ-ofZ}
-use Rattle.cell.specs.Ticks.{tick}
 use Rattle.sound_net.specs.Facts.{Gap}
 use Rattle.sound_net.proofs.Gaps.{gap-fits}
 use borrow.Author.Needs.{needs}
-use Rattle.power.proofs.extent.Statement.{statement}
-use Rattle.power.proofs.extent.Tie as tie
-
--- binary64 has every whole number up to 2^53
-small : (n : ℕ) → n ≤ 2 ^ 53 → T (inFloat binary64 (pos n))
-unfolding inFloat
-small n h = le→leb n (2 ^ 53) h
-
-exact : {z : ℤ} → Gap z → T (inFloat binary64 z)
-exact {z} g = subst (λ (y : ℤ). T (inFloat binary64 y)) (sym (g .is)) (small _ (omega (arith, g .most)))
+use Rattle.power.proofs.gap.Statement.{statement}
+use Rattle.power.proofs.gap.Tie as tie
 
 mul-a : tie.Need-mul-a
 mul-a c = search needs
@@ -45,25 +34,27 @@ sub-result c =
     let b : SFits w64 (getD nodes (s .args .j) (pos 0)) = search needs in
     rw (toZ-ofZ b, toZ-ofZ a) (gap-fits (s .pre .1))
 
-int-to-float-result : tie.Need-int-to-float-result
-int-to-float-result c =
-    let s = c .before .before .before in
+unsigned : {z : ℤ} → Gap z → T (nonNeg z) × Fits w64 (natAbs z)
+unsigned {z} g = (subst (λ (y : ℤ). T (nonNeg y)) (sym (g .is)) tt, record { fits = omega (arith, g .most) })
+
+cast-result : tie.Need-cast-result
+cast-result c =
+    let s = c .before .before in
     let nodes = s .args .nodes .now in
     let a : SFits w64 (getD nodes (s .args .i) (pos 0)) = search needs in
     let b : SFits w64 (getD nodes (s .args .j) (pos 0)) = search needs in
-    rw (toZ-ofZ b, toZ-ofZ a, toZ-ofZ (gap-fits (s .pre .1))) (exact (s .pre .1))
+    rw (toZ-ofZ b, toZ-ofZ a, toZ-ofZ (gap-fits (s .pre .1))) (unsigned (s .pre .1))
 
 returns : tie.Need-returns
-unfolding round ofBits
 returns c =
-    let s = c .before .before .before in
+    let s = c .before .before in
     let nodes = s .args .nodes .now in
     let a : SFits w64 (getD nodes (s .args .i) (pos 0)) = search needs in
     let b : SFits w64 (getD nodes (s .args .j) (pos 0)) = search needs in
-    rw (toZ-ofZ b, toZ-ofZ a, toZ-ofZ (gap-fits (s .pre .1))) (ap (λ (y : ℤ). Ieee.mul binary64 (Ieee.ofInt binary64 y) tick) (s .pre .1 .is))
+    rw (toZ-ofZ b, toZ-ofZ a, toZ-ofZ (gap-fits (s .pre .1))) refl
 
-pub extent-spec : {M : Type 1} → statement M
-extent-spec =
+pub gap-spec : {M : Type 1} → statement M
+gap-spec =
     tie.close
     (tie.spec
     mul-a
@@ -71,5 +62,5 @@ extent-spec =
     mul-b
     shared-slice-copy-out-b
     sub-result
-    int-to-float-result
+    cast-result
     returns)
