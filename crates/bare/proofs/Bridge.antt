@@ -25,7 +25,7 @@ use Rattle.net.proofs.Board.{each-length, each-at}
 use Rattle.net.proofs.Flat.{flat-nodes, flat-cells, flat-edges}
 use Rattle.net.proofs.Upto.{countUp, upto-all, Rising, rising-from, so-far-four}
 use Rattle.cell.specs.Boxes.{Box}
-use Rattle.places.specs.Places.{wide, boxAt, placeKeys, nodeNums, nodeOf, Holds}
+use Rattle.places.specs.Places.{wide, boxAt, placeKeys, nodeNums, nodeOf, Holds, cornerNums}
 use Rattle.bare.specs.Slots.{many, corner, middle, hitAt, slotEnd, slotKey, resistance}
 use Rattle.places.proofs.Places.{keys-long}
 use Rattle.places.proofs.Keyed.{node-at, places-keyed}
@@ -311,10 +311,6 @@ module _ (lay cmp : List ℕ) (sheets : List Float) (polys bs : List ℕ) (l : �
           ∙ each-news (λ i. f (getD slotList i d₀ .edge)) (λ i. f (slotOf i)) (tab (slotKey polys nums mids l) (8 * l)) (8 * l) (λ i h. ap (λ (p : Part). f (p .edge)) (slot-is i h d₀))))))
 
 -- ---- the cells
-
--- a cell's corners as numbers, in the row's order
-abbrev pub cornerNums : Patch → List ℕ
-cornerNums c = c .sw ∷ c .se ∷ c .ne ∷ c .nw ∷ []
 
 corner-num : (ks : List ℕ) (c : ℕ) (s : Float) (i : ℕ) → i < 4 → getD (cornerNums (patchBy ks c s)) i 0 ≡ numberBy ks (c + i)
 corner-num ks c s zero h = ap (numberBy ks) (sym (add-zero c))

@@ -24,7 +24,8 @@ use Rattle.strips.proofs.Picking.{split}
 use Rattle.strips.proofs.Laying.{few-points}
 use Rattle.build.specs.Grid.{Root, allEven, listedAt, flat, rootsIn}
 use Rattle.build.specs.Board.{Board, sumTo, ringAt, polygons, unit, sizeAt, stripsAt, rootsTo, rootsOf}
-use Rattle.build.specs.Says.{roomShaped, rowsShaped, layerIn, entryOk, entriesOk, listOk, numbersOk, settingsOk, sheetOk, judgeFrom, evenFrom, roomFor, filled}
+use Rattle.floats.specs.Fractions.{inSheet}
+use Rattle.build.specs.Says.{roomShaped, rowsShaped, layerIn, entryOk, entriesOk, listOk, numbersOk, settingsOk, judgeFrom, evenFrom, roomFor, filled}
 use Rattle.build.specs.Steps.{Fit, Tabled, placed, aloneSays, aloneLeaves}
 use Rattle.build.proofs.Placing.{length-flat}
 
@@ -62,7 +63,7 @@ module _ (rs : List Float) (cs : List ℕ) (ps : List (List ℤ)) (o : Said) (vs
   sound-from q zero p e l h = absurd (omega arith)
   sound-from q (suc n) p e l h =
       let r = sound-from (suc q) n p in
-      split (sheetOk (getD rs q nan))
+      split (inSheet (getD rs q nan))
       (λ s. split (ringInRange (ringAt cs ps q))
       (λ t. split (ringSlants (ringAt cs ps q))
       (λ u. absurd (refused-accepted 4 q vs (rw (s, t, u) at e)))
@@ -81,7 +82,7 @@ module _ (rs : List Float) (cs : List ℕ) (ps : List (List ℤ)) (o : Said) (vs
   sound-passes q zero e = e
   sound-passes q (suc n) e =
       let r = sound-passes (suc q) n in
-      split (sheetOk (getD rs q nan))
+      split (inSheet (getD rs q nan))
       (λ s. split (ringInRange (ringAt cs ps q))
       (λ t. split (ringSlants (ringAt cs ps q))
       (λ u. absurd (refused-accepted 4 q vs (rw (s, t, u) at e)))

@@ -19,7 +19,8 @@ use Rattle.strips.specs.Rings.{ringInRange, ringSlants}
 use Rattle.strips.proofs.Picking.{split}
 use Rattle.build.specs.Grid.{listedAt}
 use Rattle.build.specs.Board.{sumTo, ringAt}
-use Rattle.build.specs.Says.{entryOk, entriesOk, sheetOk, judgeFrom}
+use Rattle.floats.specs.Fractions.{inSheet}
+use Rattle.build.specs.Says.{entryOk, entriesOk, judgeFrom}
 
 pub sum-none : (cs : List ℕ) → sumTo cs 0 ≡ 0
 unfolding sumTo
@@ -52,19 +53,19 @@ module _ (rs : List Float) (cs : List ℕ) (ps : List (List ℤ)) (p n : ℕ) (h
   rest : n - p ≡ suc (n - (p + 1))
   rest = omega arith
 
-  pub judge-sheet : sheetOk (getD rs p nan) ≡ false → judgeFrom rs cs ps p (n - p) o ≡ refused 3 p
+  pub judge-sheet : inSheet (getD rs p nan) ≡ false → judgeFrom rs cs ps p (n - p) o ≡ refused 3 p
   unfolding judgeFrom
   judge-sheet e = rw (rest, e) refl
 
-  pub judge-range : sheetOk (getD rs p nan) ≡ true → ringInRange (ringAt cs ps p) ≡ false → judgeFrom rs cs ps p (n - p) o ≡ refused 3 p
+  pub judge-range : inSheet (getD rs p nan) ≡ true → ringInRange (ringAt cs ps p) ≡ false → judgeFrom rs cs ps p (n - p) o ≡ refused 3 p
   unfolding judgeFrom
   judge-range e f = rw (rest, e, f) refl
 
-  pub judge-slant : sheetOk (getD rs p nan) ≡ true → ringInRange (ringAt cs ps p) ≡ true → ringSlants (ringAt cs ps p) ≡ true → judgeFrom rs cs ps p (n - p) o ≡ refused 4 p
+  pub judge-slant : inSheet (getD rs p nan) ≡ true → ringInRange (ringAt cs ps p) ≡ true → ringSlants (ringAt cs ps p) ≡ true → judgeFrom rs cs ps p (n - p) o ≡ refused 4 p
   unfolding judgeFrom
   judge-slant e f g = rw (rest, e, f, g) refl
 
-  pub judge-on : sheetOk (getD rs p nan) ≡ true → ringInRange (ringAt cs ps p) ≡ true → ringSlants (ringAt cs ps p) ≡ false → judgeFrom rs cs ps p (n - p) o ≡ judgeFrom rs cs ps (p + 1) (n - (p + 1)) o
+  pub judge-on : inSheet (getD rs p nan) ≡ true → ringInRange (ringAt cs ps p) ≡ true → ringSlants (ringAt cs ps p) ≡ false → judgeFrom rs cs ps p (n - p) o ≡ judgeFrom rs cs ps (p + 1) (n - (p + 1)) o
   unfolding judgeFrom
   judge-on e f g = rw (rest, e, f, g, add-one p) refl
 

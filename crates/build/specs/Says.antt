@@ -4,11 +4,11 @@ use mathlib.Core.Bool.{Bool, true, false, cond, _&&_}
 use mathlib.Core.List.{List, [], _∷_, _++_}
 use lib.Dec.{ltb, leb, eqb}
 use lib.IntN.{ℤ, pos}
-use lib.Ieee as Ieee
-use lib.Ieee.{Float, nan, binary64, ofBits}
+use lib.Ieee.{Float, nan}
 use lib.ListN.{length, getD, replicate}
 use Rattle.refusals.specs.Limits.{maxLevel, maxCap, maxCell, maxLayers, maxPolygons, maxSlots}
 use Rattle.refusals.specs.Said.{Said, accepted, refused, refusal}
+use Rattle.floats.specs.Fractions.{inSheet}
 use Rattle.strips.specs.Said.{judged, ifAccepted}
 use Rattle.build.specs.declared.Settings.{Settings}
 use Rattle.build.specs.declared.Built.{Built}
@@ -57,15 +57,11 @@ numbersOk s n =
 unfoldable pub settingsOk : Board → Bool
 settingsOk b = numbersOk (b .settings) (polygons b) && listOk (b .list)
 
--- "2^-40 to 2^40"
-unfoldable pub sheetOk : Float → Bool
-sheetOk r = Ieee.le (ofBits binary64 0x3d70_0000_0000_0000) r && Ieee.le r (ofBits binary64 0x4270_0000_0000_0000)
-
 -- "polygon by polygon 3 before 4": the n polygons from p on, and then `otherwise`
 unfoldable pub judgeFrom : List Float → List ℕ → List (List ℤ) → ℕ → ℕ → Said → Said
 judgeFrom rs cs ps p zero otherwise = otherwise
 judgeFrom rs cs ps p (suc n) otherwise =
-    cond (sheetOk (getD rs p nan)) (judged p (ringAt cs ps p) (judgeFrom rs cs ps (suc p) n otherwise)) (refused 3 p)
+    cond (inSheet (getD rs p nan)) (judged p (ringAt cs ps p) (judgeFrom rs cs ps (suc p) n otherwise)) (refused 3 p)
 
 -- "then 5", at the lowest polygon that has an uneven side
 unfoldable pub evenFrom : Board → ℕ → ℕ → Said → Said

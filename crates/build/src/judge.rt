@@ -5,7 +5,7 @@ ghost use lib.Dec.{eqb};
 ghost use lib.ListN.{length};
 ghost use Rattle.refusals.specs.Said.{Said};
 ghost use Rattle.build.specs.Board.{sumTo};
-ghost use Rattle.build.specs.Says.{roomShaped, sheetOk, judgeFrom, fault};
+ghost use Rattle.build.specs.Says.{roomShaped, judgeFrom, fault};
 use refusals::Refusal;
 use refusals::limits;
 use strips::ring;
@@ -39,12 +39,6 @@ pub fn adds_up(counts: &[u64], total: usize) -> bool
     left == 0
 }
 
-fn sheet_ok(r: f64) -> bool
-    ensures { λ b. ⌜ b ≡ sheetOk r ⌝ }
-{
-    (limits::SHEET_LOW <= r) & (r <= limits::SHEET_HIGH)
-}
-
 // Sheet resistance and ring of each polygon. Internal: the rows fit together.
 pub fn judge(sheets: &[f64], counts: &[u64], points: &[[i64; 2]]) -> Judged
     requires { ⌜ (length (now sheets) ≡ length (now counts)) × (sumTo (now counts) (length (now counts)) ≡ length (now points)) ⌝ }
@@ -53,7 +47,7 @@ pub fn judge(sheets: &[f64], counts: &[u64], points: &[[i64; 2]]) -> Judged
     let mut at = 0;
     let mut p = 0;
     while p < counts.len() {
-        if !sheet_ok(sheets[p]) {
+        if !floats::sheet_in_range(sheets[p]) {
             return Judged::Faulty(Refusal::OutOfRange(p));
         }
         let end = at + counts[p] as usize;

@@ -34,10 +34,11 @@ pub fn ticks(n: u64) -> i64
     n as i64 - COORDINATE
 }
 
-// A length in metres. Internal: exact, and every length of a cell is below 2^53.
+// A length in metres. Internal: exact, and every length of a cell is below 2^53. A signed number becomes a fraction in one
+// instruction, an unsigned one in several.
 pub fn metres(length: u64) -> f64
     requires { ⌜ length < 2 ^ 53 ⌝ }
     ensures { λ r. ⌜ r ≡ metresOf length ⌝ }
 {
-    (length as f64) * crate::Cell::TICK
+    ((length as i64) as f64) * crate::Cell::TICK
 }

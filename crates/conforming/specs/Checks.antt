@@ -28,7 +28,7 @@ fault ends (some m) none b = []
 fault ends (some m) (some a) none = []
 fault ends (some m) (some a) (some b) = cond (joined ends a m && joined ends m b) [] (m ∷ a ∷ b ∷ [])
 
--- the leaf edge from a to b with the middle m, each an x and a y. Request 5 of the further requests replaces this definition alone
+-- the leaf edge from a to b with the middle m, each an x and a y. Request 5 of the further requests puts another definition in its place in the by-layer check
 unfoldable pub chain : List ℤ → List ℕ → Whose → ℤ → ℤ → ℤ → ℤ → ℤ → ℤ → List ℕ
 chain nodes ends w ax ay bx by mx my = fault ends (nodeAt nodes w mx my) (nodeAt nodes w ax ay) (nodeAt nodes w bx by)
 

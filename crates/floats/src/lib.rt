@@ -1,7 +1,6 @@
-// Fractions in binary64: the ranges of document 01, and whole numbers as fractions.
+// Fractions in binary64: the ranges of document 01.
 ghost use mathlib.Core.Path.{_≡_};
-ghost use Prim.Native.Nat.{_<_, _^_};
-ghost use Rattle.floats.specs.Fractions.{float, inSheet, inPotential};
+ghost use Rattle.floats.specs.Fractions.{inSheet, inPotential};
 use refusals::limits::POTENTIAL;
 use refusals::limits::SHEET_HIGH;
 use refusals::limits::SHEET_LOW;
@@ -18,12 +17,4 @@ pub fn potential_in_range(u: f64) -> bool
     ensures { λ b. ⌜ b ≡ inPotential u ⌝ }
 {
     (u >= -POTENTIAL) & (u <= POTENTIAL)
-}
-
-// A whole number as a fraction. Internal: exact, and every length of the mesh is below 2^53.
-pub fn whole(n: u64) -> f64
-    requires { ⌜ n < 2 ^ 53 ⌝ }
-    ensures { λ r. ⌜ r ≡ float n ⌝ }
-{
-    n as f64
 }

@@ -1,44 +1,50 @@
 -- Laws of text put behind text. Assumes nothing.
 use Prim.Native.Nat.{ℕ, suc, _+_, _<_, _≤_}
-use mathlib.Core.Path.{_≡_, refl, sym, ap, _∙_}
+use mathlib.Core.Path.{_≡_, refl, sym, ap, ap₂, subst, _∙_}
 use mathlib.Core.List.{List, [], _∷_, _++_, append-assoc, append-nil}
+use native.Mathlib.Nat.{add-zero, add-suc, suc-add}
 use native.Mathlib.Omega.{arith}
 use native.Mathlib.Numerals.{add-one}
-use lib.ListN.{length, getD, take, drop, set, drop-of-length-le}
+use lib.ListN.{length, getD, take, drop, set, length-append}
 use lib.IntN.{ℤ, pos}
-use lib.Seq.{take-suc, take-suc-set, drop-cons}
-use Rattle.lines.specs.Text.{newline, space, decimal, signed, numbers, line, edgeWord, named}
+use lib.Seq.{sets, sets-eq, length-sets, length-take-le, take-suc}
+use Rattle.io.specs.Counts.{Counts}
+use Rattle.io.proofs.Counting.{counts}
+use Rattle.lines.specs.Text.{newline, space, decimal, signed, numbers, line, edgeWord, named, written, Puts}
 
--- one byte more
-pub joined-turn : (out out₀ text : List ℕ) (at i : ℕ) → at + i < length out → i < length text → take (at + i) out ≡ take at out₀ ++ take i text
-    → take (at + (i + 1)) (set out (at + i) (getD text i 0)) ≡ take at out₀ ++ take (i + 1) text
-joined-turn out out₀ text at i h k e =
-    let v = getD text i 0 in
-    let n : at + (i + 1) ≡ suc (at + i) = omega arith in
-    ap (λ j. take j (set out (at + i) v)) n
-    ∙ take-suc-set out (at + i) v h
-    ∙ ap (λ l. l ++ (v ∷ [])) e
-    ∙ append-assoc (take at out₀) (take i text) (v ∷ [])
-    ∙ ap (λ l. take at out₀ ++ l) (sym (take-suc text i 0 k) ∙ ap (λ j. take j text) (sym (add-one i)))
+-- stores behind stores
+sets-more : (l : List ℕ) (k : ℕ) (xs ys : List ℕ) → sets (sets l k xs) (k + length xs) ys ≡ sets l k (xs ++ ys)
+sets-more l k [] ys = rw (add-zero k)
+sets-more l k (x ∷ xs) ys = rw (add-suc k (length xs), ← suc-add k (length xs)) (sets-more (set l k x) (suc k) xs ys)
 
 -- two texts, one behind the other
-pub join : {y z : List ℕ} (x s t u : List ℕ) → s ++ t ≡ u → y ≡ x ++ s → z ≡ y ++ t → z ≡ x ++ u
-join x s t u g e f = f ∙ ap (λ l. l ++ t) e ∙ append-assoc x s t ∙ ap (λ l. x ++ l) g
+pub join : {b d : ℕ} {y z : List ℕ} (at : ℕ) (x s t u : List ℕ) → s ++ t ≡ u → Puts at s x b y → Puts b t y d z → Puts at u x d z
+join at x s t u g p q = (
+  omega (arith, p .0, q .0, length-append s t, ap length g),
+  q .1 ∙ ap₂ (λ k l. sets l k t) (p .0) (p .1) ∙ sets-more x at s t ∙ ap (sets x at) g,
+)
+
+-- the same text by another name
+pub renamed : {d : ℕ} {z : List ℕ} (at : ℕ) (x s t : List ℕ) → s ≡ t → Puts at s x d z → Puts at t x d z
+renamed {d} {z} at x s t e p = subst (λ l. Puts at l x d z) e p
+
+-- one byte more
+pub one-byte : {y : List ℕ} (x text : List ℕ) (at i : ℕ) → i < length text → y ≡ sets x at (take i text)
+    → set y (at + i) (getD text i 0) ≡ sets x at (take (i + 1) text)
+one-byte x text at i h e =
+    let v = getD text i 0 in
+    ap₂ (λ l k. set l (at + k) v) e (sym (length-take-le i text (omega arith)))
+    ∙ sets-more x at (take i text) (v ∷ [])
+    ∙ ap (sets x at) (sym (take-suc text i 0 h) ∙ ap (λ j. take j text) (sym (add-one i)))
 
 -- one number more
-pub numbers-turn : {y : List ℕ} (x : List ℕ) (row : List ℤ) (i : ℕ) → i < length row → y ≡ x ++ (space ∷ signed (getD row i (pos 0)))
-    → y ++ numbers (drop (i + 1) row) ≡ x ++ numbers (drop i row)
+numbers-snoc : (zs : List ℤ) (z : ℤ) → numbers zs ++ (space ∷ signed z) ≡ numbers (zs ++ (z ∷ []))
 unfolding numbers
-numbers-turn x row i h e =
-    let t = space ∷ signed (getD row i (pos 0)) in
-    ap (λ l. l ++ numbers (drop (i + 1) row)) e
-    ∙ append-assoc x t (numbers (drop (i + 1) row))
-    ∙ ap (λ n. x ++ (t ++ numbers (drop n row))) (add-one i)
-    ∙ ap (λ l. x ++ numbers l) (sym (drop-cons row i (pos 0) h))
+numbers-snoc [] z = ap (λ l. space ∷ l) (sym (append-nil (signed z)))
+numbers-snoc (y ∷ ys) z = ap (λ l. space ∷ l) (append-assoc (signed y) (numbers ys) (space ∷ signed z) ∙ ap (λ l. signed y ++ l) (numbers-snoc ys z))
 
-pub numbers-none : (x : List ℕ) (row : List ℤ) (i : ℕ) → length row ≤ i → x ++ numbers (drop i row) ≡ x
-unfolding numbers
-numbers-none x row i h = ap (λ l. x ++ numbers l) (drop-of-length-le row h) ∙ append-nil x
+pub numbers-turn : (row : List ℤ) (i : ℕ) → i < length row → numbers (take i row) ++ (space ∷ signed (getD row i (pos 0))) ≡ numbers (take (i + 1) row)
+numbers-turn row i h = numbers-snoc (take i row) (getD row i (pos 0)) ∙ ap numbers (sym (take-suc row i (pos 0) h) ∙ ap (λ j. take j row) (sym (add-one i)))
 
 -- a number alone
 pub alone : (n : ℕ) → space ∷ decimal n ≡ numbers (pos n ∷ [])
@@ -46,13 +52,30 @@ unfolding numbers signed
 alone n = ap (λ l. space ∷ l) (sym (append-nil (decimal n)))
 
 -- a word and its first number, the others, and the end of the line
-pub lined : {y z u : List ℕ} (word : List ℕ) (n : ℕ) (zs : List ℤ) → y ≡ named word n → z ≡ y ++ numbers zs → u ≡ z ++ (newline ∷ []) → u ≡ line word (pos n ∷ zs)
+pub lined : {a b c : ℕ} {x y z : List ℕ} (w word : List ℕ) (n : ℕ) (zs : List ℤ)
+    → Puts 0 (named word n) w a x → Puts a (numbers zs) x b y → Puts b (newline ∷ []) y c z → Puts 0 (line word (pos n ∷ zs)) w c z
 unfolding numbers signed
-lined word n zs e f g = g ∙ ap (λ l. l ++ (newline ∷ [])) (f ∙ ap (λ l. l ++ numbers zs) e) ∙ simp append-assoc
+lined {a} {x = x} w word n zs p q r =
+    let t = numbers zs ++ (newline ∷ []) in
+    join 0 w (named word n) t (line word (pos n ∷ zs)) (simp append-assoc) p (join a x (numbers zs) (newline ∷ []) t refl q r)
 
 -- the same with a conductance behind the numbers
-pub edged : {y z u v : List ℕ} (from to : ℕ) (hex : List ℕ) → y ≡ named edgeWord from → z ≡ y ++ (space ∷ decimal to) → u ≡ z ++ (space ∷ hex) → v ≡ u ++ (newline ∷ [])
-    → v ≡ edgeWord ++ (numbers (pos from ∷ pos to ∷ []) ++ (space ∷ hex ++ (newline ∷ [])))
+pub edged : {a b c d : ℕ} {w x y z : List ℕ} (v : List ℕ) (from to : ℕ) (hex : List ℕ)
+    → Puts 0 (named edgeWord from) v a w → Puts a (space ∷ decimal to) w b x → Puts b (space ∷ hex) x c y → Puts c (newline ∷ []) y d z
+    → Puts 0 (edgeWord ++ (numbers (pos from ∷ pos to ∷ []) ++ (space ∷ hex ++ (newline ∷ [])))) v d z
 unfolding numbers signed
-edged from to hex e f g h =
-    h ∙ ap (λ l. l ++ (newline ∷ [])) (g ∙ ap (λ l. l ++ (space ∷ hex)) (f ∙ ap (λ l. l ++ (space ∷ decimal to)) e)) ∙ simp (append-assoc, append-nil)
+edged {a} {b} {w = w} {x = x} v from to hex p q r l =
+    let t = space ∷ hex ++ (newline ∷ []) in
+    let u = (space ∷ decimal to) ++ t in
+    join 0 v (named edgeWord from) u (edgeWord ++ (numbers (pos from ∷ pos to ∷ []) ++ t)) (simp (append-assoc, append-nil)) p
+    (join a w (space ∷ decimal to) t u refl q (join b x (space ∷ hex) (newline ∷ []) t refl r l))
+
+-- a line is a text at the row's start
+pub lies : {r : ℕ} {after : List ℕ} (row text : List ℕ) → r ≤ length row → Puts 0 text row r after → Counts r after × ((r ≡ length text) × (after ≡ written text row))
+unfolding written
+lies {r} {after} row text h p =
+    let n : r ≡ length text = omega (arith, p .0) in
+    let k : 0 + length text ≡ length text = omega arith in (
+      counts r after (omega (arith, h, ap length (p .1), length-sets row 0 text)),
+      (n, p .1 ∙ subst (λ j. sets row 0 text ≡ text ++ drop j row) k (sets-eq text row 0 (omega (arith, n, h)))),
+    )

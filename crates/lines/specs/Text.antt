@@ -1,7 +1,10 @@
 -- Document 01's lines of `leafnet`, as ASCII codes.
 use Prim.Native.Nat.{ℕ, zero, suc, _+_, _/_, _%_}
+use mathlib.Core.Path.{_≡_}
 use mathlib.Core.Bool.{Bool, true, false}
 use mathlib.Core.List.{List, [], _∷_, _++_}
+use lib.ListN.{length, drop}
+use lib.Seq.{sets}
 use lib.Dec.{ltb}
 use lib.IntN.{ℤ, pos, negsuc}
 use lib.Ieee.{Float, binary64, toBits}
@@ -10,6 +13,14 @@ use Rattle.io.specs.Digits.{digits}
 -- the bytes that a line has room in: no line is longer
 abbrev pub room : ℕ
 room = 256
+
+-- a text at the start of a row: behind it the row is as it was
+unfoldable pub written : List ℕ → List ℕ → List ℕ
+written text row = text ++ drop (length text) row
+
+-- a text stored from byte `at` of a row on, and the end of it
+abbrev pub Puts : ℕ → List ℕ → List ℕ → ℕ → List ℕ → Type 0
+Puts at text before end after = (end ≡ at + length text) × (after ≡ sets before at text)
 
 abbrev pub newline : ℕ
 newline = 10

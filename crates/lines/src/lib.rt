@@ -1,8 +1,9 @@
-// The text of `leafnet`, line by line: each call writes a line at the start of a lent row and answers how many bytes it has.
+// The text of `leafnet`, line by line: each call writes a line at the start of a lent row and answers how many bytes it has. Behind the line
+// the row is as it was.
 ghost use mathlib.Core.Path.{_≡_};
-ghost use lib.ListN.{take};
+ghost use lib.ListN.{length};
 ghost use Rattle.io.specs.Counts.{Counts};
-ghost use Rattle.lines.specs.Text.{totalsText, leafText, nodeText, edgeText, refusedText};
+ghost use Rattle.lines.specs.Text.{totalsText, leafText, nodeText, edgeText, refusedText, written};
 
 mod put;
 
@@ -18,7 +19,8 @@ pub fn totals_line(
     out: &mut [u8; ROOM],
 ) -> usize
     ensures { λ r. ⌜ Counts r (now (out .exit)) ⌝ }
-    ensures { λ r. ⌜ take r (now (out .exit)) ≡ totalsText cells leaves nodes edges splits ⌝ }
+    ensures { λ r. ⌜ r ≡ length (totalsText cells leaves nodes edges splits) ⌝ }
+    ensures { λ r. ⌜ now (out .exit) ≡ written (totalsText cells leaves nodes edges splits) (now (out .entry)) ⌝ }
 {
     let line: &mut [u8] = out;
     let a = put::named(line, 0, b"cells", cells as u64);
@@ -40,7 +42,8 @@ pub fn leaf_line(
     out: &mut [u8; ROOM],
 ) -> usize
     ensures { λ r. ⌜ Counts r (now (out .exit)) ⌝ }
-    ensures { λ r. ⌜ take r (now (out .exit)) ≡ leafText id polygon level x0 y0 x1 y1 ⌝ }
+    ensures { λ r. ⌜ r ≡ length (leafText id polygon level x0 y0 x1 y1) ⌝ }
+    ensures { λ r. ⌜ now (out .exit) ≡ written (leafText id polygon level x0 y0 x1 y1) (now (out .entry)) ⌝ }
 {
     let line: &mut [u8] = out;
     let a = put::named(line, 0, b"leaf", id);
@@ -57,7 +60,8 @@ pub fn node_line(
     out: &mut [u8; ROOM],
 ) -> usize
     ensures { λ r. ⌜ Counts r (now (out .exit)) ⌝ }
-    ensures { λ r. ⌜ take r (now (out .exit)) ≡ nodeText number layer component x y ⌝ }
+    ensures { λ r. ⌜ r ≡ length (nodeText number layer component x y) ⌝ }
+    ensures { λ r. ⌜ now (out .exit) ≡ written (nodeText number layer component x y) (now (out .entry)) ⌝ }
 {
     let line: &mut [u8] = out;
     let a = put::named(line, 0, b"node", number);
@@ -67,7 +71,8 @@ pub fn node_line(
 
 pub fn edge_line(from: u64, to: u64, conductance: f64, out: &mut [u8; ROOM]) -> usize
     ensures { λ r. ⌜ Counts r (now (out .exit)) ⌝ }
-    ensures { λ r. ⌜ take r (now (out .exit)) ≡ edgeText from to conductance ⌝ }
+    ensures { λ r. ⌜ r ≡ length (edgeText from to conductance) ⌝ }
+    ensures { λ r. ⌜ now (out .exit) ≡ written (edgeText from to conductance) (now (out .entry)) ⌝ }
 {
     let line: &mut [u8] = out;
     let a = put::named(line, 0, b"edge", from);
@@ -78,7 +83,8 @@ pub fn edge_line(from: u64, to: u64, conductance: f64, out: &mut [u8; ROOM]) -> 
 
 pub fn refused_line(number: u64, place: usize, out: &mut [u8; ROOM]) -> usize
     ensures { λ r. ⌜ Counts r (now (out .exit)) ⌝ }
-    ensures { λ r. ⌜ take r (now (out .exit)) ≡ refusedText number place ⌝ }
+    ensures { λ r. ⌜ r ≡ length (refusedText number place) ⌝ }
+    ensures { λ r. ⌜ now (out .exit) ≡ written (refusedText number place) (now (out .entry)) ⌝ }
 {
     let line: &mut [u8] = out;
     let a = put::named(line, 0, b"refused", number);

@@ -1,16 +1,15 @@
 // Text put behind text. All of this is internal: each call asks that there is room, and answers where the text ends.
 ghost use mathlib.Core.Path.{_≡_};
-ghost use mathlib.Core.List.{[], _∷_, _++_};
+ghost use mathlib.Core.List.{_∷_};
 ghost use Prim.Native.Nat.{_+_, _*_, _≤_};
-ghost use lib.ListN.{length, take};
+ghost use lib.ListN.{length};
 ghost use lib.Ieee.{binary64, toBits};
-ghost use Rattle.lines.specs.Text.{space, decimal, hexOf};
+ghost use Rattle.lines.specs.Text.{space, decimal, hexOf, Puts};
 ghost use Rattle.lines.specs.Text.{signed as Text·signed, numbers as Text·numbers, named as Text·named};
 
 pub fn append(out: &mut [u8], at: usize, text: &[u8]) -> usize
     requires { ⌜ at + length (now text) ≤ length (now out) ⌝ }
-    ensures { λ r. ⌜ r ≡ at + length (now (text .entry)) ⌝ }
-    ensures { λ r. ⌜ take r (now (out .exit)) ≡ take at (now (out .entry)) ++ now (text .entry) ⌝ }
+    ensures { λ r. ⌜ Puts at (now (text .entry)) (now (out .entry)) r (now (out .exit)) ⌝ }
 {
     let mut i: usize = 0;
     while i < text.len() {
@@ -24,7 +23,7 @@ pub fn append(out: &mut [u8], at: usize, text: &[u8]) -> usize
 fn digits(out: &mut [u8], at: usize, n: u64) -> usize
     requires { ⌜ at + 20 ≤ length (now out) ⌝ }
     ensures { λ r. ⌜ r ≤ at + 20 ⌝ }
-    ensures { λ r. ⌜ take r (now (out .exit)) ≡ take at (now (out .entry)) ++ decimal n ⌝ }
+    ensures { λ r. ⌜ Puts at (decimal n) (now (out .entry)) r (now (out .exit)) ⌝ }
 {
     let mut text = [0u8; 20];
     let k = io::decimal(n, &mut text);
@@ -35,17 +34,17 @@ fn digits(out: &mut [u8], at: usize, n: u64) -> usize
 pub fn natural(out: &mut [u8], at: usize, n: u64) -> usize
     requires { ⌜ at + 21 ≤ length (now out) ⌝ }
     ensures { λ r. ⌜ r ≤ at + 21 ⌝ }
-    ensures { λ r. ⌜ take r (now (out .exit)) ≡ take at (now (out .entry)) ++ (space ∷ decimal n) ⌝ }
+    ensures { λ r. ⌜ Puts at (space ∷ decimal n) (now (out .entry)) r (now (out .exit)) ⌝ }
 {
-    let a = append(out, at, b" ");
-    digits(out, a, n)
+    append(out, at, b" ");
+    digits(out, at + 1, n)
 }
 
 // A word and its number.
 pub fn named(out: &mut [u8], at: usize, word: &[u8], n: u64) -> usize
     requires { ⌜ at + length (now word) + 21 ≤ length (now out) ⌝ }
     ensures { λ r. ⌜ r ≤ at + length (now (word .entry)) + 21 ⌝ }
-    ensures { λ r. ⌜ take r (now (out .exit)) ≡ take at (now (out .entry)) ++ Text·named (now (word .entry)) n ⌝ }
+    ensures { λ r. ⌜ Puts at (Text·named (now (word .entry)) n) (now (out .entry)) r (now (out .exit)) ⌝ }
 {
     let a = append(out, at, word);
     natural(out, a, n)
@@ -55,7 +54,7 @@ pub fn named(out: &mut [u8], at: usize, word: &[u8], n: u64) -> usize
 fn signed(out: &mut [u8], at: usize, z: i64) -> usize
     requires { ⌜ at + 22 ≤ length (now out) ⌝ }
     ensures { λ r. ⌜ r ≤ at + 22 ⌝ }
-    ensures { λ r. ⌜ take r (now (out .exit)) ≡ take at (now (out .entry)) ++ (space ∷ Text·signed z) ⌝ }
+    ensures { λ r. ⌜ Puts at (space ∷ Text·signed z) (now (out .entry)) r (now (out .exit)) ⌝ }
 {
     if z >= 0 {
         return natural(out, at, z as u64);
@@ -67,7 +66,7 @@ fn signed(out: &mut [u8], at: usize, z: i64) -> usize
 pub fn numbers(out: &mut [u8], at: usize, row: &[i64]) -> usize
     requires { ⌜ at + 22 * length (now row) ≤ length (now out) ⌝ }
     ensures { λ r. ⌜ r ≤ at + 22 * length (now (row .entry)) ⌝ }
-    ensures { λ r. ⌜ take r (now (out .exit)) ≡ take at (now (out .entry)) ++ Text·numbers (now (row .entry)) ⌝ }
+    ensures { λ r. ⌜ Puts at (Text·numbers (now (row .entry))) (now (out .entry)) r (now (out .exit)) ⌝ }
 {
     let mut end = at;
     let mut i: usize = 0;
@@ -82,7 +81,7 @@ pub fn numbers(out: &mut [u8], at: usize, row: &[i64]) -> usize
 pub fn hex(out: &mut [u8], at: usize, n: u64) -> usize
     requires { ⌜ at + 17 ≤ length (now out) ⌝ }
     ensures { λ r. ⌜ r ≤ at + 17 ⌝ }
-    ensures { λ r. ⌜ take r (now (out .exit)) ≡ take at (now (out .entry)) ++ (space ∷ hexOf n) ⌝ }
+    ensures { λ r. ⌜ Puts at (space ∷ hexOf n) (now (out .entry)) r (now (out .exit)) ⌝ }
 {
     let mut text = [0u8; 16];
     let k = io::hex(n, 16, &mut text);

@@ -20,8 +20,7 @@ use Rattle.net.specs.Hang.{Joined, Halved, HalvedSides}
 use Rattle.net.proofs.Find.{find-same}
 use Rattle.net.proofs.Keys.{both-of}
 use Rattle.net.proofs.All.{In}
-use Rattle.places.specs.Places.{nodeNums}
-use Rattle.made.specs.Made.{endNums}
+use Rattle.places.specs.Places.{nodeNums, endNums}
 use Rattle.made.proofs.Places.{top, Tells, found, joined-of}
 use Rattle.made.proofs.Pieces.{BoxWithin}
 

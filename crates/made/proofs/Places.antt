@@ -24,8 +24,7 @@ use Rattle.net.proofs.Keys.{both, both-of}
 use Rattle.net.proofs.All.{All, all-at}
 use Rattle.net.proofs.Sound.{node-is}
 use Rattle.net.proofs.Nan.{Within}
-use Rattle.places.specs.Places.{nodeNums}
-use Rattle.made.specs.Made.{endNums}
+use Rattle.places.specs.Places.{nodeNums, endNums}
 use Rattle.made.proofs.Rows.{nodes-count, layer-at, component-at, x-at, y-at, ends-long, from-at, to-at}
 
 -- the largest coordinate of a cell

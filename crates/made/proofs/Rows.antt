@@ -9,8 +9,7 @@ use lib.Seq.{getD-append-add}
 use Rattle.cell.specs.Ticks.{on}
 use Rattle.sound_net.specs.Nets.{nodeCount, layerAt, componentAt, xAt, yAt, fromAt, toAt, swAt, seAt, neAt, nwAt}
 use Rattle.net.specs.Net.{each, Node, Edge, Patch, nth, nowhere}
-use Rattle.places.specs.Places.{nodeNums}
-use Rattle.made.specs.Made.{endNums, cornerNums}
+use Rattle.places.specs.Places.{nodeNums, cornerNums, endNums}
 
 -- lists of k to an element
 module _ {A B : Type 0} (f : A → List B) (k : ℕ) (size : (a : A) → length (f a) ≡ k) where

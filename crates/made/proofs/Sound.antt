@@ -27,8 +27,8 @@ use Rattle.net.proofs.Nan.{Within}
 use Rattle.net.proofs.Sound.{Positive}
 use Rattle.net.proofs.Laws.{ends, cells}
 use Rattle.hanging.proofs.Placed.{cell-positive}
-use Rattle.places.specs.Places.{nodeNums}
-use Rattle.made.specs.Made.{polyAt, InRange, endNums, cornerNums, rowsOf}
+use Rattle.places.specs.Places.{nodeNums, cornerNums, endNums}
+use Rattle.made.specs.Made.{polyAt, InRange, rowsOf}
 use Rattle.made.proofs.Rows.{nodes-long, nodes-count, layer-at, component-at, x-at, y-at, ends-long, from-at, to-at, corners-long, sw-at, se-at, ne-at, nw-at}
 use Rattle.made.proofs.Places.{top}
 use Rattle.made.proofs.Pieces.{pieces-polys, pieces-leaves, nodes-polys, nodes-are, low}

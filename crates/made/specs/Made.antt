@@ -7,7 +7,7 @@ use lib.Ieee.{Float}
 use lib.ListN.{length, getD}
 use Rattle.sound_net.specs.Nets.{Net as Rows, netOf}
 use Rattle.net.specs.Net.{each, Poly, Edge, Patch, Net, One}
-use Rattle.places.specs.Places.{nodeNums}
+use Rattle.places.specs.Places.{nodeNums, cornerNums, endNums}
 
 -- ---- polygons
 
@@ -38,12 +38,6 @@ pub record InRange (p : Poly) : Type 0 where
   pub component : p .component < 2 ^ 32
 
 -- ---- the net's rows
-
-abbrev pub endNums : Edge → List ℕ
-endNums e = e .a ∷ e .b ∷ []
-
-abbrev pub cornerNums : Patch → List ℕ
-cornerNums c = c .sw ∷ c .se ∷ c .ne ∷ c .nw ∷ []
 
 abbrev pub nodeRow : Net → List ℤ
 nodeRow n = each nodeNums (n .nodes)

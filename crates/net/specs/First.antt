@@ -53,11 +53,6 @@ pairOf a b s = record { a = a; b = b; g = s }
 abbrev pub sidesOf : Patch → List Edge
 sidesOf c = pairOf (c .sw) (c .se) (c .sheet) ∷ pairOf (c .se) (c .ne) (c .sheet) ∷ pairOf (c .ne) (c .nw) (c .sheet) ∷ pairOf (c .nw) (c .sw) (c .sheet) ∷ []
 
--- the last of the first n whose first place is f, where there is one: what is left at f once each j below n has been written to its first place
-unfoldable pub lastBelow : List ℕ → ℕ → ℕ → ℕ
-lastBelow ks f zero = 0
-lastBelow ks f (suc j) = elim (eqb (firstOf ks j) f) [ true ↦ j | false ↦ lastBelow ks f j ]
-
 -- the number of what stands at i, of those with equal keys the number of the first
 abbrev pub numberBy : List ℕ → ℕ → ℕ
 numberBy ks i = rank ks (firstOf ks i)

@@ -17,12 +17,12 @@ use Rattle.net.specs.Net.{each, Node, Edge, Patch, Piece, Cornered, Ends, nodes
 use Rattle.net.proofs.All.{All, all-by}
 use Rattle.net.proofs.Nan.{Within}
 use Rattle.net.proofs.Sound.{edges-ends, patches-cornered}
-use Rattle.places.specs.Places.{nodeNums}
-use Rattle.bare.proofs.Bridge.{Board, cornerNums}
+use Rattle.places.specs.Places.{nodeNums, cornerNums, endNums}
+use Rattle.bare.proofs.Bridge.{Board}
 use Rattle.leafrows.specs.Rows.{polyRow, boxRow, polysOf, Given, Filled}
 use Rattle.leafrows.proofs.Laws as Leaf
 use Rattle.unweighted.specs.Netted as Bare
-use Rattle.unweighted.specs.Netted.{endNums, Counted}
+use Rattle.unweighted.specs.Netted.{Counted}
 use Rattle.unweighted.proofs.Low as Low
 use Rattle.node_rows.proofs.Lists.{items-long}
 use Rattle.weights.specs.Weigh.{weightIn, NetRows}

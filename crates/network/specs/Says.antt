@@ -15,10 +15,8 @@ use Rattle.floats.specs.Fractions.{inSheet}
 use Rattle.rows.specs.Parts.{put}
 use Rattle.net.specs.Net as Net
 use Rattle.net.specs.Net.{Edge, Patch, each}
-use Rattle.places.specs.Places.{nodeNums}
-use Rattle.bare.proofs.Bridge.{cornerNums}
+use Rattle.places.specs.Places.{nodeNums, cornerNums, endNums}
 use Rattle.leafrows.specs.Rows.{polysOf, polysBelow}
-use Rattle.unweighted.specs.Netted.{endNums}
 use Rattle.unweighted.specs.declared.Counts.{Counts}
 use Rattle.network.specs.declared.Netted.{Netted}
 use Rattle.network.specs.declared.Netted.the-variants.{Done, Refused}

@@ -17,8 +17,7 @@ use Rattle.rows.proofs.Fill.{tab-at, tab-only, tab-same}
 use Rattle.net.specs.Net.{each, Node, Patch, Edge, nth, nowhere, weighed}
 use Rattle.net.proofs.All.{All, all-at, all-nil, all-one, all-append}
 use Rattle.net.proofs.Nan.{Within}
-use Rattle.places.specs.Places.{nodeNums}
-use Rattle.bare.proofs.Bridge.{cornerNums}
+use Rattle.places.specs.Places.{nodeNums, cornerNums}
 use Rattle.node_rows.specs.Rows.{nodeIn, nodesIn, patchIn, patchesIn, edgeIn}
 
 -- a node out of the list

@@ -12,7 +12,7 @@ use Rattle.cell.specs.Boxes.{Box}
 use Rattle.cell.specs.Ticks.{on}
 use Rattle.rows.specs.Parts.{part, tab}
 use Rattle.rows.specs.Contract.{Small}
-use Rattle.net.specs.Net.{Node}
+use Rattle.net.specs.Net.{Node, Edge, Patch}
 use Rattle.net.specs.First.{firstOf, rank, numberBy}
 use Rattle.net.specs.Flat.{Leaf, leafAt, pickNum, placeX, placeY}
 
@@ -91,6 +91,14 @@ pub record Holds (layers components polys bs : List ℕ) (l : ℕ) (ls : List Le
 -- a node's numbers, with its coordinates in the caller's ticks
 abbrev pub nodeNums : Node → List ℤ
 nodeNums n = pos (n .layer) ∷ pos (n .component) ∷ on (n .x) ∷ on (n .y) ∷ []
+
+-- an edge's two nodes
+abbrev pub endNums : Edge → List ℕ
+endNums e = e .a ∷ e .b ∷ []
+
+-- a cell's corners, in the row's order
+abbrev pub cornerNums : Patch → List ℕ
+cornerNums c = c .sw ∷ c .se ∷ c .ne ∷ c .nw ∷ []
 
 -- the node at a place
 unfoldable pub nodeOf : List ℕ → List ℕ → List ℕ → List ℕ → ℕ → ℕ → Node

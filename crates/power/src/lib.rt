@@ -36,21 +36,13 @@ pub enum Power {
     Refused(Refusal),
 }
 
-// A length in metres. Internal: it is exact. A signed number becomes a fraction in one instruction, an unsigned one in several.
-fn metres(ticks: u64) -> f64
-    requires { ⌜ ticks < 2 ^ 53 ⌝ }
-    ensures { λ r. ⌜ r ≡ metresOf ticks ⌝ }
-{
-    ((ticks as i64) as f64) * cell::Cell::TICK
-}
-
 // A cell's slope and extents from its values. Internal: the sides are those of a sound cell.
 fn cell_grad(v: Values) -> Slope
     requires { ⌜ (v .width < 2 ^ 53) × (v .height < 2 ^ 53) ⌝ }
     ensures { λ r. ⌜ r ≡ slopeOf (v .u0) (v .u1) (v .u2) (v .u3) (metresOf (v .width)) (metresOf (v .height)) ⌝ }
 {
-    let dx = metres(v.width);
-    let dy = metres(v.height);
+    let dx = cell::ticks::metres(v.width);
+    let dy = cell::ticks::metres(v.height);
     Slope {
         gx: ((v.u1 + v.u2) - (v.u0 + v.u3)) / (2.0 * dx),
         gy: ((v.u2 + v.u3) - (v.u0 + v.u1)) / (2.0 * dy),

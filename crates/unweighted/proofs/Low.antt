@@ -20,11 +20,11 @@ use Rattle.net.proofs.All.{All, all-nil, all-cons, all-at, all-left, all-right,
 use Rattle.net.proofs.Pieces.{allCorners, nodes-weld}
 use Rattle.net.proofs.Flat.{flat-sum}
 use Rattle.net.proofs.Sound.{Positive, edges-ends, patches-cornered, nodes-count, edges-count}
-use Rattle.places.specs.Places.{boxAt, placeKeys}
+use Rattle.places.specs.Places.{boxAt, placeKeys, cornerNums, endNums}
 use Rattle.places.proofs.Places.{keys-long}
 use Rattle.bare.specs.Slots.{Upright}
-use Rattle.bare.proofs.Bridge.{Board, cornerNums, bridge-corners}
-use Rattle.unweighted.specs.Netted.{Counted, Netted, endNums}
+use Rattle.bare.proofs.Bridge.{Board, bridge-corners}
+use Rattle.unweighted.specs.Netted.{Counted, Netted}
 use Rattle.unweighted.proofs.Steps.{number-low}
 use Rattle.unweighted.proofs.Nets.{nodes-count-is}
 

@@ -13,10 +13,10 @@ use Rattle.net.proofs.Weld.{length-news}
 use Rattle.net.proofs.Board.{each-length}
 use Rattle.net.proofs.Flat.{flat-sum}
 use Rattle.net.proofs.Sound.{patches-count}
-use Rattle.places.specs.Places.{placeKeys, nodeNums, nodeOf}
+use Rattle.places.specs.Places.{placeKeys, nodeNums, nodeOf, endNums}
 use Rattle.bare.specs.Slots.{Slotted, Parted, slotKeys, endsOf, slotG, polysIn, numsIn, midsIn}
 use Rattle.bare.proofs.Bridge.{Board, bridge-nodes, bridge-edges, bridge-corners, bridge-sheets}
-use Rattle.unweighted.specs.Netted.{Placed, Edged, Ready, Counted, Netted, endNums}
+use Rattle.unweighted.specs.Netted.{Placed, Edged, Ready, Counted, Netted}
 use Rattle.unweighted.proofs.Steps.{front-slotted, front-polys, front-nums, front-mids}
 
 -- one for each

@@ -9,9 +9,9 @@ use lib.Ieee.{Float}
 use Rattle.rows.specs.Parts.{put}
 use Rattle.net.specs.Net.{each, Edge, Patch, Piece, nth, nowhere, nodesFrom, edgesFrom, patchesFrom}
 use Rattle.net.proofs.Board.{each-length, each-at}
-use Rattle.places.specs.Places.{nodeNums}
-use Rattle.bare.proofs.Bridge.{Board, cornerNums}
-use Rattle.unweighted.specs.Netted.{Counted, Netted, endNums}
+use Rattle.places.specs.Places.{nodeNums, cornerNums, endNums}
+use Rattle.bare.proofs.Bridge.{Board}
+use Rattle.unweighted.specs.Netted.{Counted, Netted}
 use Rattle.unweighted.proofs.Low.{front-at, ends-long, few-nodes, few-edges}
 
 -- two to an edge

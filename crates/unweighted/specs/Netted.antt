@@ -10,9 +10,8 @@ use Rattle.rows.specs.Contract.{Small}
 use Rattle.refusals.specs.Limits.{maxPolygons}
 use Rattle.net.specs.Net.{each, Edge, Patch, Piece, nodesFrom, edgesFrom, patchesFrom}
 use Rattle.net.specs.First.{rank, news}
-use Rattle.places.specs.Places.{placeKeys, nodeNums, nodeOf, Laid, Numbered}
+use Rattle.places.specs.Places.{placeKeys, nodeNums, nodeOf, Laid, Numbered, cornerNums, endNums}
 use Rattle.bare.specs.Slots.{Upright, slotKeys, endsOf, slotG}
-use Rattle.bare.proofs.Bridge.{cornerNums}
 
 -- ---- what the steps hand on
 
@@ -28,10 +27,6 @@ pub record Edged (sheets : List Float) (boxes rows : List ℕ) (l count : ℕ) (
   pub gs-row : gs′ ≡ put gs 0 (each (λ j. slotG sheets boxes rows l j ∷ []) (news (slotKeys rows l) (8 * l)))
 
 -- ---- the net
-
--- an edge's two nodes
-abbrev pub endNums : Edge → List ℕ
-endNums e = e .a ∷ e .b ∷ []
 
 -- l rows of cells, and as many of nodes and edges as the net of the pieces has
 pub record Counted (qs : List Piece) (l nodes edges cells : ℕ) : Type 0 where

@@ -12,15 +12,10 @@ use Rattle.rows.proofs.Parts.{part-all, part-put, put-again}
 use Rattle.net.specs.Net.{each, Node, Patch, Edge, Cornered, Ends, nth, nowhere, weighed}
 use Rattle.net.proofs.All.{All, all-at}
 use Rattle.net.proofs.Nan.{Within}
-use Rattle.places.specs.Places.{nodeNums}
-use Rattle.bare.proofs.Bridge.{cornerNums}
+use Rattle.places.specs.Places.{nodeNums, cornerNums, endNums}
 use Rattle.node_rows.specs.Rows.{nodeIn, nodesIn}
 use Rattle.node_rows.proofs.Lists.{node-at, item-at, items-fit, nodes-are, patches-are, edges-are, weights-are}
 use Rattle.weights.specs.Weigh.{weightIn, NetRows}
-
--- an edge's two nodes
-abbrev pub endNums : Edge → List ℕ
-endNums e = e .a ∷ e .b ∷ []
 
 -- the rows begin with the nodes, cells and edges
 pub record Held (ns : List Node) (cs : List Patch) (es : List Edge) (nodes : List ℤ) (corners : List ℕ) (sheets : List Float) (ends : List ℕ) (gs : List Float) : Type 0 where

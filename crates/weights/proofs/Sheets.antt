@@ -12,8 +12,8 @@ use Rattle.net.specs.First.{key, firstOf, sidesOf}
 use Rattle.net.proofs.Board.{each-length, each-at}
 use Rattle.net.proofs.Laws.{sheet-first, sheet-none}
 use Rattle.net.proofs.Keys as Keys
+use Rattle.places.specs.Places.{cornerNums}
 use Rattle.bare.specs.Slots.{many}
-use Rattle.bare.proofs.Bridge.{cornerNums}
 use Rattle.weights.specs.Sides.{pairEnd, pairKey, pairKeys, Paired}
 use Rattle.weights.proofs.Pairs.{end-cell, end-edge, end-low}
 

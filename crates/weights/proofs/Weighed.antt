@@ -13,7 +13,7 @@ use Rattle.rows.proofs.Parts.{part-at}
 use Rattle.rows.proofs.Fill.{length-tab, tab-at}
 use Rattle.net.specs.Net.{Edge, Patch, face, distance, sheetOf, weight, weighed}
 use Rattle.net.specs.First.{firstOf}
-use Rattle.bare.proofs.Bridge.{cornerNums}
+use Rattle.places.specs.Places.{cornerNums}
 use Rattle.node_rows.specs.Rows.{nodesIn, patchIn, patchesIn, edgeIn}
 use Rattle.weights.specs.Sides.{pairKeys, Paired}
 use Rattle.weights.specs.Weigh.{edgeOf, weightIn, faceIn, distanceIn, NetRows, Ready}

@@ -1,12 +1,10 @@
 -- `lines::edge_line` meets its contract. Assumes nothing.
-use mathlib.Core.Path.{ap, _∙_}
-use mathlib.Core.List.{_∷_, _++_}
+use mathlib.Core.Path.{ap}
+use mathlib.Core.List.{_∷_}
 use native.Mathlib.Omega.{arith}
-use lib.ListN.{take}
 use lib.Ieee.{binary64, toBits}
-use Rattle.io.proofs.Counting.{counts}
-use Rattle.lines.specs.Text.{space, hexOf}
-use Rattle.lines.proofs.Joining.{edged}
+use Rattle.lines.specs.Text.{space, hexOf, edgeText}
+use Rattle.lines.proofs.Joining.{renamed, edged, lies}
 use borrow.Author.Needs.{needs}
 use Rattle.lines.proofs.edge_line.Statement.{statement}
 use Rattle.lines.proofs.edge_line.Tie as tie
@@ -38,10 +36,13 @@ returns c =
     let q = h .before .before .before .before .before in
     let p = q .before .before .before .before in
     let a = p .before .before .before .before .args in
-    let e = h .hex .ensures .1 ∙ ap (λ n. take (q .natural .result) (q .natural .last .0) ++ (space ∷ hexOf n)) (h .before .bits .ensures) in (
-      counts _ _ (omega (arith, c .append .ensures .0)),
-      edged (a .from) (a .to) (hexOf (toBits binary64 (a .conductance))) (p .named .ensures .1) (q .natural .ensures .1) e (c .append .ensures .1),
-    )
+    let g = hexOf (toBits binary64 (a .conductance)) in
+    let e = renamed (q .natural .result) (q .natural .last .0) (space ∷ hexOf (h .before .bits .result)) (space ∷ g) (ap (λ n. space ∷ hexOf n) (h .before .bits .ensures)) (h .hex .ensures .1) in
+    lies
+    (a .out .now)
+    (edgeText (a .from) (a .to) (a .conductance))
+    (omega (arith, c .append .ensures .0))
+    (edged (a .out .now) (a .from) (a .to) g (p .named .ensures .1) (q .natural .ensures .1) e (c .append .ensures))
 
 pub edge-line-spec : {M : Type 1} → statement M
 edge-line-spec =

@@ -2,9 +2,8 @@
 use mathlib.Core.List.{[], _∷_}
 use native.Mathlib.Omega.{arith}
 use mir.Facts.{toZ-ofZ}
-use Rattle.io.proofs.Counting.{counts}
-use Rattle.lines.specs.Text.{leafWord}
-use Rattle.lines.proofs.Joining.{lined}
+use Rattle.lines.specs.Text.{leafWord, leafText}
+use Rattle.lines.proofs.Joining.{lined, lies}
 use borrow.Author.Needs.{needs}
 use Rattle.lines.proofs.leaf_line.Statement.{statement}
 use Rattle.lines.proofs.leaf_line.Tie as tie
@@ -34,7 +33,11 @@ returns c =
     let a = p .before .before .before .before .args in
     let f = p .before .before .before .before .fits in
     let e = rw (toZ-ofZ (f .polygon), toZ-ofZ (f .level), toZ-ofZ (f .x0), toZ-ofZ (f .y0), toZ-ofZ (f .x1), toZ-ofZ (f .y1)) at (q .numbers .ensures .1) in
-    (counts _ _ (omega (arith, c .append .ensures .0)), lined leafWord (a .id) (a .polygon ∷ a .level ∷ a .x0 ∷ a .y0 ∷ a .x1 ∷ a .y1 ∷ []) (p .named .ensures .1) e (c .append .ensures .1))
+    lies
+    (a .out .now)
+    (leafText (a .id) (a .polygon) (a .level) (a .x0) (a .y0) (a .x1) (a .y1))
+    (omega (arith, c .append .ensures .0))
+    (lined (a .out .now) leafWord (a .id) (a .polygon ∷ a .level ∷ a .x0 ∷ a .y0 ∷ a .x1 ∷ a .y1 ∷ []) (p .named .ensures .1) e (c .append .ensures))
 
 pub leaf-line-spec : {M : Type 1} → statement M
 leaf-line-spec =

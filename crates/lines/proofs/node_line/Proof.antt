@@ -2,9 +2,8 @@
 use mathlib.Core.List.{[], _∷_}
 use native.Mathlib.Omega.{arith}
 use mir.Facts.{toZ-ofZ}
-use Rattle.io.proofs.Counting.{counts}
-use Rattle.lines.specs.Text.{nodeWord}
-use Rattle.lines.proofs.Joining.{lined}
+use Rattle.lines.specs.Text.{nodeWord, nodeText}
+use Rattle.lines.proofs.Joining.{lined, lies}
 use borrow.Author.Needs.{needs}
 use Rattle.lines.proofs.node_line.Statement.{statement}
 use Rattle.lines.proofs.node_line.Tie as tie
@@ -34,7 +33,11 @@ returns c =
     let a = p .before .before .before .before .args in
     let f = p .before .before .before .before .fits in
     let e = rw (toZ-ofZ (f .layer), toZ-ofZ (f .component), toZ-ofZ (f .x), toZ-ofZ (f .y)) at (q .numbers .ensures .1) in
-    (counts _ _ (omega (arith, c .append .ensures .0)), lined nodeWord (a .number) (a .layer ∷ a .component ∷ a .x ∷ a .y ∷ []) (p .named .ensures .1) e (c .append .ensures .1))
+    lies
+    (a .out .now)
+    (nodeText (a .number) (a .layer) (a .component) (a .x) (a .y))
+    (omega (arith, c .append .ensures .0))
+    (lined (a .out .now) nodeWord (a .number) (a .layer ∷ a .component ∷ a .x ∷ a .y ∷ []) (p .named .ensures .1) e (c .append .ensures))
 
 pub node-line-spec : {M : Type 1} → statement M
 node-line-spec =

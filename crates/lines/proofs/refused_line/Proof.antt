@@ -1,12 +1,9 @@
 -- `lines::refused_line` meets its contract. Assumes nothing.
-use mathlib.Core.Path.{ap, _∙_}
-use mathlib.Core.List.{[], _∷_, _++_}
+use mathlib.Core.List.{[], _∷_}
 use native.Mathlib.Omega.{arith}
-use lib.ListN.{take}
 use lib.IntN.{pos}
-use Rattle.io.proofs.Counting.{counts}
-use Rattle.lines.specs.Text.{refusedWord}
-use Rattle.lines.proofs.Joining.{alone, lined}
+use Rattle.lines.specs.Text.{space, decimal, numbers, refusedWord, refusedText}
+use Rattle.lines.proofs.Joining.{renamed, alone, lined, lies}
 use borrow.Author.Needs.{needs}
 use Rattle.lines.proofs.refused_line.Statement.{statement}
 use Rattle.lines.proofs.refused_line.Tie as tie
@@ -31,8 +28,12 @@ returns c =
     let q = c .before .before .before .before in
     let p = q .before .before .before .before in
     let a = p .before .before .before .before .args in
-    let e = q .natural .ensures .1 ∙ ap (λ l. take (p .named .result) (p .named .last .0) ++ l) (alone (a .place)) in
-    (counts _ _ (omega (arith, c .append .ensures .0)), lined refusedWord (a .number) (pos (a .place) ∷ []) (p .named .ensures .1) e (c .append .ensures .1))
+    let e = renamed (p .named .result) (p .named .last .0) (space ∷ decimal (a .place)) (numbers (pos (a .place) ∷ [])) (alone (a .place)) (q .natural .ensures .1) in
+    lies
+    (a .out .now)
+    (refusedText (a .number) (a .place))
+    (omega (arith, c .append .ensures .0))
+    (lined (a .out .now) refusedWord (a .number) (pos (a .place) ∷ []) (p .named .ensures .1) e (c .append .ensures))
 
 pub refused-line-spec : {M : Type 1} → statement M
 refused-line-spec =

@@ -1,12 +1,11 @@
 -- `lines::totals_line` meets its contract. Assumes nothing.
 use Prim.Native.Nat.{_≤_}
-use mathlib.Core.Path.{_≡_, refl, ap, _∙_}
-use mathlib.Core.List.{List, [], _∷_, _++_}
+use mathlib.Core.Path.{_≡_, refl, _∙_}
+use mathlib.Core.List.{[], _∷_, _++_}
 use native.Mathlib.Omega.{arith}
-use lib.ListN.{length, take}
-use Rattle.io.proofs.Counting.{counts}
-use Rattle.lines.specs.Text.{room, newline, space, named, leavesWord, nodesWord, edgesWord, splitsWord}
-use Rattle.lines.proofs.Joining.{join}
+use lib.ListN.{length}
+use Rattle.lines.specs.Text.{room, newline, space, named, totalsText, cellsWord, leavesWord, nodesWord, edgesWord, splitsWord}
+use Rattle.lines.proofs.Joining.{join, lies}
 use borrow.Author.Needs.{needs}
 use Rattle.lines.proofs.totals_line.Statement.{statement}
 use Rattle.lines.proofs.totals_line.Tie as tie
@@ -71,11 +70,12 @@ returns c =
     let t4 = named (space ∷ edgesWord) (a .edges) ++ t5 in
     let t3 = named (space ∷ nodesWord) (a .nodes) ++ t4 in
     let t2 = named (space ∷ leavesWord) (a .leaves) ++ t3 in
-    let j5 = join (take (s4 .named4 .result) (s4 .named4 .last .0)) (named (space ∷ splitsWord) (a .splits)) (newline ∷ []) t5 refl (s5 .named5 .ensures .1) (c .append .ensures .1) in
-    let j4 = join (take (s3 .named3 .result) (s3 .named3 .last .0)) (named (space ∷ edgesWord) (a .edges)) t5 t4 refl (s4 .named4 .ensures .1) j5 in
-    let j3 = join (take (s2 .named2 .result) (s2 .named2 .last .0)) (named (space ∷ nodesWord) (a .nodes)) t4 t3 refl (s3 .named3 .ensures .1) j4 in
-    let j2 = join (take (s1 .named .result) (s1 .named .last .0)) (named (space ∷ leavesWord) (a .leaves)) t3 t2 refl (s2 .named2 .ensures .1) j3 in
-    (counts _ _ (omega (arith, c .append .ensures .0, c .append .kept .0, w .0, w .1)), j2 ∙ ap (λ l. l ++ t2) (s1 .named .ensures .1))
+    let j5 = join (s4 .named4 .result) (s4 .named4 .last .0) (named (space ∷ splitsWord) (a .splits)) (newline ∷ []) t5 refl (s5 .named5 .ensures .1) (c .append .ensures) in
+    let j4 = join (s3 .named3 .result) (s3 .named3 .last .0) (named (space ∷ edgesWord) (a .edges)) t5 t4 refl (s4 .named4 .ensures .1) j5 in
+    let j3 = join (s2 .named2 .result) (s2 .named2 .last .0) (named (space ∷ nodesWord) (a .nodes)) t4 t3 refl (s3 .named3 .ensures .1) j4 in
+    let j2 = join (s1 .named .result) (s1 .named .last .0) (named (space ∷ leavesWord) (a .leaves)) t3 t2 refl (s2 .named2 .ensures .1) j3 in
+    let t = totalsText (a .cells) (a .leaves) (a .nodes) (a .edges) (a .splits) in
+    lies (a .out .now) t (omega (arith, c .append .ensures .0, w .0)) (join 0 (a .out .now) (named cellsWord (a .cells)) t2 t refl (s1 .named .ensures .1) j2)
 
 pub totals-line-spec : {M : Type 1} → statement M
 totals-line-spec =

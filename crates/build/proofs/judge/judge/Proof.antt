@@ -6,7 +6,8 @@ use borrow.Author.Tests.{not-true, not-false}
 use lib.Ieee.{nan}
 use mathlib.Core.Bool.{true, false}
 use Rattle.build.proofs.Judging.{sum-none, sum-more, ring-ends, ring-part, judge-sheet, judge-range, judge-slant, judge-on, judge-end}
-use Rattle.build.specs.Says.{judgeFrom, sheetOk}
+use Rattle.floats.specs.Fractions.{inSheet}
+use Rattle.build.specs.Says.{judgeFrom}
 use Rattle.build.specs.Board.{sumTo, ringAt}
 use Rattle.refusals.specs.Said.{Said}
 use native.Mathlib.Omega.{arith}
@@ -31,8 +32,8 @@ ends c =
     omega (arith, ring-ends (a .args .counts .now) (a .args .points .now) (c .before .loop .p) (c .loop-test .taken) (a .pre .1))
 
 -- what each test has said
-sheet-fine : (c : tie.Else1 Inv-loop μ-loop) → sheetOk (getD (c .before .before .before .before .before .before .before .args .sheets .now) (c .before .before .before .before .loop .p) nan) ≡ true
-sheet-fine c = sym (c .before .sheet-ok .ensures) ∙ not-false _ (c .if1 .left)
+sheet-fine : (c : tie.Else1 Inv-loop μ-loop) → inSheet (getD (c .before .before .before .before .before .before .before .args .sheets .now) (c .before .before .before .before .loop .p) nan) ≡ true
+sheet-fine c = sym (c .before .sheet-in-range .ensures) ∙ not-false _ (c .if1 .left)
 
 ring-fine : (c : tie.Else2 Inv-loop μ-loop) → ringInRange (ringAt (c .before .before .before .before .before .before .before .before .before .before .before .args .counts .now) (c .before .before .before .before .before .before .before .before .before .before .before .args .points .now) (c .before .before .before .before .before .before .before .before .loop .p)) ≡ true
 ring-fine c =
@@ -43,19 +44,19 @@ loop-holds : tie.Need-loop-holds Inv-loop μ-loop
 loop-holds c = let e : length (c .before .before .args .counts .now) - 0 ≡ length (c .before .before .args .counts .now) = omega arith in
     (search needs, sym (sum-none (c .before .before .args .counts .now)), λ o. rw e refl)
 
-mul-sheet-ok : tie.Need-mul-sheet-ok Inv-loop μ-loop
-mul-sheet-ok c = search needs
+mul-sheet-in-range : tie.Need-mul-sheet-in-range Inv-loop μ-loop
+mul-sheet-in-range c = search needs
 
-shared-slice-read-sheet-ok : tie.Need-shared-slice-read-sheet-ok Inv-loop μ-loop
-shared-slice-read-sheet-ok c = search needs
+shared-slice-read-sheet-in-range : tie.Need-shared-slice-read-sheet-in-range Inv-loop μ-loop
+shared-slice-read-sheet-in-range c = search needs
 
-sheet-ok-requires : tie.Need-sheet-ok-requires Inv-loop μ-loop
-sheet-ok-requires c κs = search needs
+sheet-in-range-requires : tie.Need-sheet-in-range-requires Inv-loop μ-loop
+sheet-in-range-requires c κs = search needs
 
 returns : tie.Need-returns Inv-loop μ-loop
 returns c = λ o.
     let a = c .before .before .before .before .before .before .before .args in
-    let e = sym (c .before .sheet-ok .ensures) ∙ not-true _ (c .if1 .taken) in
+    let e = sym (c .before .sheet-in-range .ensures) ∙ not-true _ (c .if1 .taken) in
     sym (judge-sheet (a .sheets .now) (a .counts .now) (a .points .now) (c .before .before .before .before .loop .p) (length (a .counts .now)) (c .before .before .before .loop-test .taken) o e) ∙ c .before .before .before .before .loop .inv .2 o
 
 mul-end : tie.Need-mul-end Inv-loop μ-loop
@@ -142,9 +143,9 @@ judge-spec =
     Inv-loop
     μ-loop
     loop-holds
-    mul-sheet-ok
-    shared-slice-read-sheet-ok
-    sheet-ok-requires
+    mul-sheet-in-range
+    shared-slice-read-sheet-in-range
+    sheet-in-range-requires
     returns
     mul-end
     shared-slice-read-end

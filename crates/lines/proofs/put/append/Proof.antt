@@ -1,24 +1,21 @@
--- `lines::put::append` meets its contract. The loop's invariant: the first i bytes of the text stand behind what stood in front. Assumes nothing.
+-- `lines::put::append` meets its contract. The loop's invariant: the first i bytes of the text are put. Assumes nothing.
 use Prim.Native.Nat.{_+_, _-_, _≤_}
-use mathlib.Core.Path.{_≡_, refl, sym, ap, _∙_}
-use mathlib.Core.List.{_++_, append-nil}
-use native.Mathlib.Nat.{add-zero}
+use mathlib.Core.Path.{_≡_, refl, ap, _∙_}
 use native.Mathlib.Omega.{arith}
 use lib.ListN.{length, take, getD, length-set}
-use lib.Seq.{take-all}
-use borrow.Author.Needs.{needs}
-use Rattle.lines.proofs.Joining.{joined-turn}
+use lib.Seq.{sets, take-all}
+use Rattle.lines.proofs.Joining.{one-byte}
 use Rattle.lines.proofs.put.append.Statement.{statement}
 use Rattle.lines.proofs.put.append.Tie as tie
 
 abbrev Inv-loop : tie.InvT-loop
-Inv-loop out₀ at text i₀ out i = (i ≤ length text) × (length out ≡ length out₀) × (take (at + i) out ≡ take at out₀ ++ take i text)
+Inv-loop out₀ at text i₀ out i = (i ≤ length text) × (length out ≡ length out₀) × (out ≡ sets out₀ at (take i text))
 
 abbrev μ-loop : tie.MeasureT-loop
 μ-loop out₀ at text i₀ out i = length text - i
 
 loop-holds : tie.Need-loop-holds Inv-loop μ-loop
-loop-holds c = let a = c .args in (omega arith, refl, ap (λ n. take n (a .out .now)) (add-zero (a .at)) ∙ sym (append-nil (take (a .at) (a .out .now))))
+loop-holds c = (omega arith, refl, refl)
 
 shared-slice-read-out : tie.Need-shared-slice-read-out Inv-loop μ-loop
 shared-slice-read-out c = omega arith
@@ -41,7 +38,7 @@ loop-again c =
     let a = c .before .before .before .args in (
       omega arith,
       length-set (l .out) (a .at + l .i) (getD (a .text .now) (l .i) 0) ∙ l .inv .1,
-      joined-turn (l .out) (a .out .now) (a .text .now) (a .at) (l .i) (omega arith) (omega arith) (l .inv .2),
+      one-byte (a .out .now) (a .text .now) (a .at) (l .i) (omega arith) (l .inv .2),
     )
 
 add-result : tie.Need-add-result Inv-loop μ-loop
@@ -54,7 +51,7 @@ returns : tie.Need-returns Inv-loop μ-loop
 returns c =
     let l = c .before .loop in
     let a = c .before .before .args in
-    (omega arith, l .inv .2 ∙ ap (λ t. take (a .at) (a .out .now) ++ t) (take-all (l .i) (a .text .now) (omega arith)))
+    (omega arith, l .inv .2 ∙ ap (sets (a .out .now) (a .at)) (take-all (l .i) (a .text .now) (omega arith)))
 
 pub append-spec : {M : Type 1} → statement M
 append-spec =

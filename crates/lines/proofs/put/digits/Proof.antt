@@ -1,10 +1,11 @@
 -- `lines::put::digits` meets its contract. Twenty digits hold every u64. Assumes nothing.
-use Prim.Native.Nat.{_+_, _≤_}
-use mathlib.Core.Path.{ap, _∙_}
-use mathlib.Core.List.{_++_}
+use Prim.Native.Nat.{_≤_}
+use mathlib.Core.Path.{_∙_}
 use native.Mathlib.Omega.{arith}
 use lib.ListN.{take}
+use Rattle.lines.specs.Text.{decimal}
 use Rattle.lines.proofs.Numerals.{few, decimal-digits}
+use Rattle.lines.proofs.Joining.{renamed}
 use borrow.Author.Needs.{needs}
 use Rattle.lines.proofs.put.digits.Statement.{statement}
 use Rattle.lines.proofs.put.digits.Tie as tie
@@ -33,7 +34,7 @@ returns c =
     let a = d .before .before .before .args in
     let e = c .before .before .append .ensures in (
       omega (arith, short d, d .decimal .ensures .0 .1, e .0),
-      e .1 ∙ ap (λ l. take (a .at) (a .out .now) ++ l) (d .decimal .ensures .1 .1 ∙ decimal-digits (d .decimal .result) (a .n) (d .decimal .ensures .1 .0)),
+      renamed (a .at) (a .out .now) (take (d .decimal .result) (d .decimal .last .1 .0)) (decimal (a .n)) (d .decimal .ensures .1 .1 ∙ decimal-digits (d .decimal .result) (a .n) (d .decimal .ensures .1 .0)) e,
     )
 
 pub digits-spec : {M : Type 1} → statement M

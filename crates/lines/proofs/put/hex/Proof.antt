@@ -1,5 +1,4 @@
 -- `lines::put::hex` meets its contract. Sixteen digits hold every u64, and are asked for. Assumes nothing.
-use Prim.Native.Nat.{_+_, _≤_}
 use mathlib.Core.Path.{_≡_, ap, _∙_}
 use mathlib.Core.List.{[], _∷_}
 use native.Mathlib.Omega.{arith}
@@ -48,7 +47,7 @@ returns c =
     let k = d .hex .result in
     let e = d .hex .ensures .1 .1 ∙ ap (λ j. digits 16 j (a .n)) (sixteen d) in (
       omega (arith, sixteen d, d .hex .ensures .0 .1, p .append2 .ensures .0, q .append .ensures .0),
-      join (take (a .at) (a .out .now)) (space ∷ []) (take k (d .hex .last .1 .1 .0)) (space ∷ hexOf (a .n)) (ap (λ l. space ∷ l) e) (q .append .ensures .1) (p .append2 .ensures .1),
+      join (a .at) (a .out .now) (space ∷ []) (take k (d .hex .last .1 .1 .0)) (space ∷ hexOf (a .n)) (ap (λ l. space ∷ l) e) (q .append .ensures) (p .append2 .ensures),
     )
 
 pub hex-spec : {M : Type 1} → statement M

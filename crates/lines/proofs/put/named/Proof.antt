@@ -2,7 +2,6 @@
 use mathlib.Core.Path.{refl}
 use mathlib.Core.List.{_∷_}
 use native.Mathlib.Omega.{arith}
-use lib.ListN.{take}
 use Rattle.lines.specs.Text.{space, decimal, named}
 use Rattle.lines.proofs.Joining.{join}
 use borrow.Author.Needs.{needs}
@@ -25,7 +24,7 @@ returns c =
     let a = q .before .before .before .before .args in
     let w = a .word .now in (
       omega (arith, p .natural .ensures .0, q .append .ensures .0),
-      join (take (a .at) (a .out .now)) w (space ∷ decimal (a .n)) (named w (a .n)) refl (q .append .ensures .1) (p .natural .ensures .1),
+      join (a .at) (a .out .now) w (space ∷ decimal (a .n)) (named w (a .n)) refl (q .append .ensures) (p .natural .ensures .1),
     )
 
 pub named-spec : {M : Type 1} → statement M

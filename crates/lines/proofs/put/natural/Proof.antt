@@ -2,7 +2,6 @@
 use mathlib.Core.Path.{refl}
 use mathlib.Core.List.{[], _∷_}
 use native.Mathlib.Omega.{arith}
-use lib.ListN.{take}
 use Rattle.lines.specs.Text.{space, decimal}
 use Rattle.lines.proofs.Joining.{join}
 use borrow.Author.Needs.{needs}
@@ -14,6 +13,9 @@ slice-aggregate-append c = search needs
 
 append-requires : tie.Need-append-requires
 append-requires c κs = search needs
+
+add-digits : tie.Need-add-digits
+add-digits c = search needs
 
 digits-requires : tie.Need-digits-requires
 digits-requires c κs = search needs
@@ -27,9 +29,9 @@ returns c =
     let q = p .before .before .before .before in
     let a = q .before .before .before .before .args in (
       omega (arith, p .digits .ensures .0, q .append .ensures .0),
-      join (take (a .at) (a .out .now)) (space ∷ []) (decimal (a .n)) (space ∷ decimal (a .n)) refl (q .append .ensures .1) (p .digits .ensures .1),
+      join (a .at) (a .out .now) (space ∷ []) (decimal (a .n)) (space ∷ decimal (a .n)) refl (refl, q .append .ensures .1) (p .digits .ensures .1),
     )
 
 pub natural-spec : {M : Type 1} → statement M
 natural-spec =
-    tie.close (tie.spec slice-aggregate-append append-requires digits-requires same-length returns)
+    tie.close (tie.spec slice-aggregate-append append-requires add-digits digits-requires same-length returns)

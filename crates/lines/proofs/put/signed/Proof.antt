@@ -1,9 +1,8 @@
 -- `lines::put::signed` meets its contract. At or above 0, and below. Assumes nothing.
 use Prim.Native.Nat.{_+_, _^_, _<_}
-use mathlib.Core.Path.{_≡_, ap, _∙_}
-use mathlib.Core.List.{[], _∷_, _++_}
+use mathlib.Core.Path.{_≡_, ap}
+use mathlib.Core.List.{[], _∷_}
 use native.Mathlib.Omega.{arith}
-use lib.ListN.{take}
 use lib.Dec.{T}
 use lib.Signed.{nonNeg}
 use lib.IntN.{negsuc, natAbs, _-ℤ_}
@@ -12,7 +11,7 @@ use mir.Val.{Fits, SFits}
 use mir.Facts.{toZ-ofZ}
 use Rattle.lines.specs.Text.{space, minus, decimal, signed}
 use Rattle.lines.proofs.Numerals.{above, below}
-use Rattle.lines.proofs.Joining.{join}
+use Rattle.lines.proofs.Joining.{join, renamed}
 use borrow.Author.Needs.{needs}
 use Rattle.lines.proofs.put.signed.Statement.{statement}
 use Rattle.lines.proofs.put.signed.Tie as tie
@@ -35,7 +34,7 @@ returns c =
     let k = p .before .before in
     let a = k .before .before .args in
     let e = rw (toZ-ofZ (k .before .before .fits .z)) at (p .natural .ensures .1) in
-    (omega (arith, p .natural .ensures .0), e ∙ ap (λ l. take (a .at) (a .out .now) ++ (space ∷ l)) (high k .2))
+    (omega (arith, p .natural .ensures .0), renamed (a .at) (a .out .now) (space ∷ decimal (natAbs (a .z))) (space ∷ signed (a .z)) (ap (λ l. space ∷ l) (high k .2)) e)
 
 slice-aggregate-append : tie.Need-slice-aggregate-append
 slice-aggregate-append c = search needs
@@ -71,7 +70,7 @@ returns-2 c =
     let d = low k in
     let e = rw (toZ-ofZ (k .before .before .fits .z), toZ-ofZ (d .0)) at (p .digits .ensures .1) in (
       omega (arith, p .digits .ensures .0, q .append .ensures .0),
-      join (take (a .at) (a .out .now)) (space ∷ minus ∷ []) (decimal (natAbs (negsuc 0 -ℤ a .z) + 1)) (space ∷ signed (a .z)) (ap (λ l. space ∷ l) (d .3)) (q .append .ensures .1) e,
+      join (a .at) (a .out .now) (space ∷ minus ∷ []) (decimal (natAbs (negsuc 0 -ℤ a .z) + 1)) (space ∷ signed (a .z)) (ap (λ l. space ∷ l) (d .3)) (q .append .ensures) e,
     )
 
 pub signed-spec : {M : Type 1} → statement M
