@@ -57,7 +57,8 @@ enum {
     LEAFMESH_FINEST_LEVEL = 10   /* place is the id */
 };
 
-/* number 0: accepted, with the call's value. Otherwise the refusal and its place. */
+/* number 0: accepted, with the call's value. Otherwise the refusal and its place. In every outcome a
+ * field that does not apply is 0. */
 typedef struct {
     uint64_t number;
     uint64_t place;
