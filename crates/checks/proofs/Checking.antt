@@ -14,7 +14,7 @@ use Rattle.table.specs.Formed.{wellFormed}
 use Rattle.sound_net.specs.Nets.{Net, nodeCount, soundNet}
 use Rattle.sound_net.proofs.Tests.{yes}
 use Rattle.sound_net.proofs.Sound.{net-facts}
-use Rattle.conforming.specs.Checks.{firstFault, netFault, layerFault, polygonsFit, networkSays, layersSays}
+use Rattle.conforming.specs.Checks.{firstFault, netFault, layerFault, polygonsFit, conformingSays, layersSays}
 use Rattle.conforming.proofs.Faults.{fit-facts}
 use Rattle.checks.specs.Keys.{maxNodes}
 use Rattle.checks.specs.Rooms.{roomy, workRow, Ranged}
@@ -102,8 +102,8 @@ module _ (t : List ℤ) (n M : ℕ) (net : Net) (layers components : List ℕ) w
   unfolding passes
   plain-passes = and-true (wellFormed t n M) (soundNet net)
 
-  pub plain-says : ownSays false t n M net layers components ≡ networkSays t n M net
-  unfolding ownSays networkSays netFault ownFault
+  pub plain-says : ownSays false t n M net layers components ≡ conformingSays t n M net
+  unfolding ownSays conformingSays netFault ownFault
   plain-says = ap (λ (b : Bool). cond b (accepted (netFault t n (net .nodes) (net .ends))) (refused 7 0)) plain-passes
 
   pub layer-passes : passes true t n M net layers components ≡ (wellFormed t n M && soundNet net && polygonsFit t n layers components)

@@ -15,7 +15,7 @@ ghost use Rattle.table.specs.Formed.{wellFormed};
 ghost use Rattle.sound_net.specs.Nets.{netOf, allBelow, nodeCount, layerAt, componentAt, soundNet};
 ghost use Rattle.sound_net.specs.Facts.{SoundNode, SoundEdge};
 ghost use Rattle.conforming.specs.Nodes.{placeOf, joined};
-ghost use Rattle.conforming.specs.Checks.{firstFault, polygonsFit, faultOf, checkedSaid, networkSays, layersSays};
+ghost use Rattle.conforming.specs.Checks.{firstFault, polygonsFit, faultOf, checkedSaid, conformingSays, layersSays};
 ghost use Rattle.rows.specs.Order.{lastOf};
 ghost use Rattle.rows.specs.Parts.{part, put, tab};
 ghost use Rattle.rows.specs.Contract.{Small};
@@ -452,7 +452,7 @@ pub fn check_network_conforming(
     sheets: &[f64],
     work: &mut [u64],
 ) -> Checked
-    ensures { λ r. ⌜ checkedSaid r ≡ networkSays (now (t .entry)) (head .count) (head .«max_level») (netOf (now (nodes .entry)) (now (ends .entry)) (now (conductances .entry)) (now (corners .entry)) (now (sheets .entry))) ⌝ }
+    ensures { λ r. ⌜ checkedSaid r ≡ conformingSays (now (t .entry)) (head .count) (head .«max_level») (netOf (now (nodes .entry)) (now (ends .entry)) (now (conductances .entry)) (now (corners .entry)) (now (sheets .entry))) ⌝ }
     ensures { λ _. ⌜ now (work .exit) ≡ workRow (nodeCount (now (nodes .entry))) (length (now (ends .entry)) / 2) (wellFormed (now (t .entry)) (head .count) (head .«max_level») && soundNet (netOf (now (nodes .entry)) (now (ends .entry)) (now (conductances .entry)) (now (corners .entry)) (now (sheets .entry)))) (now (work .entry)) ⌝ }
 {
     if !has_room(nodes, ends, work) {

@@ -16,4 +16,3 @@ pub mod Numbered
 pub mod Laws
 pub mod Room
 pub mod Sides
-pub mod Cases

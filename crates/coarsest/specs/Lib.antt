@@ -2,4 +2,3 @@
 pub mod Passes
 pub mod Sweep
 pub mod Names
-pub mod Cases

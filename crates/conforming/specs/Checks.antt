@@ -82,8 +82,8 @@ checkedSaid (Broken m a b) = accepted (m ∷ a ∷ b ∷ [])
 checkedSaid (Refused x) = refusal x
 
 -- "The checks: 7 only"
-unfoldable pub networkSays : List ℤ → ℕ → ℕ → Net → Said
-networkSays t n M net =
+unfoldable pub conformingSays : List ℤ → ℕ → ℕ → Net → Said
+conformingSays t n M net =
     cond (wellFormed t n M && soundNet net) (accepted (netFault t n (net .nodes) (net .ends))) (refused 7 0)
 
 unfoldable pub layersSays : List ℤ → ℕ → ℕ → Net → List ℕ → List ℕ → Said

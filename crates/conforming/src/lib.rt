@@ -9,7 +9,7 @@ ghost use Rattle.refusals.specs.Said.{accepted};
 ghost use Rattle.table.specs.Slots.{cellAt};
 ghost use Rattle.sound_net.specs.Nets.{netOf, allBelow};
 ghost use Rattle.conforming.specs.Nodes.{anyNode, nodesOf, here, nodeAt, placeOf, joins, joined};
-ghost use Rattle.conforming.specs.Checks.{chain, sidesFault, leafFault, cellFault, netFault, layerFault, polygonsFit, faultOf, checkedSaid, networkSays, layersSays};
+ghost use Rattle.conforming.specs.Checks.{chain, sidesFault, leafFault, cellFault, netFault, layerFault, polygonsFit, faultOf, checkedSaid, conformingSays, layersSays};
 use cell::Cell;
 use refusals::Refusal;
 use table::Head;
@@ -282,7 +282,7 @@ pub fn check_network_conforming(
     corners: &[u64],
     sheets: &[f64],
 ) -> Checked
-    ensures { λ r. ⌜ checkedSaid r ≡ networkSays (now (t .entry)) (head .count) (head .«max_level») (netOf (now (nodes .entry)) (now (ends .entry)) (now (conductances .entry)) (now (corners .entry)) (now (sheets .entry))) ⌝ }
+    ensures { λ r. ⌜ checkedSaid r ≡ conformingSays (now (t .entry)) (head .count) (head .«max_level») (netOf (now (nodes .entry)) (now (ends .entry)) (now (conductances .entry)) (now (corners .entry)) (now (sheets .entry))) ⌝ }
 {
     if !table::formed::well_formed(t, head) {
         return Checked::Refused(Refusal::BadTable);

@@ -189,7 +189,7 @@ pub extern "C" fn leafmesh_check_network_conforming(
     sheets: &[f64],
     work: &mut [u64],
 ) -> CheckOutcome
-    ensures { λ r. ⌜ r ≡ checkOutcomeOf (Checks.networkSays (now (table .entry)) count «max_level» (netOf (now (nodes .entry)) (now (ends .entry)) (now (conductances .entry)) (now (corners .entry)) (now (sheets .entry)))) ⌝ }
+    ensures { λ r. ⌜ r ≡ checkOutcomeOf (Checks.conformingSays (now (table .entry)) count «max_level» (netOf (now (nodes .entry)) (now (ends .entry)) (now (conductances .entry)) (now (corners .entry)) (now (sheets .entry)))) ⌝ }
     ensures { λ _. ⌜ now (work .exit) ≡ workRow (nodeCount (now (nodes .entry))) (length (now (ends .entry)) / 2) (wellFormed (now (table .entry)) count «max_level» && soundNet (netOf (now (nodes .entry)) (now (ends .entry)) (now (conductances .entry)) (now (corners .entry)) (now (sheets .entry)))) (now (work .entry)) ⌝ }
 {
     of_checked(checks::check_network_conforming(

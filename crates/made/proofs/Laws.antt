@@ -23,7 +23,7 @@ use Rattle.sound_net.specs.Nets.{netOf, allBelow, soundNet}
 use Rattle.sound_net.proofs.Tests.{same, all-of}
 use Rattle.conforming.specs.declared.Whose.{Whose}
 use Rattle.conforming.specs.Nodes.{anyNode, nodesOf}
-use Rattle.conforming.specs.Checks.{leafFault, cellFault, netFault, layerFault, polygonsFit, networkSays, layersSays}
+use Rattle.conforming.specs.Checks.{leafFault, cellFault, netFault, layerFault, polygonsFit, conformingSays, layersSays}
 use Rattle.net.specs.Net.{Poly, Node, Piece, sameNode, number, pieces, nodeAt, nodesFrom, network}
 use Rattle.net.specs.Hang.{soFar, HalvedSides}
 use Rattle.net.proofs.Keys.{both-of}
@@ -173,8 +173,8 @@ module _ (t : List ℤ) (n : ℕ) (p : Poly) (fits : (i : ℕ) → i < n → cel
       (λ i h. cell-clear t (nodeRow net) (endRow net) anyNode i
       (leaf-none t n (p ∷ []) alone zeroth anyNode i 0 h (fits i h) (omega arith) (any-tells (net .nodes) (low t n (p ∷ [])) p one-poly)))
 
-  pub one-net-says : (M : ℕ) → wellFormed t n M ≡ true → InRange p → networkSays t n M (rowsOf (network (table t n) (p ∷ []))) ≡ accepted []
-  unfolding networkSays
+  pub one-net-says : (M : ℕ) → wellFormed t n M ≡ true → InRange p → conformingSays t n M (rowsOf (network (table t n) (p ∷ []))) ≡ accepted []
+  unfolding conformingSays
   one-net-says M formed range =
       let net = rowsOf (network (table t n) (p ∷ [])) in
       ap (λ (b : Bool). cond b (accepted (netFault t n (net .nodes) (net .ends))) (refused 7 0))

@@ -27,7 +27,7 @@ fn count_band(points: &[[i64; 2]], edges: &[u64], lo: u64, hi: u64) -> usize
         let x0 = edges[a] / RING_POINTS as u64;
         let x1 = edges[b] / RING_POINTS as u64;
         j = b + 1;
-        if x0 < x1 {
+        if x1 > x0 {
             n += 1;
         }
     }

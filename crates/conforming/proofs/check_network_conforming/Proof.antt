@@ -7,7 +7,7 @@ use Rattle.refusals.specs.Said.{accepted}
 use Rattle.table.specs.Formed.{wellFormed}
 use Rattle.table.proofs.Shape.{formed-within}
 use Rattle.sound_net.specs.Nets.{Net, netOf, soundNet}
-use Rattle.conforming.specs.Checks.{networkSays}
+use Rattle.conforming.specs.Checks.{conformingSays}
 use borrow.Author.Needs.{needs}
 use Rattle.conforming.proofs.check_network_conforming.Statement.{statement}
 use Rattle.conforming.proofs.check_network_conforming.Tie as tie
@@ -30,7 +30,7 @@ well-formed-requires : tie.Need-well-formed-requires
 well-formed-requires c κs = search needs
 
 returns : tie.Need-returns
-unfolding networkSays
+unfolding conformingSays
 returns c =
     let s = c .before .before .before .before .before .before in
     let e : wellFormed (now (s .args .t)) (s .args .head .count) (s .args .head .«max_level») ≡ false = rw (← c .before .well-formed .ensures) (not-true _ (c .if1 .taken)) in
@@ -40,7 +40,7 @@ is-sound-requires : tie.Need-is-sound-requires
 is-sound-requires c κs = search needs
 
 returns-2 : tie.Need-returns-2
-unfolding networkSays
+unfolding conformingSays
 returns-2 c =
     let d = c .before .before in
     let e : soundNet (net (start d)) ≡ false = rw (← c .before .is-sound .ensures) (not-true _ (c .if2 .taken)) in
@@ -53,7 +53,7 @@ answer-requires : tie.Need-answer-requires
 answer-requires c κs = search needs
 
 returns-3 : tie.Need-returns-3
-unfolding networkSays
+unfolding conformingSays
 returns-3 c =
     let d = c .before .before in
     rw (formed (d .before .before), good d) (c .answer .ensures ∙ ap accepted (c .before .net-fault .ensures))
