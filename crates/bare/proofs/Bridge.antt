@@ -1,29 +1,29 @@
 -- What the rows hold is the net before the weights: nodes, cells and edges. Assumes nothing.
-use mathlib.Core.Path.{_≡_, refl, sym, ap, ap₂, subst, _∙_}
+use mathlib.Core.Path.{_≡_, refl, sym, ap, ap₂, _∙_}
 use mathlib.Core.Bool.{Bool, true, false, _&&_, not}
 use mathlib.Core.Logic.{_⊎_, inl, inr, ⊎-elim}
 use mathlib.Core.List.{List, [], _∷_, _++_, map}
-use Prim.Native.Nat.{ℕ, zero, suc, _+_, _*_, _-_, _/_, _%_, _^_, _<_, _≤_, min, max}
+use Prim.Native.Nat.{ℕ, zero, suc, _+_, _*_, _-_, _/_, _%_, _^_, _<_, _≤_}
 use native.Mathlib.Omega.{arith}
 use native.Mathlib.Nat.{zero-add, add-zero}
 use lib.Dec.{ltb, leb, eqb}
 use lib.ListN.{length, getD, length-append, length-map, List·getD-map}
 use lib.Seq.{getD-append-add}
 use lib.Ieee.{Float, nan}
-use borrow.Author.Tests.{lt-ltb, le-ltb, ltb-true, eqb-true}
+use borrow.Author.Tests.{le-ltb, ltb-true, eqb-true}
 use Rattle.rows.specs.Parts.{tab}
 use Rattle.rows.specs.Contract.{Small}
 use Rattle.rows.proofs.Fill.{length-tab, tab-at, tab-only}
-use Rattle.net.specs.Net.{each, Poly, Node, Edge, Patch, Piece, sameNode, samePair, nth, nowhere, nodesFrom, edgesFrom, patchesFrom, across, upright, width, height, One, Half, _·_, _÷_, num}
+use Rattle.net.specs.Net.{each, Edge, Patch, Piece, sameNode, nth, nowhere, nodesFrom, edgesFrom, patchesFrom, across, upright, width, height, One, Half, _·_, _÷_, num}
 use Rattle.net.specs.First.{key, firstOf, isNew, rank, news, numberBy, patchBy, Part, part, samePart}
-use Rattle.net.specs.Flat.{Leaf, leafAt, leavesFrom, pickNum, pickFloat, sideTwice, slotsBy, flatPlaces, flatSlots, flatPatches}
+use Rattle.net.specs.Flat.{Leaf, leafAt, leavesFrom, pickNum, pickFloat, slotsBy, flatPlaces, flatSlots, flatPatches}
 use Rattle.net.proofs.Find.{test, order}
-use Rattle.net.proofs.Weld.{Keyed, rank-new, rank-old, news-new, news-old, first-new, first-at-most}
+use Rattle.net.proofs.Weld.{Keyed, news-new, news-old, first-new, first-at-most}
 use Rattle.net.proofs.Keys.{partKey, part-keys, both}
 use Rattle.net.proofs.Pieces.{edgeOf, each-append}
 use Rattle.net.proofs.Board.{each-length, each-at}
 use Rattle.net.proofs.Flat.{flat-nodes, flat-cells, flat-edges}
-use Rattle.net.proofs.Upto.{countUp, upto-all, Rising, rising-from, so-far-four}
+use Rattle.net.proofs.Upto.{countUp, upto-all, rising-from, so-far-four}
 use Rattle.cell.specs.Boxes.{Box}
 use Rattle.places.specs.Places.{wide, boxAt, placeKeys, nodeNums, nodeOf, Holds, cornerNums}
 use Rattle.bare.specs.Slots.{many, corner, middle, hitAt, slotEnd, slotKey, resistance}

@@ -1,20 +1,18 @@
 -- The slots: a side's corners, its middle, and the range of a key. Assumes nothing.
 use mathlib.Core.Path.{_≡_, refl, sym, ap, ap₂, subst, _∙_}
 use mathlib.Core.Bool.{Bool, true, false, _&&_, not}
-use mathlib.Core.Logic.{_⊎_, inl, inr, ⊎-elim}
 use mathlib.Core.List.{List}
-use Prim.Native.Nat.{ℕ, zero, suc, _+_, _*_, _-_, _/_, _%_, _^_, _<_, _≤_, min, max}
+use Prim.Native.Nat.{ℕ, zero, suc, _+_, _*_, _-_, _/_, _%_, _<_, _≤_, min, max}
 use native.Mathlib.Omega.{arith}
 use native.Mathlib.Nat.{zero-add}
-use lib.Dec.{ltb, leb, eqb}
-use lib.ListN.{length, getD, take}
+use lib.Dec.{leb, eqb}
+use lib.ListN.{getD}
 use borrow.Author.Tests.{lt-ltb, le-ltb, ltb-true, eq-eqb, ne-eqb}
-use Rattle.refusals.specs.Limits.{maxSlots, maxPolygons}
-use Rattle.rows.specs.Parts.{part}
+use Rattle.refusals.specs.Limits.{maxPolygons}
 use Rattle.rows.proofs.Parts.{length-part, part-at}
 use Rattle.net.specs.Flat.{pickNum}
 use Rattle.net.proofs.Keys.{both}
-use Rattle.bare.specs.Slots.{many, corner, middle, hitAt, slotEnd, slotKey, Slotted, polysIn, numsIn, midsIn}
+use Rattle.bare.specs.Slots.{many, corner, middle, hitAt, slotEnd, Slotted, polysIn, numsIn, midsIn}
 
 -- the answers of `corner_of`
 pub corner-from : (q : ℕ) → q < 4 → (q ≡ 1 → ⊥) → (q ≡ 3 → ⊥) → 0 ≡ corner q 0

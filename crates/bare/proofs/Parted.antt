@@ -1,7 +1,7 @@
 -- The slots, sorted: what the sort requires and leaves. And rows written one or two entries at a time. Assumes nothing.
-use mathlib.Core.Path.{_≡_, refl, sym, ap, ap₂, subst, _∙_}
+use mathlib.Core.Path.{_≡_, sym, ap, subst, _∙_}
 use mathlib.Core.Bool.{Bool, true, false, _&&_, not}
-use mathlib.Core.Logic.{_⊎_, inl, inr, ⊎-elim}
+use mathlib.Core.Logic.{_⊎_, inl, ⊎-elim}
 use mathlib.Core.List.{List, [], _∷_, _++_}
 use Prim.Native.Nat.{ℕ, _+_, _*_, _-_, _/_, _%_, _^_, _<_, _≤_, min, max}
 use native.Mathlib.Omega.{arith}
@@ -14,11 +14,11 @@ use lib.Ieee.{binary64, inFloat}
 use lib.IntN.{pos}
 use lib.Dec.{T, le→leb}
 use native.Mathlib.Nat.{le-of-lt}
-use Rattle.refusals.specs.Limits.{maxSlots, maxPolygons}
+use Rattle.refusals.specs.Limits.{maxPolygons}
 use Rattle.rows.specs.Order as Rows
 use Rattle.rows.specs.Parts.{part, put, tab}
 use Rattle.rows.specs.Contract.{Small}
-use Rattle.rows.proofs.Parts.{length-part, take-put, put-nil, put-snoc, part-all}
+use Rattle.rows.proofs.Parts.{take-put, put-nil, put-snoc, part-all}
 use Rattle.rows.proofs.Fill.{length-tab, tab-same, filled-long, filled-part}
 use Rattle.rows.proofs.Lent.{block-long, block-other, block-third}
 use Rattle.net.specs.First.{firstOf}

@@ -1,7 +1,7 @@
 -- The parts of the leaves' sides, eight to a leaf, from the rows: the polygon of each leaf, the numbers of the corners, and the first places of
 -- the middles. Slot j is a half of side j % 8 / 2 of leaf j / 8: S, N, W, E.
 use mathlib.Core.Path.{_≡_}
-use mathlib.Core.Bool.{Bool, true, false, _&&_, not}
+use mathlib.Core.Bool.{Bool, _&&_, not}
 use mathlib.Core.List.{List, [], _∷_}
 use Prim.Native.Nat.{ℕ, zero, suc, _+_, _*_, _/_, _%_, _^_, _<_, _≤_, min, max}
 use lib.Dec.{ltb, leb, eqb}

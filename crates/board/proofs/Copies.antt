@@ -1,6 +1,6 @@
 -- Laws of copying: a row is filled item by item, and each item is what its bytes say. Assumes nothing.
-use Prim.Native.Nat.{ℕ, zero, suc, _+_, _-_, _≤_, _<_}
-use mathlib.Core.Path.{_≡_, refl, sym, ap, subst, _∙_}
+use Prim.Native.Nat.{ℕ, suc, _+_, _-_, _≤_, _<_}
+use mathlib.Core.Path.{_≡_, sym, ap, subst, _∙_}
 use mathlib.Core.List.{List, [], _∷_, map}
 use native.Mathlib.Numerals.{add-one}
 use native.Mathlib.Omega.{arith}
@@ -12,7 +12,7 @@ use mir.Val.{toZ}
 use Rattle.refusals.specs.Limits.{maxCell}
 use Rattle.cell.specs.Ticks.{inRange}
 use Rattle.refusals.specs.declared.Refusal.the-variants.{OutOfRange}
-use Rattle.record.specs.Fields.{Out, value, stop, _then_, require, many, bigEndian, field, ranged, signed}
+use Rattle.record.specs.Fields.{Out, value, _then_, many, bigEndian, field, ranged, signed}
 use Rattle.record.specs.Board.{lastLayer, Entry, entry, Point, point, coordinate}
 use Rattle.record.proofs.Walks.{then-value, require-value, field-value, ranged-value, many-view}
 use Rattle.board.specs.Rows.{entryRow, pointRow}

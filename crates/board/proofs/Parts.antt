@@ -14,7 +14,6 @@ use Rattle.refusals.specs.declared.Refusal.the-variants.{WrongVersion, WrongLen
 use Rattle.refusals.specs.Limits.{maxLevel, maxCap, maxCell, maxLayers, maxPolygons}
 use Rattle.record.specs.declared.Settings.{Settings}
 use Rattle.record.specs.declared.Counts.{Counts}
-use Rattle.record.specs.declared.check.Read.{Read}
 use Rattle.record.specs.declared.check.Read.the-variants.{Done, Refused}
 use Rattle.record.specs.Fields.{Out, value, stop, field, ranged}
 use Rattle.record.specs.Board.{asDefault, defaultLevel, Entry, entry, entries, layerList, polygon, shapes, polygonList, ids, splitList, level, settings, lists, Board, board, pointsOf}

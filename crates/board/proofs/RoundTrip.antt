@@ -13,12 +13,12 @@ use borrow.Author.Tests.{le-leb, eq-eqb, ne-eqb, leb-true}
 use lib.Dec.{leb, lit<}
 use Rattle.record.specs.declared.Settings.{Settings}
 use mir.Syntax.{w64}
-use mir.Val.{toZ, ofZ, SFits}
+use mir.Val.{ofZ, SFits}
 use mir.Facts.{toZ-ofZ, fits-ofZ}
 use Rattle.refusals.specs.Limits.{maxLevel, maxCap, maxCell, maxLayers, maxPolygons, maxPoints, coordinate as coordinateMax}
 use Rattle.cell.specs.Ticks.{inRange}
-use Rattle.record.specs.Fields.{Out, value, stop, _then_, many, several, bigEndian, field, ranged, signed}
-use Rattle.record.specs.Board.{asDefault, level, settings, lists, layerList, polygonList, splitList, board, Board, Entry, entry, entries, Point, point, coordinate, ring, Polygon, polygon, shapes, ids, lastLayer, sheetLow, sheetHigh}
+use Rattle.record.specs.Fields.{Out, value, _then_, many, several, bigEndian, field, ranged, signed}
+use Rattle.record.specs.Board.{asDefault, level, settings, lists, layerList, polygonList, splitList, board, Board, Entry, entry, entries, Point, point, coordinate, Polygon, polygon, shapes, ids, lastLayer, sheetLow, sheetHigh}
 use Rattle.board.specs.Writing.{settingsBytes, listsBytes, body, recordOf, SettingsOk, InRange, bytes, each, entryBytes, pointBytes, polygonBytes, EntryOk, PointOk, PolygonOk, Chain, All}
 
 -- ---- bytes that stand in a record at an offset

@@ -1,5 +1,5 @@
 -- Laws of copying polygons: three rows are filled polygon by polygon. Assumes nothing.
-use Prim.Native.Nat.{ℕ, zero, suc, _+_, _-_, _≤_, _<_}
+use Prim.Native.Nat.{ℕ, suc, _+_, _-_, _≤_, _<_}
 use mathlib.Core.Path.{_≡_, refl, sym, ap, subst, _∙_}
 use mathlib.Core.List.{List, [], _∷_, _++_, map, map-append}
 use native.Mathlib.Nat.{add-zero, add-suc, suc-add}
@@ -9,7 +9,7 @@ use lib.IntN.{ℤ}
 use lib.Ieee.{Float, binary64, ofBits}
 use lib.ListN.{length, set, length-map}
 use lib.Seq.{sets, length-sets}
-use Rattle.record.specs.Fields.{Out, value, several, bigEndian}
+use Rattle.record.specs.Fields.{value, bigEndian}
 use Rattle.record.specs.Board.{Polygon, polygon, point, ring, shapes, pointsIn, pointsOf}
 use Rattle.record.proofs.Walks.{several-view, several-end, several-length}
 use Rattle.record.proofs.Items.{Made, polygon-made}

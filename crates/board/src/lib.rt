@@ -4,7 +4,7 @@
 // those of all polygons one after another; a split is a cell's id. A row of small arrays can't hold a part of an item, its length is
 // the count of its items, and one store fills one item.
 ghost use mathlib.Core.Path.{_≡_};
-ghost use Rattle.board.specs.Rows.{Rows, rowsOf};
+ghost use Rattle.board.specs.Rows.{rowsOf};
 ghost use Rattle.board.specs.Reading.{readSaid, readSays, readLeaves};
 use record::check::Read;
 use record::check::check;

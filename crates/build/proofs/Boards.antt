@@ -1,8 +1,8 @@
 -- A board's polygons one after another. Assumes nothing.
-use Prim.Native.Nat.{ℕ, zero, suc, _+_, _-_, _*_, _^_, _<_, _≤_, min}
+use Prim.Native.Nat.{ℕ, zero, suc, _+_, _-_, _*_, _^_, _<_, _≤_}
 use mathlib.Core.Path.{_≡_, refl, sym, ap, _∙_}
-use mathlib.Core.Bool.{Bool, true, false, cond, _&&_}
-use mathlib.Core.List.{List, [], _∷_, _++_}
+use mathlib.Core.Bool.{true, false}
+use mathlib.Core.List.{List, [], _++_}
 use mathlib.Core.Logic.{⊎-elim}
 use native.Mathlib.Omega.{arith}
 use native.Mathlib.Numerals.{add-one}
@@ -15,12 +15,12 @@ use Rattle.cell.proofs.Offsets.{below?}
 use Rattle.refusals.specs.Limits.{maxLevel, maxCell}
 use Rattle.refusals.specs.Said.{Said, refused}
 use Rattle.strips.proofs.Picking.{split}
-use Rattle.build.specs.Grid.{Root, allEven, listedAt, sizeOf, rootsIn}
+use Rattle.build.specs.Grid.{allEven, listedAt, sizeOf, rootsIn}
 use Rattle.build.specs.Board.{Board, unit, sizeAt, stripsAt, rootsAt, rootsTo}
 use Rattle.build.specs.Says.{evenFrom}
 use Rattle.build.specs.Steps.{Sizes, Fit, SameTo, placed}
 use Rattle.build.proofs.Tallying.{length-roots}
-use Rattle.build.proofs.Placing.{placed-more, placed-none}
+use Rattle.build.proofs.Placing.{placed-more}
 
 size-some : (l : List (List ℕ)) (layer target : ℕ) → 1 ≤ target → 1 ≤ sizeOf l layer target
 size-some l layer target h =

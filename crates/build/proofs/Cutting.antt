@@ -1,19 +1,17 @@
 -- Strips cut into cells: bounds on the numbers. Assumes nothing.
-use Prim.Native.Nat.{ℕ, zero, suc, _+_, _-_, _*_, _/_, _%_, _^_, _<_, _≤_, min, max}
-use mathlib.Core.Path.{_≡_, refl, sym, ap, _∙_}
-use mathlib.Core.Bool.{Bool, true, false, cond}
-use mathlib.Core.List.{List, [], _∷_}
+use Prim.Native.Nat.{ℕ, _+_, _-_, _*_, _/_, _%_, _^_, _<_, _≤_}
+use mathlib.Core.Path.{_≡_, refl, _∙_}
+use mathlib.Core.List.{List, []}
 use native.Mathlib.Omega.{arith}
 use native.Mathlib.Nat.{mul-le-mul, mul-pos, mul-le-mul-left, div-mul-le-self, one-mul}
 use native.Mathlib.Numerals.{add-one}
 use lib.Pow.{shl-exact}
-use lib.Dec.{lit<, eqb}
+use lib.Dec.{lit<}
 use lib.ListN.{length, drop, getD, drop-of-length-le}
 use lib.Seq.{drop-cons}
-use Rattle.refusals.specs.Limits.{maxLevel, maxCap}
+use Rattle.refusals.specs.Limits.{maxCap}
 use Rattle.strips.specs.declared.walk.Strip.{Strip}
-use Rattle.build.specs.declared.grid.Cut.{Cut}
-use Rattle.build.specs.Grid.{heldAt, ceiling, cutOf, listedAt}
+use Rattle.build.specs.Grid.{heldAt, cutOf, listedAt}
 use Rattle.build.specs.Steps.{Sizes, Cuts}
 
 pub held-some : (cap c w : ℕ) → Sizes cap c → 1 ≤ heldAt cap c w

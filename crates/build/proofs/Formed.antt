@@ -2,8 +2,8 @@
 -- no child, coordinates in range, sides that are positive multiples of 2^(max_level+1) and a polygon of the board; the rest is zero.
 -- Assumes nothing.
 use Prim.Native.Nat.{ℕ, zero, suc, _+_, _-_, _*_, _/_, _<_, _≤_}
-use mathlib.Core.Path.{_≡_, refl, sym, ap, _∙_}
-use mathlib.Core.Bool.{Bool, true, false, cond, _&&_}
+use mathlib.Core.Path.{_≡_, refl, ap, _∙_}
+use mathlib.Core.Bool.{true}
 use mathlib.Core.List.{List, [], _∷_, _++_}
 use mathlib.Core.Logic.{⊎-elim}
 use native.Mathlib.Omega.{arith}
@@ -15,8 +15,7 @@ use lib.Seq.{getD-append-add}
 use borrow.Author.Tests.{ltb-false}
 use Rattle.cell.proofs.Offsets.{below?}
 use Rattle.cell.proofs.Contact.{and-left, and-right}
-use Rattle.refusals.specs.Said.{Said, accepted, refused}
-use Rattle.strips.specs.Said.{ifAccepted}
+use Rattle.refusals.specs.Said.{Said, accepted}
 use Rattle.strips.specs.Walk.{Sound, AllSound}
 use Rattle.strips.specs.declared.walk.Strip.{Strip}
 use Rattle.strips.proofs.Bounds.{strips-sound, sound-first, sound-rest}

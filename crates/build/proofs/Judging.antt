@@ -1,23 +1,20 @@
 -- The rows of a board: point counts that add up, the layer list, and the polygons judged one after another. Assumes nothing.
 use Prim.Native.Nat.{ℕ, zero, suc, _+_, _-_, _<_, _≤_}
-use mathlib.Core.Path.{_≡_, refl, sym, ap, _∙_}
-use mathlib.Core.Bool.{Bool, true, false, cond, _&&_}
-use mathlib.Core.List.{List, [], _∷_}
+use mathlib.Core.Path.{_≡_, refl, sym, _∙_}
+use mathlib.Core.Bool.{true, false, _&&_}
+use mathlib.Core.List.{List}
 use mathlib.Core.Logic.{⊎-elim}
 use native.Mathlib.Omega.{arith}
 use native.Mathlib.Numerals.{add-one}
 use lib.IntN.{ℤ}
 use lib.Ieee.{Float, nan}
 use lib.ListN.{length, getD, take, drop}
-use lib.Dec.{eqb, leb}
-use borrow.Author.Tests.{eqb-true, eqb-false, eq-eqb, ne-eqb, leb-true}
+use lib.Dec.{eqb}
+use borrow.Author.Tests.{eqb-true, eqb-false, eq-eqb, ne-eqb}
 use Rattle.cell.proofs.Offsets.{below?}
-use Rattle.cell.proofs.Contact.{and-left, and-right}
-use Rattle.refusals.specs.Limits.{maxCell}
 use Rattle.refusals.specs.Said.{Said, refused}
 use Rattle.strips.specs.Rings.{ringInRange, ringSlants}
 use Rattle.strips.proofs.Picking.{split}
-use Rattle.build.specs.Grid.{listedAt}
 use Rattle.build.specs.Board.{sumTo, ringAt}
 use Rattle.floats.specs.Fractions.{inSheet}
 use Rattle.build.specs.Says.{entryOk, entriesOk, judgeFrom}

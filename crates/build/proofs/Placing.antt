@@ -9,15 +9,15 @@ use native.Mathlib.Nat.{suc-mul, zero-mul}
 use mathlib.Core.Logic.{⊎-elim}
 use Rattle.cell.proofs.Offsets.{below?}
 use lib.IntN.{ℤ, pos}
-use lib.ListN.{length, take, drop, set, replicate, length-append, length-take, length-drop, take-append-drop}
-use lib.Seq.{sets, sets-eq, take-at, drop-at, take-take, length-take-le, drop-drop, take-suc-set, take-all}
+use lib.ListN.{length, take, drop, set, replicate, length-append, length-drop, take-append-drop}
+use lib.Seq.{sets, sets-eq, take-at, drop-at, length-take-le, drop-drop, take-suc-set, take-all}
 use Rattle.cell.specs.Cells.{noCell}
 use Rattle.cell.specs.Ticks.{on}
 use Rattle.strips.specs.Said.{stripRow}
 use Rattle.strips.specs.declared.walk.Strip.{Strip}
 use Rattle.build.specs.declared.grid.Cut.{Cut}
 use Rattle.build.specs.Grid.{Root, boxed, rowOf, cellOf, rowTo, gridTo, rootsIn, flat, cutOf}
-use Rattle.build.specs.Steps.{placed, Slotted}
+use Rattle.build.specs.Steps.{placed}
 
 pub length-flat : (rs : List Root) → length (flat rs) ≡ length rs * 8
 unfolding flat

@@ -1,18 +1,16 @@
 -- Sides judged and roots counted, strip by strip. Assumes nothing.
-use Prim.Native.Nat.{ℕ, zero, suc, _+_, _*_, _<_, _≤_, min}
+use Prim.Native.Nat.{ℕ, _+_, _*_, _<_, _≤_, min}
 use mathlib.Core.Path.{_≡_, refl, sym, ap, _∙_}
-use mathlib.Core.Bool.{Bool, true, false, cond, _&&_}
-use mathlib.Core.List.{List, [], _∷_, _++_}
+use mathlib.Core.Bool.{true, false}
+use mathlib.Core.List.{List, [], _∷_}
 use mathlib.Core.Logic.{⊎-elim}
 use native.Mathlib.Omega.{arith}
-use lib.Dec.{ltb}
-use lib.ListN.{length, length-append}
+use lib.ListN.{length}
 use borrow.Author.Tests.{lt-ltb, le-ltb}
 use Rattle.cell.proofs.Offsets.{below?}
 use Rattle.strips.specs.declared.walk.Strip.{Strip}
-use Rattle.build.specs.declared.grid.Cut.{Cut}
-use Rattle.build.specs.Grid.{cutOf, evenStrip, allEven, gridTo, rootsIn}
-use Rattle.build.specs.Steps.{moreOf, SameTo}
+use Rattle.build.specs.Grid.{cutOf, evenStrip, allEven, rootsIn}
+use Rattle.build.specs.Steps.{moreOf}
 use Rattle.build.proofs.Placing.{length-grid, length-roots-cons, roots-none}
 
 pub even-none : (u cap c : ℕ) → allEven u cap c [] ≡ true

@@ -1,18 +1,15 @@
 -- A strip's cells tile it: together they have its area, and no two overlap. Each is a root: in range, with positive sides that are
 -- multiples of the unit. Assumes nothing.
 use Prim.Native.Nat.{ℕ, zero, suc, _+_, _-_, _*_, _/_, _%_, _<_, _≤_}
-use mathlib.Core.Path.{_≡_, refl, sym, ap, _∙_}
-use mathlib.Core.Bool.{Bool, true, false, cond, _&&_}
+use mathlib.Core.Path.{_≡_, sym, ap, _∙_}
+use mathlib.Core.Bool.{true}
 use mathlib.Core.List.{List, [], _∷_, _++_}
 use mathlib.Core.Logic.{_⊎_, inl, inr, ⊎-elim}
 use native.Mathlib.Omega.{arith}
-use native.Mathlib.Nat.{mul-comm, mul-assoc, mul-add, add-mul, mul-one, one-mul, zero-mul, mul-zero, div-add-mod', mul-pos, mul-le-mul-left, mul-div-cancel, add-zero, mul-suc}
-use native.Mathlib.Numerals.{add-one}
-use lib.Dec.{eqb}
-use lib.ListN.{length}
+use native.Mathlib.Nat.{mul-comm, mul-assoc, mul-add, add-mul, mul-one, zero-mul, mul-zero, div-add-mod', mul-le-mul-left, mul-div-cancel, add-zero, mul-suc}
 use borrow.Author.Tests.{eqb-true}
 use Rattle.cell.proofs.Contact.{and-left, and-right}
-use Rattle.refusals.specs.Limits.{coordinate, maxCap}
+use Rattle.refusals.specs.Limits.{coordinate}
 use Rattle.strips.specs.Walk.{Sound}
 use Rattle.strips.specs.declared.walk.Strip.{Strip}
 use Rattle.build.specs.declared.grid.Cut.{Cut}

@@ -1,6 +1,6 @@
 -- A board as build is given it, and its polygons' rings and roots.
 use Prim.Native.Nat.{ℕ, zero, suc, _+_, _^_}
-use mathlib.Core.List.{List, [], _∷_, _++_}
+use mathlib.Core.List.{List, [], _++_}
 use lib.IntN.{ℤ}
 use lib.ListN.{length, take, drop, getD}
 use Rattle.strips.specs.Strips.{stripsOf}

@@ -1,6 +1,5 @@
 // What is judged of the rows before anything is cut: that they fit together, and then polygon by polygon.
 ghost use mathlib.Core.Path.{_≡_};
-ghost use Prim.Native.Nat.{_≤_};
 ghost use lib.Dec.{eqb};
 ghost use lib.ListN.{length};
 ghost use Rattle.refusals.specs.Said.{Said};

@@ -1,8 +1,7 @@
 // All polygons, one after another: judged by their sides and counted, and then put. Internal, all of it: the board has been judged.
 ghost use mathlib.Core.Path.{_≡_};
-ghost use Prim.Native.Nat.{_≤_};
 ghost use lib.ListN.{length};
-ghost use Rattle.build.specs.Board.{board, rootsOf, polygons};
+ghost use Rattle.build.specs.Board.{board, rootsOf};
 ghost use Rattle.build.specs.Steps.{Fit, Surveyed, placed, Slotted, Surveying, Putting};
 use crate::Settings;
 use crate::grid;

@@ -1,8 +1,7 @@
 // Base sides judged and roots counted before anything is written. Internal, all of it: settings and rings have been judged.
 ghost use mathlib.Core.Path.{_≡_};
-ghost use Prim.Native.Nat.{_+_, _*_, _^_, _≤_, _<_};
-ghost use lib.ListN.{length};
-ghost use Rattle.refusals.specs.Limits.{maxLevel, maxCap, maxSlots};
+ghost use Prim.Native.Nat.{_+_, _*_, _≤_, _<_};
+ghost use Rattle.refusals.specs.Limits.{maxCap, maxSlots};
 ghost use Rattle.strips.specs.Strips.{stripsOf};
 ghost use Rattle.strips.specs.Walk.{Ready, Roomy};
 ghost use Rattle.build.specs.Steps.{Sizes, Cuts, Counting, Tallied, moreOf};

@@ -1,17 +1,17 @@
 -- Laws of coordinates: what the code's steps ask, and that the offset and the way back undo one another. Assumes nothing.
 use Prim.Native.Nat.{ℕ, suc, _+_, _-_, min, _<_, _≤_}
-use mathlib.Core.Path.{_≡_, refl, ap, sym, subst, _∙_}
-use mathlib.Core.Bool.{Bool, true, false, _&&_}
+use mathlib.Core.Path.{_≡_, refl, ap, sym, subst}
+use mathlib.Core.Bool.{Bool, true, false}
 use mathlib.Core.Logic.{_⊎_, inl, inr, ⊎-elim}
 use native.Mathlib.Omega.{arith}
 use lib.IntN.{ℤ, pos, negsuc, subℕ, _+ℤ_, _-ℤ_}
-use lib.Signed.{leZ, mag}
+use lib.Signed.{leZ}
 use lib.Dec.{T, ltb}
 use borrow.Author.Tests.{lt-ltb, le-ltb, ltb-true, ltb-false, leb-true, leb-false}
 use mir.Syntax.{w64}
 use mir.Val.{SFits}
 use Rattle.refusals.specs.Limits.{coordinate}
-use Rattle.cell.specs.Ticks.{off, on, inRange}
+use Rattle.cell.specs.Ticks.{off, on}
 
 pub below? : (a b : ℕ) → (a < b) ⊎ (b ≤ a)
 below? a b = by (ltb a b) refl

@@ -1,11 +1,11 @@
 -- What the tests of the code say of the definitions. Assumes nothing.
-use Prim.Native.Nat.{ℕ, zero, suc, _<_, _≤_, min, max}
-use mathlib.Core.Path.{_≡_, refl, sym, subst}
-use mathlib.Core.Bool.{Bool, true, false, _&&_, false≢true}
+use Prim.Native.Nat.{ℕ, zero, suc, min, max}
+use mathlib.Core.Path.{_≡_, refl, sym}
+use mathlib.Core.Bool.{Bool, true, false, _&&_}
 use native.Mathlib.Omega.{arith}
 use lib.Dec.{ltb}
 use borrow.Author.Tests.{ltb-true, ltb-false, lt-ltb, le-ltb}
-use Rattle.cell.specs.Boxes.{Quad, sw, se, nw, ne, quadAt, overlaps}
+use Rattle.cell.specs.Boxes.{ne, quadAt, overlaps}
 
 pub quad-last : (k : ℕ) → (k ≡ 0 → ⊥) → (k ≡ 1 → ⊥) → (k ≡ 2 → ⊥) → quadAt k ≡ ne
 quad-last zero a b c = absurd (a refl)

@@ -1,7 +1,7 @@
 -- The cell that the code passes by value, and what its constructors and methods hand back.
 use Prim.Native.Nat.{ℕ, _+_}
 use Rattle.cell.specs.declared.Cell.{Cell}
-use Rattle.cell.specs.Boxes.{Box, Quad, sw, mid, quadrant}
+use Rattle.cell.specs.Boxes.{Box, Quad, mid, quadrant}
 
 -- marks no parent and no child
 abbrev pub noCell : ℕ

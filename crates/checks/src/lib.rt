@@ -6,13 +6,11 @@ ghost use mathlib.Core.Path.{_≡_};
 ghost use mathlib.Core.Bool.{true, _&&_};
 ghost use Prim.Native.Nat.{ℕ, _+_, _*_, _/_, _<_, _≤_};
 ghost use lib.ListN.{length, getD};
-ghost use lib.Dec.{ltb};
 ghost use lib.IntN.{pos};
-ghost use Rattle.refusals.specs.Said.{accepted};
 ghost use Rattle.cell.specs.Ticks.{off};
 ghost use Rattle.table.specs.Slots.{cellAt, counted};
 ghost use Rattle.table.specs.Formed.{wellFormed};
-ghost use Rattle.sound_net.specs.Nets.{netOf, allBelow, nodeCount, layerAt, componentAt, soundNet};
+ghost use Rattle.sound_net.specs.Nets.{netOf, nodeCount, layerAt, componentAt, soundNet};
 ghost use Rattle.sound_net.specs.Facts.{SoundNode, SoundEdge};
 ghost use Rattle.conforming.specs.Nodes.{placeOf, joined};
 ghost use Rattle.conforming.specs.Checks.{firstFault, polygonsFit, faultOf, checkedSaid, conformingSays, layersSays};
@@ -363,38 +361,15 @@ fn index(own: bool, nodes: &[i64], ends: &[u64], work: &mut [u64])
     make_pairs(ends, work, 9 * n);
 }
 
-// Whether each cell's polygon is below a count. Internal: the cells stand in the table.
-fn polygons_below(t: &[i64], n: usize, count: usize) -> bool
-    requires { ⌜ n * 8 ≤ length (now t) ⌝ }
-    ensures { λ r. ⌜ r ≡ allBelow (λ i. ltb (cellAt (now (t .entry)) i .poly) count) n ⌝ }
-{
-    let mut below = true;
-    let mut i = 0usize;
-    while i < n {
-        below = below & (table::slots::poly_at(t, i) < count as u64);
-        i += 1;
-    }
-    below
-}
-
 // Whether the polygons have a layer and a component each, where a leaf's own are looked for. Internal: the cells stand in the table.
 fn polygons_fit(own: bool, t: &[i64], n: usize, layers: &[u16], components: &[u32]) -> bool
     requires { ⌜ n * 8 ≤ length (now t) ⌝ }
     ensures { λ r. ⌜ r ≡ ownFit own (now (t .entry)) n (now (layers .entry)) (now (components .entry)) ⌝ }
 {
     if own {
-        return (layers.len() == components.len()) & polygons_below(t, n, layers.len());
+        return conforming::polygons_fit(t, n, layers, components);
     }
     true
-}
-
-fn answer(fault: Fault) -> Checked
-    ensures { λ r. ⌜ checkedSaid r ≡ accepted (faultOf fault) ⌝ }
-{
-    match fault {
-        Fault::Clear => Checked::Conforms,
-        Fault::Hanging(m, a, b) => Checked::Broken(m, a, b),
-    }
 }
 
 // Whether the room is long enough for the quick walk, and the nodes are few enough.
@@ -438,7 +413,7 @@ fn check(
     index(own, nodes, ends, work);
     let fault = walk(t, n, nodes, ends, own, layers, components, work);
     rows::clear(work);
-    answer(fault)
+    conforming::answer(fault)
 }
 
 // check_network_conforming of document 01. Refuses 7 only: a bad table or a bad net.

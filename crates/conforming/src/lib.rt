@@ -255,7 +255,8 @@ fn polygons_below(t: &[i64], n: usize, count: usize) -> bool
     below
 }
 
-fn answer(fault: Fault) -> Checked
+// What a check answers.
+pub fn answer(fault: Fault) -> Checked
     ensures { λ r. ⌜ checkedSaid r ≡ accepted (faultOf fault) ⌝ }
 {
     match fault {
@@ -265,7 +266,7 @@ fn answer(fault: Fault) -> Checked
 }
 
 // Whether the rows of the polygons are of one length, and no cell names a polygon past the last. Internal: the cells stand in the table.
-fn polygons_fit(t: &[i64], n: usize, layers: &[u16], components: &[u32]) -> bool
+pub fn polygons_fit(t: &[i64], n: usize, layers: &[u16], components: &[u32]) -> bool
     requires { ⌜ n * 8 ≤ length (now t) ⌝ }
     ensures { λ r. ⌜ r ≡ polygonsFit (now (t .entry)) n (now (layers .entry)) (now (components .entry)) ⌝ }
 {

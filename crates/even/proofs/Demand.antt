@@ -1,17 +1,17 @@
 -- Demand 3 for each thing that can be said: what was done is the one coarsest splitting, and where there was no room it needs more cells
 -- than slots. Assumes nothing.
 use Prim.Native.Nat.{ℕ, _+_, _*_, _-_, _/_, _<_}
-use mathlib.Core.Path.{_≡_, refl, sym, ap, subst, _∙_}
+use mathlib.Core.Path.{_≡_, sym, ap, subst}
 use mathlib.Core.List.{List, [], _∷_}
 use native.Mathlib.Omega.{arith}
 use lib.IntN.{ℤ}
 use lib.ListN.{length}
-use Rattle.refusals.specs.Said.{Said, accepted, refused}
-use Rattle.table.specs.Mesh.{Cell, table}
+use Rattle.refusals.specs.Said.{accepted, refused}
+use Rattle.table.specs.Mesh.{table}
 use Rattle.table.specs.Formed.{WellFormed}
 use Rattle.table.proofs.Cells.{length-table}
 use Rattle.coarsest.specs.Passes.{Engine, evened}
-use Rattle.coarsest.specs.Names.{Evens, Needs}
+use Rattle.coarsest.specs.Names.{Evens}
 use Rattle.coarsest.proofs.Kept.{evened-quarter}
 use Rattle.coarsest.proofs.Laws.{evened-evens}
 use Rattle.coarsest.proofs.Room.{over-needs}

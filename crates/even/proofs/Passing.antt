@@ -1,5 +1,5 @@
 -- The turns of a pass, and of the passes. Assumes nothing.
-use Prim.Native.Nat.{ℕ, zero, suc, _+_, _-_, _/_, _<_, _≤_}
+use Prim.Native.Nat.{ℕ, suc, _+_, _-_, _/_, _<_, _≤_}
 use mathlib.Core.Path.{_≡_, refl, sym, ap, subst, _∙_}
 use mathlib.Core.List.{List}
 use native.Mathlib.Omega.{arith}
@@ -7,14 +7,13 @@ use native.Mathlib.Numerals.{add-one}
 use lib.IntN.{ℤ}
 use lib.ListN.{length}
 use Rattle.table.specs.Mesh.{Cell, table}
-use Rattle.table.specs.Formed.{Formed, WellFormed}
+use Rattle.table.specs.Formed.{Formed}
 use Rattle.table.proofs.Cells.{length-table}
 use Rattle.coarsest.specs.Passes.{Engine, pass, evened, splitsLeft}
 use Rattle.coarsest.specs.Sweep.{row, rows, sweep}
 use Rattle.coarsest.proofs.Loops.{row-most, rows-most}
 use Rattle.coarsest.proofs.Passes.{sweep-pass, pass-grown, pass-same}
 use Rattle.coarsest.proofs.Evened.{pass-formed, pass-left, evened-stop, evened-pass, evened-grown}
-use Rattle.even.specs.Undo.{undone}
 use Rattle.even.specs.Parts.{Grew}
 use Rattle.even.proofs.Turns.{On, on-as, on-then, on-length}
 

@@ -1,8 +1,8 @@
 -- The turns of the engine's loops: a row that holds certain cells, and what a split, a pair that is not due and the end of the room
 -- do to it. Assumes nothing.
-use Prim.Native.Nat.{ℕ, suc, _+_, _*_, _-_, _/_, _<_, _≤_}
+use Prim.Native.Nat.{ℕ, suc, _+_, _-_, _/_, _<_, _≤_}
 use mathlib.Core.Path.{_≡_, refl, sym, ap, subst, _∙_}
-use mathlib.Core.Bool.{Bool, true, false}
+use mathlib.Core.Bool.{true, false}
 use mathlib.Core.Option.{Option, none, some}
 use mathlib.Core.List.{List}
 use native.Mathlib.Omega.{arith}
@@ -21,7 +21,7 @@ use Rattle.table.proofs.Splits.{split-table, refine-keeps, length-splitRow}
 use Rattle.coarsest.specs.Passes.{Engine, dueCells, due}
 use Rattle.coarsest.specs.Sweep.{row}
 use Rattle.coarsest.proofs.Pair.{leaf-is}
-use Rattle.coarsest.proofs.Least.{Due, due-of}
+use Rattle.coarsest.proofs.Least.{due-of}
 use Rattle.table.proofs.Meshes.{length-split}
 use Rattle.coarsest.proofs.Sweep.{dueOf}
 use Rattle.coarsest.proofs.Loops.{coarser, row-due, row-skip, row-most}

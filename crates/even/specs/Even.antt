@@ -11,7 +11,7 @@ use Rattle.refusals.specs.declared.Refusal.the-variants.{BadTable, NoRoom}
 use Rattle.table.specs.Mesh.{Cell, table}
 use Rattle.table.specs.Formed.{wellFormed}
 use Rattle.table.specs.Refine.{isAccepted}
-use Rattle.coarsest.specs.Passes.{Engine, balancing, conforming, evened}
+use Rattle.coarsest.specs.Passes.{Engine, evened}
 use Rattle.coarsest.specs.Names.{Evens, Needs}
 use Rattle.even.specs.declared.Evening.{Evening}
 use Rattle.even.specs.declared.Evening.the-variants.{Done, Refused}

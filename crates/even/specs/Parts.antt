@@ -1,5 +1,5 @@
 -- What the engine's parts are said to do. A count above the slots stands for "no room": then what was to be done has more cells than slots.
-use Prim.Native.Nat.{ℕ, _*_, _/_, _<_, _≤_}
+use Prim.Native.Nat.{ℕ, _/_, _<_, _≤_}
 use mathlib.Core.Path.{_≡_}
 use mathlib.Core.Bool.{Bool, true, false}
 use mathlib.Core.List.{List}

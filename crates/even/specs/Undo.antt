@@ -1,7 +1,7 @@
 -- Taking splits back: a row as it was when it had n cells. A split changes nothing below the count but the first child of a leaf, and
 -- what stands past the count was zero.
-use Prim.Native.Nat.{ℕ, zero, suc, _*_, _%_}
-use mathlib.Core.Bool.{Bool, _&&_, cond}
+use Prim.Native.Nat.{ℕ, suc, _*_, _%_}
+use mathlib.Core.Bool.{_&&_, cond}
 use mathlib.Core.List.{List, [], _∷_}
 use lib.Dec.{leb, eqb}
 use lib.IntN.{ℤ, pos}

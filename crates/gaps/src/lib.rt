@@ -3,7 +3,7 @@
 // In front of the work room, for n nodes, stands a block of three parts of n numbers: keys, their order, and the first of equal key. The
 // gaps stand behind it.
 ghost use mathlib.Core.Path.{_≡_};
-ghost use Prim.Native.Nat.{_+_, _*_, _^_, _<_, _≤_};
+ghost use Prim.Native.Nat.{_+_, _*_, _<_, _≤_};
 ghost use lib.ListN.{length};
 ghost use Rattle.refusals.specs.Limits.{maxSlots};
 ghost use Rattle.rows.specs.Parts.{part, put, tab};

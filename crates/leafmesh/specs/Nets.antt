@@ -1,5 +1,4 @@
 -- A NetOutcome and a CheckOutcome of what a call says: every field is settled, and one that does not apply is 0.
-use Prim.Native.Nat.{ℕ}
 use mathlib.Core.List.{[], _∷_}
 use lib.ListN.{getD}
 use Rattle.refusals.specs.Said.{Said, accepted, refused}

@@ -42,7 +42,7 @@ pub fn fill_leaves(t: &[i64], n: usize, l: usize, boxes: &mut [u64], work: &mut 
     ensures { λ _. ⌜ now (boxes .exit) ≡ put (now (boxes .entry)) 0 (boxRow (now (t .entry)) n) ⌝ }
     ensures { λ _. ⌜ now (work .exit) ≡ put (now (work .entry)) 0 (polyRow (now (t .entry)) n) ⌝ }
 {
-    append_order(t, n, l, work);
+    append_order(t, n, work);
     let mut v = 0;
     while v < l {
         put_leaf(t, v, boxes, work);

@@ -1,12 +1,12 @@
 -- The rows of numbers that hold a made net, and the rows of its polygons' layers and components. Definitions only.
-use mathlib.Core.List.{List, [], _∷_, map}
+use mathlib.Core.List.{List, map}
 use mathlib.Core.Path.{_≡_}
 use Prim.Native.Nat.{ℕ, _^_, _<_}
 use lib.IntN.{ℤ}
 use lib.Ieee.{Float}
 use lib.ListN.{length, getD}
 use Rattle.sound_net.specs.Nets.{Net as Rows, netOf}
-use Rattle.net.specs.Net.{each, Poly, Edge, Patch, Net, One}
+use Rattle.net.specs.Net.{each, Poly, Net, One}
 use Rattle.places.specs.Places.{nodeNums, cornerNums, endNums}
 
 -- ---- polygons

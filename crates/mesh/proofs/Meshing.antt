@@ -9,7 +9,7 @@ use lib.Seq.{length-sets}
 use borrow.Author.Tests.{leb-true, le-leb, lt-leb}
 use Rattle.refusals.specs.declared.Refusal.{Refusal}
 use Rattle.refusals.specs.declared.Refusal.the-variants.{NoRoom}
-use Rattle.refusals.specs.Said.{accepted, refused, refusal}
+use Rattle.refusals.specs.Said.{accepted, refusal}
 use Rattle.refusals.proofs.Settled.{as-refused}
 use Rattle.cell.proofs.Contact.{and-left, and-right}
 use Rattle.build.proofs.Fitting.{refused-accepted}

@@ -1,23 +1,22 @@
 -- The net before the weights from one list of leaves. Assumes nothing.
 use mathlib.Core.Path.{_≡_, refl, sym, ap, ap₂, _∙_, subst}
-use mathlib.Core.Bool.{Bool, true, false, _&&_, _||_}
+use mathlib.Core.Bool.{Bool, true, false}
 use mathlib.Core.Logic.{⊎-elim}
 use mathlib.Core.List.{List, [], _∷_, _++_, map, append-assoc}
-use Prim.Native.Nat.{ℕ, zero, suc, _+_, _*_, _≤_, _<_}
+use Prim.Native.Nat.{ℕ, suc, _+_, _*_, _≤_, _<_}
 use native.Mathlib.Omega.{arith}
-use lib.Dec.{ltb, eqb}
-use lib.ListN.{length, getD, length-append, length-map, List·getD-append, List·getD-map}
-use lib.Seq.{getD-append-add, take-at}
+use lib.Dec.{ltb}
+use lib.ListN.{length, getD, length-append, length-map}
 use lib.Ieee.{Float}
 use borrow.Author.Tests.{lt-ltb, eq-eqb}
-use Rattle.cell.specs.Boxes.{Box, mid}
-use Rattle.net.specs.Net.{find, has, weld, each, Poly, Node, Edge, Patch, Piece, sameNode, samePair, pairIs, nth, nowhere, nodeAt, cornersAt, cornersOf, nodesFrom, edgesFrom, patchesFrom, leafSum, across, upright, One, Half, _·_, _÷_}
-use Rattle.net.specs.First.{firstOf, numberBy, patchBy, midsAt, midsOf, places, sideBy, sidesBy, Part, part, samePart, partsFrom, news, rowParts, boardParts, rowPatches, boardPatches}
-use Rattle.net.specs.Flat.{Leaf, leaf, leavesFrom, placeX, placeY, cornersIn, midsIn, flatPlaces, pickNum, pickFloat, sideTwice, slotsBy, flatSlots, flatPatches}
+use Rattle.cell.specs.Boxes.{Box}
+use Rattle.net.specs.Net.{find, has, weld, each, Poly, Node, Edge, Patch, Piece, sameNode, nth, nowhere, cornersAt, cornersOf, nodesFrom, edgesFrom, patchesFrom, leafSum, across, upright, One, Half, _·_, _÷_}
+use Rattle.net.specs.First.{firstOf, numberBy, patchBy, midsAt, midsOf, places, sideBy, sidesBy, Part, part, samePart, news, rowParts, boardParts, rowPatches, boardPatches}
+use Rattle.net.specs.Flat.{Leaf, leaf, leavesFrom, flatPlaces, sideTwice, slotsBy, flatSlots, flatPatches}
 use Rattle.net.proofs.Find.{test, order, find-right, find-left, find-yes}
-use Rattle.net.proofs.Weld.{Keyed, weld-nil, weld-old, weld-new, weld-append, welded-all}
+use Rattle.net.proofs.Weld.{Keyed, weld-old, weld-new, weld-append, welded-all}
 use Rattle.net.proofs.Pieces.{edgeOf, each-append, map-append, edges-parts}
-use Rattle.net.proofs.Board.{each-length, each-at, board-nodes, board-parts, board-patches}
+use Rattle.net.proofs.Board.{board-nodes, board-parts, board-patches}
 
 -- ---- a thing twice
 

@@ -1,20 +1,19 @@
 -- Where a node made so far stands at the middle of a leaf's side, both halves are edges of the net: for any table and any polygons.
 -- Assumes nothing.
-use mathlib.Core.Path.{_≡_, refl, sym, ap, ap₂, _∙_, subst}
+use mathlib.Core.Path.{_≡_, refl, sym, ap, _∙_, subst}
 use mathlib.Core.Bool.{Bool, true, false}
 use mathlib.Core.Logic.{⊎-elim}
 use mathlib.Core.List.{List, [], _∷_, _++_, map}
-use Prim.Native.Nat.{ℕ, suc, _+_, _≤_, _<_}
+use Prim.Native.Nat.{_+_, _≤_, _<_}
 use native.Mathlib.Omega.{arith}
-use lib.Dec.{eqb}
 use lib.ListN.{length, getD, length-append, length-map, List·getD-map}
 use lib.Ieee.{Float}
 use borrow.Author.Tests.{eq-eqb}
 use Rattle.cell.specs.Boxes.{Box, mid}
 use Rattle.table.specs.Mesh.{Cell}
-use Rattle.net.specs.Net.{find, has, weld, each, Poly, Node, Edge, Patch, Piece, sameNode, samePair, pieces, cornersOf, nodesFrom, patchesFrom, edgesOf, edgesFrom, join, nodeAt, swOf, seOf, neOf, nwOf, sideOf, sidesAt, across, upright, One, Half, _·_, _÷_, weighed, bare, weigh, network}
+use Rattle.net.specs.Net.{find, weld, each, Poly, Node, Edge, Patch, Piece, sameNode, samePair, pieces, cornersOf, nodesFrom, patchesFrom, edgesOf, edgesFrom, join, nodeAt, swOf, seOf, neOf, nwOf, sideOf, sidesAt, across, upright, One, Half, _·_, _÷_, weighed, bare, weigh, network}
 use Rattle.net.specs.Hang.{soFar, Joined, Halved, HalvedSides}
-use Rattle.net.proofs.Find.{order, find-left, find-right, find-same}
+use Rattle.net.proofs.Find.{order, find-right, find-same}
 use Rattle.net.proofs.All.{All, all-by, all-left, all-right, all-each-back, In, in-more, weld-has}
 
 pair-self : (e : Edge) → samePair e e ≡ true

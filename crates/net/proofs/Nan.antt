@@ -10,7 +10,7 @@ use mathlib.Core.Bool.{Bool, true, false, not, cond}
 use lib.Dec.{T, ltb, eqb, eqb→eq, ltb→lt, not-T, lit≤}
 use lib.Pow.{shl-lt}
 use lib.ListN.{length, List·getD-eq-default}
-use lib.Ieee.{Float, nan, inf, fin, Format, binary64, prec, emax, low, up, down, unlike, odd, units, round, mul, div, ofInt, ofBits, isNan}
+use lib.Ieee.{Float, nan, inf, fin, Format, binary64, prec, emax, low, up, down, odd, units, round, mul, div, ofInt, ofBits}
 use lib.Ieee.Fits.{round-is}
 use lib.Ieee.Bits.{cond-no}
 use lib.Ieee.Back.{round-whole}

@@ -1,17 +1,17 @@
 -- How many leaves there are in the polygons up to k, in a list that goes polygon by polygon. Assumes nothing.
-use mathlib.Core.Path.{_≡_, refl, sym, ap, ap₂, _∙_, subst}
-use mathlib.Core.Bool.{Bool, true, false, _&&_}
-use mathlib.Core.Logic.{_⊎_, inl, inr, ⊎-elim}
+use mathlib.Core.Path.{_≡_, refl, sym, ap, _∙_, subst}
+use mathlib.Core.Bool.{Bool, true, _&&_}
+use mathlib.Core.Logic.{_⊎_, ⊎-elim}
 use mathlib.Core.List.{List, [], _∷_, _++_, map, append-assoc}
 use Prim.Native.Nat.{ℕ, zero, suc, _+_, _*_, _/_, _≤_, _<_}
 use native.Mathlib.Omega.{arith}
 use lib.Dec.{ltb, leb}
-use lib.ListN.{length, getD, length-append, length-map}
+use lib.ListN.{length, length-append, length-map}
 use borrow.Author.Tests.{lt-ltb, le-ltb, le-leb, lt-leb, ltb-true, leb-true}
 use Rattle.cell.specs.Boxes.{Box}
 use Rattle.net.specs.Net.{Poly, Piece, oneIf}
 use Rattle.net.specs.Flat.{Leaf, leaf, leafAt, noLeaf, leavesFrom}
-use Rattle.net.proofs.Find.{order, test}
+use Rattle.net.proofs.Find.{order}
 use Rattle.net.proofs.Keys.{bool-ext, both, both-of}
 use Rattle.net.proofs.All.{All, all-append, all-by}
 use Rattle.net.proofs.Flat.{Upto}

@@ -1,19 +1,19 @@
 -- The steps of a net put together: from the leaves' rows to the rows of the net. Assumes nothing.
-use mathlib.Core.Path.{_≡_, refl, sym, ap, subst, _∙_}
+use mathlib.Core.Path.{_≡_, refl, sym, ap, _∙_}
 use mathlib.Core.List.{List, [], _∷_, map}
 use Prim.Native.Nat.{ℕ, _+_, _*_, _^_, _<_, _≤_}
 use native.Mathlib.Omega.{arith}
 use lib.IntN.{ℤ}
 use lib.Ieee.{Float}
-use lib.ListN.{length, getD, take, replicate, length-map}
-use Rattle.refusals.specs.Limits.{coordinate, maxSlots, maxPolygons}
+use lib.ListN.{length, take, replicate, length-map}
+use Rattle.refusals.specs.Limits.{coordinate}
 use Rattle.table.specs.Mesh.{table}
 use Rattle.table.specs.Leaves.{leafIds, orderIds}
 use Rattle.table.proofs.Shape.{formed-shape}
 use Rattle.rows.specs.Parts.{part, put, tab}
 use Rattle.rows.specs.Contract.{Small}
-use Rattle.rows.proofs.Parts.{put-again, length-put}
-use Rattle.net.specs.Net.{each, Node, Edge, Patch, Piece, Cornered, Ends, nodesFrom, edgesFrom, patchesFrom, pieces, network, weigh, bare, weighed}
+use Rattle.rows.proofs.Parts.{put-again}
+use Rattle.net.specs.Net.{each, Node, Edge, Patch, Piece, nodesFrom, edgesFrom, patchesFrom, pieces, network, weigh, bare, weighed}
 use Rattle.net.proofs.All.{All, all-by}
 use Rattle.net.proofs.Nan.{Within}
 use Rattle.net.proofs.Sound.{edges-ends, patches-cornered}
@@ -28,7 +28,7 @@ use Rattle.node_rows.proofs.Lists.{items-long}
 use Rattle.weights.specs.Weigh.{weightIn, NetRows}
 use Rattle.weighing.proofs.Held.{Held, Fitting, row-begins, held-rows, held-written}
 use Rattle.refusals.specs.Said.{accepted}
-use Rattle.network.specs.Says.{Polygons, Rows, Roomy, rows, polygons, netOf, counted, filled}
+use Rattle.network.specs.Says.{Rows, Roomy, rows, polygons, netOf, counted, filled}
 
 -- the ends of weighed edges are those of the edges
 ends-stay : (ns : List Node) (cs : List Patch) (es : List Edge) → each endNums (map (weighed ns cs) es) ≡ each endNums es

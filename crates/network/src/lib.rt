@@ -3,7 +3,6 @@
 // nodes: four numbers a node: layer, component, x, y. ends: two numbers an edge. conductances: one an edge. corners: four numbers a cell:
 // its nodes SW, SE, NE, NW. cells: one a cell, its sheet resistance.
 ghost use mathlib.Core.Path.{_≡_};
-ghost use Prim.Native.Nat.{_*_, _≤_};
 ghost use lib.ListN.{length};
 ghost use Rattle.table.specs.Leaves.{leafIds};
 ghost use Rattle.leafrows.specs.Rows.{Given};

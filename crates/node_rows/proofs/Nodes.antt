@@ -1,9 +1,8 @@
 -- Numbers of nodes.
 use mathlib.Core.Path.{_≡_}
-use Prim.Native.Nat.{ℕ, _+_, _^_, _<_}
+use Prim.Native.Nat.{ℕ, _^_, _<_}
 use native.Mathlib.Omega.{arith}
 use lib.IntN.{ℤ}
-use Rattle.refusals.specs.Limits.{coordinate}
 use Rattle.cell.specs.Ticks.{off}
 use Rattle.cell.proofs.Offsets.{off-le}
 

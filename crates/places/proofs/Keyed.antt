@@ -5,7 +5,7 @@ use mathlib.Core.Logic.{_⊎_, ⊎-elim}
 use mathlib.Core.List.{List, _++_}
 use Prim.Native.Nat.{ℕ, zero, suc, _+_, _*_, _-_, _/_, _%_, _^_, _<_, _≤_}
 use native.Mathlib.Omega.{arith}
-use lib.Dec.{ltb, eqb}
+use lib.Dec.{eqb}
 use lib.ListN.{length, getD, length-append, List·getD-append}
 use lib.Seq.{getD-append-add}
 use borrow.Author.Tests.{lt-ltb, le-ltb}
@@ -20,7 +20,7 @@ use Rattle.net.proofs.Find.{order}
 use Rattle.net.proofs.Weld.{Keyed}
 use Rattle.net.proofs.Keys.{first-same, node-keys}
 use Rattle.net.proofs.Board.{each-length, each-at}
-use Rattle.places.specs.Places.{wide, polyKeys, classOf, boxAt, leafOf, sideOf, xOf, yOf, keyX, keyY, classRow, keysX, placeKeys, nodeOf, Holds}
+use Rattle.places.specs.Places.{wide, polyKeys, classOf, leafOf, sideOf, xOf, yOf, keyX, keyY, classRow, keysX, placeKeys, nodeOf, Holds}
 use Rattle.places.proofs.Places.{leaf-low, poly-long, class-same, x-low, y-low}
 
 -- the places of one leaf

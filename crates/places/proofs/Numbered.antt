@@ -1,5 +1,5 @@
 -- The rows, step by step, until the places are numbered. Assumes nothing.
-use mathlib.Core.Path.{_≡_, refl, sym, ap, ap₂, subst, _∙_}
+use mathlib.Core.Path.{_≡_, sym, ap, subst, _∙_}
 use mathlib.Core.Logic.{_⊎_, inl, inr, ⊎-elim}
 use mathlib.Core.List.{List, _++_}
 use Prim.Native.Nat.{ℕ, _+_, _*_, _-_, _^_, _<_, _≤_}
@@ -13,14 +13,14 @@ use Rattle.refusals.specs.Limits.{maxSlots, maxPolygons}
 use Rattle.rows.specs.Order as Rows
 use Rattle.rows.specs.Parts.{part, put, tab}
 use Rattle.rows.specs.Contract.{Small}
-use Rattle.rows.proofs.Parts.{length-part, part-at, length-put, part-put-other, part-put-in, part-put, lent-back}
+use Rattle.rows.proofs.Parts.{length-part, part-at, length-put, part-put-other, part-put, lent-back}
 use Rattle.rows.proofs.Fill.{length-tab, tab-at, tab-same, tab-only, filled-long, filled-part, filled-other}
 use Rattle.rows.proofs.Lent.{block-long, block-other, block-third}
 use Rattle.net.specs.First.{key, firstOf, rank, numberBy, rankIn, Firsts}
 use Rattle.net.proofs.Weld.{first-at-most, first-new}
 use Rattle.net.proofs.Numbers.{rank-in}
 use Rattle.places.specs.Places.{wide, classOf, leafOf, xOf, yOf, keyX, keyY, classRow, keysX, placeKeys, Laid, Numbered}
-use Rattle.places.proofs.Places.{leaf-low, poly-long, x-low, y-low}
+use Rattle.places.proofs.Places.{leaf-low, x-low, y-low}
 use Rattle.places.proofs.Numbers.{first-of, numberIn}
 
 -- the row as it has become: as long, with the polygons in front

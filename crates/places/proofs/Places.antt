@@ -1,23 +1,22 @@
 -- The places of a leaf, and the rows of classes and keys. Assumes nothing.
-use mathlib.Core.Path.{_≡_, refl, sym, ap, ap₂, subst, _∙_}
-use mathlib.Core.Bool.{Bool, true, false, _&&_}
-use mathlib.Core.Logic.{_⊎_, inl, inr, ⊎-elim}
+use mathlib.Core.Path.{_≡_, refl, sym, ap₂, _∙_}
+use mathlib.Core.Bool.{true, false, _&&_}
+use mathlib.Core.Logic.{_⊎_, ⊎-elim}
 use mathlib.Core.List.{List}
-use Prim.Native.Nat.{ℕ, zero, suc, _+_, _*_, _-_, _/_, _%_, _^_, _<_, _≤_}
+use Prim.Native.Nat.{ℕ, zero, suc, _+_, _*_, _-_, _^_, _<_, _≤_}
 use native.Mathlib.Omega.{arith}
-use lib.Dec.{ltb, eqb}
+use lib.Dec.{eqb}
 use lib.ListN.{length, getD}
-use borrow.Author.Tests.{lt-ltb, le-ltb, eq-eqb, eqb-true, eqb-false}
+use borrow.Author.Tests.{lt-ltb, le-ltb, eq-eqb}
 use Rattle.cell.specs.Boxes.{Box, mid}
-use Rattle.rows.specs.Parts.{part, put, tab}
+use Rattle.rows.specs.Parts.{tab}
 use Rattle.rows.specs.Contract.{Small}
 use Rattle.rows.proofs.Fill.{length-tab, tab-at}
-use Rattle.net.specs.Net.{find}
 use Rattle.net.specs.First.{key, firstOf}
-use Rattle.net.specs.Flat.{placeX, placeY, pickNum}
-use Rattle.net.proofs.Find.{order, test, find-is}
-use Rattle.net.proofs.Keys.{packed, bool-ext, both, both-of}
-use Rattle.places.specs.Places.{wide, polyKeys, classOf, boxAt, leafOf, sideOf, xOf, yOf, keyX, keyY, keysX, placeKeys, Laid}
+use Rattle.net.specs.Flat.{placeX, placeY}
+use Rattle.net.proofs.Find.{order, find-is}
+use Rattle.net.proofs.Keys.{packed, both-of}
+use Rattle.places.specs.Places.{wide, polyKeys, classOf, boxAt, leafOf, sideOf, xOf, yOf, keyY, keysX, placeKeys}
 
 -- the last answers of `place_x` and `place_y`
 pub x-last : (r : Box) (s : ℕ) → (s ≡ 0 → ⊥) → (s ≡ 3 → ⊥) → (s ≡ 6 → ⊥) → (s ≡ 4 → ⊥) → (s ≡ 5 → ⊥) → r .x1 ≡ placeX r s

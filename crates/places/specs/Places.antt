@@ -1,13 +1,12 @@
 -- The places of the leaves as rows of numbers: the classes of the leaves, and the two rounds of keys. There are l leaves, with four numbers
 -- each in the row of boxes, x0 y0 x1 y1; m is 4 * l. A place below m is a corner, and any other the middle of a side.
-use mathlib.Core.Bool.{Bool}
 use mathlib.Core.List.{List, [], _∷_}
 use Prim.Native.Nat.{ℕ, _+_, _*_, _-_, _/_, _%_, _^_, _<_, _≤_}
 use mathlib.Core.Path.{_≡_}
 use lib.Dec.{ltb}
 use lib.ListN.{length, getD}
 use lib.IntN.{ℤ, pos}
-use Rattle.refusals.specs.Limits.{coordinate, maxSlots, maxPolygons}
+use Rattle.refusals.specs.Limits.{maxSlots}
 use Rattle.cell.specs.Boxes.{Box}
 use Rattle.cell.specs.Ticks.{on}
 use Rattle.rows.specs.Parts.{part, tab}

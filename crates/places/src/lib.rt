@@ -4,7 +4,7 @@
 // The rows of work room, for l leaves: the polygon of each leaf, its class, and blocks of places and of parts of edges.
 ghost use mathlib.Core.Path.{_≡_};
 ghost use mathlib.Core.List.{[], _∷_};
-ghost use Prim.Native.Nat.{ℕ, _+_, _*_, _^_, _<_, _≤_};
+ghost use Prim.Native.Nat.{_+_, _*_, _<_, _≤_};
 ghost use lib.ListN.{length, getD};
 ghost use Rattle.refusals.specs.Limits.{maxSlots, maxPolygons};
 ghost use Rattle.rows.specs.Parts.{part, put, tab};

@@ -15,7 +15,7 @@ use Rattle.record.specs.Fields.{Out, value, stop, bigEndian, field, rang
 use Rattle.record.proofs.Walks.{then-value, field-value, ranged-value, Ends, within, then-ends, require-ends, field-ends, ranged-ends, point-ends, several-ends, several-length, several-go}
 use Rattle.record.specs.declared.check.Walk.the-variants as W
 use Rattle.record.specs.Answers.{went}
-use Rattle.record.specs.Board.{lastLayer, asDefault, level, settings, sheetLow, sheetHigh, Entry, entry, Point, point, coordinate, ring, Polygon, polygon, shapes, pointsIn, pointsOf}
+use Rattle.record.specs.Board.{lastLayer, asDefault, level, settings, sheetLow, sheetHigh, entry, Point, point, coordinate, ring, Polygon, polygon, shapes, pointsIn, pointsOf}
 
 module _ (s : List ℕ) (at : ℕ) where
   pub entry-value : (least : ℕ) {l v : ℕ} → ranged least lastLayer 2 s at ≡ value l (at + 2) → ranged 0 maxCell 8 s (at + 2) ≡ value v (at + 2 + 8)

@@ -17,7 +17,7 @@ use Rattle.record.specs.declared.fields.Signed.{Signed}
 use Rattle.record.specs.declared.fields.Signed.the-variants as S
 use Rattle.record.specs.declared.check.Walk.the-variants as W
 use Rattle.record.specs.Fields.{Out, value, stop, _then_, require, many, several, bigEndian, field, ranged, signed}
-use Rattle.record.specs.Board.{level, coordinate, Entry, entry, Point, point, polygon}
+use Rattle.record.specs.Board.{coordinate, entry, point}
 use Rattle.record.specs.Answers.{told, toldSigned, went}
 
 -- ---- what an answer of the code says of the definition

@@ -1,6 +1,5 @@
 -- What the code's answers say of the definitions.
 use Prim.Native.Nat.{ℕ}
-use mathlib.Core.List.{List}
 use lib.IntN.{ℤ}
 use Rattle.refusals.specs.declared.Refusal.{Refusal}
 use Rattle.refusals.specs.declared.Refusal.the-variants.{WrongLength}

@@ -3,7 +3,7 @@
 -- Assumes nothing.
 use Prim.Native.Nat.{ℕ, zero, suc}
 use mathlib.Core.Path.{_≡_, refl, sym, ap, _∙_}
-use mathlib.Core.List.{List, [], _∷_}
+use mathlib.Core.List.{List}
 use Rattle.refusals.specs.declared.Refusal.{Refusal}
 use Rattle.refusals.specs.declared.Refusal.the-variants.{WrongVersion, WrongLength, OutOfRange, Slanted, UnevenCell, NoRoom, BadTable, NoSuchCell, AlreadySplit, FinestLevel}
 use Rattle.refusals.specs.Said.{Said, accepted, refused, refusal}

@@ -1,16 +1,16 @@
 -- A block of a longer row that was lent to `firsts` or `lasts`: what the whole row is then. Assumes nothing.
-use mathlib.Core.Path.{_≡_, refl, sym, ap, ap₂, subst, _∙_}
+use mathlib.Core.Path.{_≡_, sym, ap, _∙_}
 use mathlib.Core.Logic.{_⊎_, inl, inr, ⊎-elim}
 use mathlib.Core.List.{List, _++_, append-assoc}
-use Prim.Native.Nat.{ℕ, _+_, _*_, _-_, _<_, _≤_}
+use Prim.Native.Nat.{ℕ, _+_, _*_, _-_, _≤_}
 use native.Mathlib.Omega.{arith}
 use borrow.Rule.Slice.PartMut.{putMid}
-use lib.ListN.{length, getD, take, drop, length-append, length-drop}
-use lib.Seq.{length-take-le, take-take, take-all, take-at}
+use lib.ListN.{length, take, drop, length-append}
+use lib.Seq.{take-take, take-all, take-at}
 use Rattle.rows.specs.Order.{ordered, tabled}
 use Rattle.rows.specs.Parts.{part, put, tab}
 use Rattle.rows.proofs.Ascending.{length-ordered}
-use Rattle.rows.proofs.Parts.{length-part, part-at, length-put, part-put-other, part-put-in, part-front, part-back, lent-back}
+use Rattle.rows.proofs.Parts.{length-part, length-put, part-put-other, part-put-in, part-back, lent-back}
 use Rattle.rows.proofs.Fill.{length-tab, tabled-tab}
 
 module _ (w : List ℕ) (a e n : ℕ) (f : List ℕ → ℕ → ℕ) (last : List ℕ) (len : e ≡ a + 3 * n) (room : e ≤ length w)

@@ -2,11 +2,11 @@
 use mathlib.Core.Path.{_≡_, refl, sym, ap, ap₂, subst, _∙_}
 use mathlib.Core.Logic.{_⊎_, ⊎-elim}
 use mathlib.Core.List.{List, [], _∷_, _++_, append-assoc}
-use Prim.Native.Nat.{ℕ, zero, suc, _+_, _-_, _<_, _≤_}
+use Prim.Native.Nat.{ℕ, suc, _+_, _-_, _<_, _≤_}
 use native.Mathlib.Omega.{arith}
 use native.Mathlib.Nat.{suc-add, zero-add, add-zero}
 use lib.ListN.{length, getD, take, drop, set, length-append, length-set, length-drop, take-append-drop, List·getD-append}
-use lib.Seq.{length-take-le, take-append-le, take-append-add, take-take, take-at, drop-at, drop-drop, getD-append-add, getD-take, getD-drop, drop-set-add, take-set-lt, set-append-left, ext-getD, append-snoc, drop-cons, take-add, drop-append-add, set-append-seam}
+use lib.Seq.{length-take-le, take-append-le, take-take, take-at, drop-at, drop-drop, getD-append-add, getD-take, getD-drop, set-append-left, ext-getD, drop-cons, drop-append-add, set-append-seam}
 use borrow.Rule.Slice.PartMut.{putMid}
 use Rattle.rows.specs.Parts.{part, put}
 

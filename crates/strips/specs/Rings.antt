@@ -2,7 +2,7 @@
 -- as a cell's are: a ring is judged before it is cut, so that none is out of range.
 use Prim.Native.Nat.{ℕ, zero, suc, _+_}
 use mathlib.Core.Bool.{Bool, true, false, cond, not, _&&_, _||_}
-use mathlib.Core.List.{List, [], _∷_}
+use mathlib.Core.List.{List, []}
 use lib.ListN.{length, getD}
 use lib.IntN.{ℤ, pos}
 use lib.Dec.{ltb, leb, eqb}

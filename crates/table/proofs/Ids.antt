@@ -1,20 +1,15 @@
 -- Laws of lists of ids: how one grows by a turn, how long it is, what it holds. Assumes nothing.
 use Prim.Native.Nat.{ℕ, zero, suc, _+_, _-_, _<_, _≤_}
-use mathlib.Core.Path.{_≡_, refl, sym, ap, subst, _∙_}
-use mathlib.Core.Bool.{Bool, true, false, _&&_, _||_}
-use mathlib.Core.List.{List, [], _∷_, _++_, append-assoc, append-nil}
-use mathlib.Core.Logic.{_⊎_, inl, inr, ⊎-elim}
+use mathlib.Core.Path.{_≡_, refl, subst}
+use mathlib.Core.Bool.{Bool, true, false}
+use mathlib.Core.List.{List, [], _∷_, _++_, append-nil}
+use mathlib.Core.Logic.{_⊎_, ⊎-elim}
 use native.Mathlib.Omega.{arith}
-use native.Mathlib.Nat.{add-zero, add-suc, suc-add, zero-add}
+use native.Mathlib.Nat.{add-zero, add-suc, suc-add}
 use native.Mathlib.Numerals.{add-one}
-use lib.Dec.{ltb, leb, eqb}
-use lib.IntN.{ℤ}
 use lib.ListN.{length, drop, length-append, set}
 use lib.Seq.{sets, sets-eq}
-use borrow.Author.Tests.{ltb-true, lt-ltb, le-ltb, eqb-true, eqb-false, eq-eqb, ne-eqb}
-use Rattle.refusals.specs.Limits.{maxPolygons}
-use Rattle.table.specs.Slots.{cellAt}
-use Rattle.table.specs.Leaves.{oneIf, idsTo, leafAt, leafOf, leafIds, orderTo, orderIds, written, wanted}
+use Rattle.table.specs.Leaves.{oneIf, idsTo, written}
 use Rattle.table.proofs.All.{top?}
 
 module _ (f : ℕ → Bool) where

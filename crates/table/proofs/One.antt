@@ -1,7 +1,7 @@
 -- The contracts permit one answer each. Assumes nothing.
 use Prim.Native.Nat.{ℕ}
 use mathlib.Core.Path.{_≡_, refl}
-use mathlib.Core.List.{List, [], _∷_}
+use mathlib.Core.List.{List}
 use lib.ListN.{getD}
 use Rattle.refusals.specs.Said.{Said}
 use Rattle.refusals.proofs.Settled.{settled, answer, answer-refused}

@@ -3,8 +3,6 @@ ghost use mathlib.Core.Path.{_≡_};
 ghost use Prim.Native.Nat.{_+_, _*_, _/_, _^_, _<_, _≤_};
 ghost use lib.ListN.{length};
 ghost use Rattle.refusals.specs.Limits.{maxLevel};
-ghost use Rattle.cell.specs.Cells.{childOf};
-ghost use Rattle.table.specs.Slots.{cellAt};
 ghost use Rattle.table.specs.Formed.{allTo, restZero, sideOk, rootOk, bornOk, sameBut, kidOk, kidsOk, placeOk, cellOk, shapeOk, wellFormed};
 use crate::Head;
 use crate::slots::cell_at;

@@ -1,23 +1,19 @@
 -- Pairs of nodes: the ends, the keys, and the sort of them. Assumes nothing.
 use mathlib.Core.Path.{_≡_, refl, sym, ap, ap₂, subst, _∙_}
-use mathlib.Core.Bool.{Bool, true, false}
-use mathlib.Core.Logic.{_⊎_, inl, inr, ⊎-elim}
+use mathlib.Core.Logic.{_⊎_, ⊎-elim}
 use mathlib.Core.List.{List, _++_}
 use Prim.Native.Nat.{ℕ, _+_, _*_, _-_, _/_, _%_, _^_, _<_, _≤_, min, max}
 use native.Mathlib.Omega.{arith}
-use native.Mathlib.Nat.{zero-add}
 use borrow.Rule.Slice.PartMut.{putMid}
-use lib.Dec.{ltb}
 use lib.ListN.{length, getD, take, drop, length-drop}
 use lib.Seq.{length-take-le, take-take}
 use borrow.Author.Tests.{lt-ltb, le-ltb}
 use Rattle.rows.specs.Order as Rows
 use Rattle.rows.specs.Parts.{part, put, tab}
 use Rattle.rows.specs.Contract.{Small}
-use Rattle.rows.proofs.Fill.{length-tab, tab-same, filled-long, filled-part}
+use Rattle.rows.proofs.Fill.{tab-same, filled-long, filled-part}
 use Rattle.rows.proofs.Lent.{block-long, block-third}
 use Rattle.net.specs.First.{firstOf}
-use Rattle.net.specs.Flat.{pickNum}
 use Rattle.net.proofs.Find.{order}
 use Rattle.bare.specs.Slots.{many}
 use Rattle.places.proofs.Numbers.{first-of}

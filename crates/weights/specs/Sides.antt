@@ -1,13 +1,10 @@
 -- The sides of the cells, four to a cell, and behind them the edges, as pairs of nodes: the first pair of equal key tells an edge's cell.
-use mathlib.Core.Path.{_≡_}
-use mathlib.Core.Bool.{Bool}
 use mathlib.Core.List.{List}
-use Prim.Native.Nat.{ℕ, _+_, _*_, _-_, _/_, _%_, _^_, _<_, _≤_, min, max}
+use Prim.Native.Nat.{ℕ, _+_, _*_, _-_, _/_, _%_, _<_, _≤_, min, max}
 use lib.Dec.{ltb}
 use lib.ListN.{length, getD}
 use Rattle.refusals.specs.Limits.{maxSlots}
-use Rattle.rows.specs.Parts.{part, tab}
-use Rattle.net.specs.First.{firstOf}
+use Rattle.rows.specs.Parts.{tab}
 use Rattle.net.specs.Flat.{pickNum}
 use Rattle.bare.specs.Slots.{many}
 

@@ -1,13 +1,12 @@
 -- For every board in range: its rows are its board again, so what `write` puts is the record of the board, which reads as the board. Assumes nothing.
-use Prim.Native.Nat.{ℕ, _+_, _*_, _-_, _^_, _≤_, _<_}
+use Prim.Native.Nat.{ℕ, _+_, _*_, _-_, _^_, _≤_}
 use mathlib.Core.Path.{_≡_, refl, sym, ap, subst, _∙_}
-use mathlib.Core.Bool.{Bool, true, false, not, cond}
-use mathlib.Core.List.{List, [], _∷_, _++_, map, map-append}
+use mathlib.Core.Bool.{Bool, true, false, not}
+use mathlib.Core.List.{List, [], _∷_, map, map-append}
 use native.Mathlib.Omega.{arith}
-use lib.Dec.{T, eqb}
-use lib.IntN.{ℤ}
+use lib.Dec.{T}
 use lib.Ieee as Ieee
-use lib.Ieee.{Float, nan, inf, fin, up, down, binary64, ofBits, toBits, isNan, nanBits, eq}
+use lib.Ieee.{Float, nan, inf, fin, up, down, binary64, ofBits, isNan, eq}
 use lib.Ieee.Bits.{toBits-ofBits, nanBits-is}
 use lib.ListN.{length, take, drop, length-map}
 use lib.Seq.{take-at, drop-at}
@@ -26,7 +25,7 @@ use Rattle.record.specs.Board.{Entry, Point, Polygon, Board, board, sheetHigh}
 use Rattle.board.specs.Rows.{Rows, rowsOf, entryRow, polygonRow, sheetOf, pointRow, rings}
 use Rattle.board.specs.Writing.{Chain, All, PolygonOk, InRange}
 use Rattle.board.proofs.Sheets.{no-nan}
-use Rattle.writing.specs.Boards.{entryOf, entriesOf, pointOf, ringOf, sheetBits, polygonsOf, addUp, boardOf}
+use Rattle.writing.specs.Boards.{entriesOf, ringOf, sheetBits, polygonsOf, addUp, boardOf}
 
 -- the rows of a board
 abbrev pub rowsFor : Board → Rows

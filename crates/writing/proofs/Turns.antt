@@ -1,8 +1,8 @@
 -- One polygon more: what its stores leave to be put. Assumes nothing.
-use Prim.Native.Nat.{ℕ, zero, suc, _+_, _*_, _-_, _≤_, _<_}
-use mathlib.Core.Path.{_≡_, refl, sym, ap, subst, _∙_}
+use Prim.Native.Nat.{ℕ, suc, _+_, _*_, _-_, _≤_, _<_}
+use mathlib.Core.Path.{_≡_, refl, sym, ap, _∙_}
 use mathlib.Core.Bool.{Bool, true, false, _&&_, false≢true}
-use mathlib.Core.List.{List, [], _∷_, _++_, map, append-assoc}
+use mathlib.Core.List.{List, [], _∷_, _++_, append-assoc}
 use native.Mathlib.Nat.{mul-suc, mul-zero}
 use native.Mathlib.Numerals.{add-one}
 use native.Mathlib.Omega.{arith}
@@ -16,7 +16,6 @@ use mir.Syntax.{w64}
 use mir.Val.{ofZ}
 use Rattle.record.specs.Board.{Entry, Polygon, Point}
 use Rattle.board.specs.Writing.{bytes, each, entryBytes, pointBytes, polygonBytes}
-use Rattle.board.proofs.Shapes.{sets-append}
 use Rattle.board.proofs.RoundTrip.{bytes-length}
 use Rattle.writing.specs.Boards.{entriesOf, ringOf, sheetBits, countOf, polygonsOf, addUp}
 use Rattle.writing.proofs.Stores.{sets-then}

@@ -3,13 +3,12 @@ ghost use mathlib.Core.Path.{_≡_};
 ghost use mathlib.Core.List.{_++_};
 ghost use mathlib.Core.Bool.{true};
 ghost use Prim.Native.Nat.{_+_, _*_, _≤_};
-ghost use lib.ListN.{length, drop};
+ghost use lib.ListN.{length};
 ghost use lib.Seq.{sets};
 ghost use mir.Syntax.{w64};
 ghost use mir.Val.{ofZ};
 ghost use Rattle.board.specs.Writing.{bytes, each, entryBytes, pointBytes, polygonBytes};
 ghost use Rattle.writing.specs.Boards.{entriesOf, ringOf, sheetBits, polygonsOf, addUp};
-ghost use Rattle.board.specs.Writing.{settingsBytes};
 
 // A number in `width` bytes, the last of them first. What is above them is lost.
 pub fn put(out: &mut [u8], at: usize, width: usize, v: u64)

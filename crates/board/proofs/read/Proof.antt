@@ -7,8 +7,8 @@ use lib.Seq.{sets}
 use borrow.Author.Needs.{needs}
 use borrow.Author.Tests.{not-true, not-false}
 use Rattle.record.specs.Fields.{value}
-use Rattle.record.specs.Board.{board, entries, shapes, ids, pointsOf}
-use Rattle.board.specs.Rows.{rowsOf, filled, entryRow, polygonRow, sheetOf, pointRow, rings}
+use Rattle.record.specs.Board.{board, shapes, ids}
+use Rattle.board.specs.Rows.{rowsOf, entryRow, polygonRow, sheetOf, pointRow, rings}
 use Rattle.board.specs.Reading.{hasRoom, numbers, readSaid, says}
 use Rattle.refusals.specs.Said.{accepted}
 use Rattle.board.specs.Copying.{itemsOf, endOf}

@@ -5,7 +5,7 @@ use Rattle.table.specs.Mesh.{Cell, table}
 use Rattle.table.proofs.Cells.{length-table, at-table}
 use Rattle.coarsest.proofs.Sweep.{dueOf}
 use Rattle.coarsest.proofs.Rows.{row-shallow}
-use Prim.Native.Nat.{ℕ, _+_, _*_, _-_, _/_, _<_, _≤_}
+use Prim.Native.Nat.{ℕ, _+_, _-_, _/_, _<_, _≤_}
 use mathlib.Core.Path.{_≡_, refl, sym, ap, subst₂, _∙_}
 use mathlib.Core.Logic.{⊎-elim}
 use native.Mathlib.Omega.{arith}

@@ -1,8 +1,6 @@
 -- `even::due_at` meets its contract. Assumes nothing.
 use native.Mathlib.Omega.{arith}
-use mathlib.Core.Path.{_≡_, sym, ap, subst, _∙_}
-use Prim.Native.Nat.{ℕ, _+_, _≤_}
-use Rattle.cell.specs.declared.Cell.{Cell}
+use mathlib.Core.Path.{_∙_}
 use Rattle.table.specs.Slots.{cellAt}
 use Rattle.coarsest.proofs.Pair.{due-near}
 use Rattle.even.proofs.Pairs.{not-leaf}

@@ -1,5 +1,4 @@
 -- `even::even_out` meets its contract. Assumes nothing.
-use Prim.Native.Nat.{ℕ, _<_}
 use mathlib.Core.Path.{_≡_, refl, sym, ap, _∙_}
 use native.Mathlib.Omega.{arith}
 use Rattle.table.specs.Mesh.{table}

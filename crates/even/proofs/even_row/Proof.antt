@@ -1,5 +1,4 @@
 -- `even::even_row` meets its contract. Assumes nothing.
-use mathlib.Core.Path.{_≡_}
 use borrow.Author.Needs.{needs}
 use Rattle.even.proofs.even_row.Statement.{statement}
 use Rattle.even.proofs.even_row.Tie as tie

@@ -1,5 +1,5 @@
 -- `even::even_table` meets its contract. Assumes nothing.
-use Prim.Native.Nat.{ℕ, _-_, _/_, _<_, _≤_}
+use Prim.Native.Nat.{_-_, _/_}
 use mathlib.Core.Path.{_≡_, sym, ap, ap₂, _∙_}
 use mathlib.Core.Bool.{true, false}
 use mathlib.Core.List.{[], _∷_}

@@ -33,7 +33,7 @@ module _ (c : tie.After-slice-known3 Inv-loop μ-loop) where
   work₀ = c .before .before .before .before .before .before .args .work .now
 
   abbrev listed : List ℕ
-  listed = c .before .before .append-order .last .1 .1 .1 .0
+  listed = c .before .before .append-order .last .1 .1 .0
 
   total : c .before .before .before .before .before .before .args .l ≡ length (orderIds table count)
   total = c .before .before .before .before .before .before .pre .0 .1
@@ -54,7 +54,7 @@ module _ (c : tie.After-slice-known3 Inv-loop μ-loop) where
   work-room = let e = listed-long in let r = room₀ in omega arith
 
 append-order-requires : tie.Need-append-order-requires Inv-loop μ-loop
-append-order-requires c κs = let p = c .before .before .before .pre in (p .0 .0, (p .0 .1, p .1 .1))
+append-order-requires c κs = let p = c .before .before .before .pre in (p .0 .0, omega (arith, p .0 .1, p .1 .1))
 
 loop-holds : tie.Need-loop-holds Inv-loop μ-loop
 loop-holds c = filling-begins (table c) (count c) (boxes₀ c) (listed c) (box-room c) (work-room c)

@@ -1,5 +1,5 @@
 -- `network::network` meets its contract: the tests in document 01's order, and then the net. Assumes nothing.
-use mathlib.Core.Path.{refl, sym, ap, ap₂, _∙_}
+use mathlib.Core.Path.{sym, ap, ap₂, _∙_}
 use mathlib.Core.Bool.{_&&_}
 use lib.ListN.{length}
 use native.Mathlib.Omega.{arith}

@@ -1,13 +1,12 @@
 -- `places::class_row` meets its contract. Assumes nothing.
 use mathlib.Core.Path.{_≡_, sym, ap, subst, _∙_}
-use Prim.Native.Nat.{ℕ, _+_, _-_, _<_, _≤_}
+use Prim.Native.Nat.{ℕ, _-_, _<_, _≤_}
 use native.Mathlib.Omega.{arith}
 use native.Mathlib.Nat.{zero-add}
 use lib.ListN.{length, getD}
-use borrow.Author.Needs.{needs}
 use Rattle.rows.specs.Parts.{put, tab}
 use Rattle.rows.proofs.Parts.{length-part, part-at}
-use Rattle.rows.proofs.Fill.{fill-begins, fill-long, fill-turn, fill-above, fill-below, fill-ends}
+use Rattle.rows.proofs.Fill.{fill-begins, fill-long, fill-turn, fill-below, fill-ends}
 use Rattle.places.specs.Places.{classOf}
 use Rattle.places.proofs.class_row.Statement.{statement}
 use Rattle.places.proofs.class_row.Tie as tie

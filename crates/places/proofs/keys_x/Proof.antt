@@ -1,15 +1,14 @@
 -- `places::keys_x` meets its contract. Assumes nothing.
-use mathlib.Core.Path.{_≡_, refl, sym, ap, ap₂, subst, _∙_}
-use mathlib.Core.Logic.{inl, inr}
+use mathlib.Core.Path.{_≡_, refl, sym, ap, ap₂, _∙_}
 use Prim.Native.Nat.{ℕ, _+_, _*_, _-_, _<_, _≤_}
 use native.Mathlib.Omega.{arith}
 use lib.ListN.{length, getD}
 use borrow.Author.Needs.{needs}
-use Rattle.refusals.specs.Limits.{maxSlots, maxPolygons}
+use Rattle.refusals.specs.Limits.{maxPolygons}
 use Rattle.rows.specs.Parts.{part, put, tab}
 use Rattle.rows.proofs.Parts.{length-part, part-at}
-use Rattle.rows.proofs.Fill.{fill-begins, fill-long, fill-turn, fill-above, fill-below, fill-ends}
-use Rattle.places.specs.Places.{wide, leafOf, xOf, keyX}
+use Rattle.rows.proofs.Fill.{fill-begins, fill-long, fill-turn, fill-below, fill-ends}
+use Rattle.places.specs.Places.{wide, keyX}
 use Rattle.places.proofs.Places.{leaf-low}
 use Rattle.places.proofs.keys_x.Statement.{statement}
 use Rattle.places.proofs.keys_x.Tie as tie

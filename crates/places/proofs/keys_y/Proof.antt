@@ -1,15 +1,13 @@
 -- `places::keys_y` meets its contract. Assumes nothing.
-use mathlib.Core.Path.{_≡_, refl, sym, ap, ap₂, subst, _∙_}
-use mathlib.Core.Logic.{inl, inr}
+use mathlib.Core.Path.{_≡_, refl, sym, ap₂, _∙_}
 use Prim.Native.Nat.{ℕ, _+_, _*_, _-_, _<_, _≤_}
 use native.Mathlib.Omega.{arith}
 use lib.ListN.{length, getD}
-use borrow.Author.Needs.{needs}
-use Rattle.refusals.specs.Limits.{maxSlots, maxPolygons}
+use Rattle.refusals.specs.Limits.{maxSlots}
 use Rattle.rows.specs.Parts.{part, put, tab}
 use Rattle.rows.proofs.Parts.{length-part, part-at}
-use Rattle.rows.proofs.Fill.{fill-begins, fill-long, fill-turn, fill-above, fill-below, fill-ends}
-use Rattle.places.specs.Places.{wide, yOf, keyY}
+use Rattle.rows.proofs.Fill.{fill-begins, fill-long, fill-turn, fill-above, fill-ends}
+use Rattle.places.specs.Places.{wide, keyY}
 use Rattle.places.proofs.keys_y.Statement.{statement}
 use Rattle.places.proofs.keys_y.Tie as tie
 

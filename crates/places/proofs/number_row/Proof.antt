@@ -1,10 +1,10 @@
 -- `places::number_row` meets its contract. Assumes nothing.
 use mathlib.Core.Path.{_≡_, refl}
 use mathlib.Core.Logic.{⊎-elim}
-use Prim.Native.Nat.{ℕ, _-_, _<_, _≤_}
+use Prim.Native.Nat.{_-_, _<_, _≤_}
 use native.Mathlib.Omega.{arith}
 use lib.ListN.{length, getD}
-use Rattle.places.proofs.Numbers.{Numbering, numbering-begins, numbering-long, numbering-here, first-in, numbering-new, numbering-old, numbering-ends, numbering-count}
+use Rattle.places.proofs.Numbers.{Numbering, numbering-begins, numbering-long, first-in, numbering-new, numbering-old, numbering-ends, numbering-count}
 use Rattle.places.proofs.number_row.Statement.{statement}
 use Rattle.places.proofs.number_row.Tie as tie
 

@@ -1,6 +1,6 @@
 -- `places::write_node` meets its contract. Assumes nothing.
-use mathlib.Core.Path.{_≡_, sym, ap, subst, _∙_}
-use Prim.Native.Nat.{ℕ, _+_, _*_, _<_, _≤_}
+use mathlib.Core.Path.{_≡_, sym, ap, _∙_}
+use Prim.Native.Nat.{ℕ, _<_}
 use native.Mathlib.Omega.{arith}
 use native.Mathlib.Nat.{zero-add}
 use lib.ListN.{length, getD}
@@ -12,7 +12,7 @@ use mir.Facts.{toZ-ofZ, toZ-pos}
 use Rattle.cell.specs.Ticks.{on}
 use Rattle.rows.specs.Parts.{part, put}
 use Rattle.rows.proofs.Parts.{length-part, part-at}
-use Rattle.places.specs.Places.{leafOf, nodeOf}
+use Rattle.places.specs.Places.{nodeOf}
 use Rattle.places.proofs.Places.{leaf-low}
 use borrow.Author.Needs.{needs}
 use Rattle.places.proofs.write_node.Statement.{statement}

@@ -3,14 +3,14 @@ use mathlib.Core.Path.{_≡_, refl, sym, ap, _∙_}
 use mathlib.Core.Bool.{true}
 use mathlib.Core.List.{List}
 use mathlib.Core.Logic.{⊎-elim}
-use Prim.Native.Nat.{ℕ, _+_, _*_, _-_, _<_, _≤_}
+use Prim.Native.Nat.{ℕ, _+_, _*_, _-_, _≤_}
 use native.Mathlib.Omega.{arith}
 use lib.IntN.{ℤ}
 use lib.ListN.{length, getD}
-use Rattle.rows.specs.Parts.{part, put, tab}
+use Rattle.rows.specs.Parts.{part, put}
 use Rattle.rows.proofs.Parts.{part-at}
 use Rattle.rows.proofs.Fill.{tab-at}
-use Rattle.net.specs.First.{numberBy, rank, isNew}
+use Rattle.net.specs.First.{numberBy, isNew}
 use Rattle.places.specs.Places.{placeKeys, nodeNums, nodeOf}
 use Rattle.places.proofs.Places.{keys-long}
 use Rattle.places.proofs.Writing.{Writing, rank-le, next-new, next-old, writing-begins, writing-long, writing-room, writing-new, writing-old, writing-ends}

@@ -37,8 +37,6 @@ use denote.Triple.Table.{entered, cited}
 use denote.Triple.Walked.{says, Stays, stay-none-slice, walkOf, goes-none-slice, Walks, ends-at, walked, walk-meets}
 use denote.Exit.{yes}
 use denote.Triple.Clauses.{ensured, lasts}
-use Rattle.record.specs.Board.{board}
-use Rattle.record.specs.Answers.{checked}
 use Rattle.reader.specs.Standing.{standing}
 use Rattle.reader.specs.declared.Reader.{Reader}
 use Rattle.record.specs.declared.check.Read.{Read}

@@ -1,5 +1,5 @@
 -- `writing::write` meets its contract: the shape, the counts, the room, then the two parts of the record. Assumes nothing.
-use Prim.Native.Nat.{ℕ, _≤_, _+_, _*_, _-_, _^_}
+use Prim.Native.Nat.{_≤_, _+_, _*_, _-_, _^_}
 use mathlib.Core.Path.{_≡_, refl, sym, ap, _∙_}
 use mathlib.Core.Bool.{Bool, true, false, _&&_, false≢true}
 use mathlib.Core.List.{_++_}

@@ -7,10 +7,10 @@ use Prim.Native.Nat.{ℕ, _+_, _*_, _-_, _<_, _≤_}
 use native.Mathlib.Omega.{arith}
 use lib.ListN.{length, getD}
 use borrow.Author.Tests.{eq-eqb, ne-eqb}
-use Rattle.rows.specs.Parts.{part, put, tab}
+use Rattle.rows.specs.Parts.{put}
 use Rattle.rows.proofs.Parts.{part-at}
 use Rattle.rows.proofs.Fill.{tab-at}
-use Rattle.net.specs.First.{firstOf, rank, isNew}
+use Rattle.net.specs.First.{firstOf, isNew}
 use Rattle.places.proofs.Writing.{Writing, rank-le, writing-begins, writing-long, writing-room, writing-new, writing-old, writing-ends}
 use lib.ListN.{set}
 use lib.Ieee.{Float}

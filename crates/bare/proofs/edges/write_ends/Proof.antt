@@ -3,14 +3,14 @@ use mathlib.Core.Path.{_≡_, refl, sym, ap, ap₂, _∙_}
 use mathlib.Core.Bool.{true, false}
 use mathlib.Core.List.{List, [], _∷_}
 use mathlib.Core.Logic.{⊎-elim}
-use Prim.Native.Nat.{ℕ, _+_, _*_, _-_, _<_, _≤_}
+use Prim.Native.Nat.{ℕ, _+_, _*_, _-_, _≤_}
 use native.Mathlib.Omega.{arith}
 use lib.ListN.{length, getD}
 use borrow.Author.Tests.{eq-eqb, ne-eqb}
-use Rattle.rows.specs.Parts.{part, put, tab}
+use Rattle.rows.specs.Parts.{put}
 use Rattle.rows.proofs.Parts.{part-at}
 use Rattle.rows.proofs.Fill.{tab-at}
-use Rattle.net.specs.First.{firstOf, rank, isNew}
+use Rattle.net.specs.First.{firstOf, isNew}
 use Rattle.places.proofs.Writing.{Writing, rank-le, writing-begins, writing-long, writing-room, writing-new, writing-old, writing-ends}
 use Rattle.bare.specs.Slots.{slotKeys, endsOf}
 use Rattle.bare.proofs.edges.write_ends.Statement.{statement}

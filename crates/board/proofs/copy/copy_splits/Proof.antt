@@ -6,7 +6,7 @@ use native.Mathlib.Omega.{arith}
 use lib.ListN.{length, length-set}
 use lib.Seq.{sets}
 use borrow.Author.Needs.{needs}
-use Rattle.record.specs.Fields.{Out, bigEndian, field}
+use Rattle.record.specs.Fields.{Out, field}
 use Rattle.record.specs.Board.{ids}
 use Rattle.record.proofs.Walks.{Found, field-value}
 use Rattle.board.specs.Copying.{itemsOf, endOf}

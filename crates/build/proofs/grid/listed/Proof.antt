@@ -4,7 +4,7 @@ use Rattle.build.proofs.Cutting.{listed-here, listed-on, listed-end}
 use Rattle.build.specs.Grid.{listedAt}
 use lib.ListN.{length, drop}
 use borrow.Author.Needs.{needs}
-use mathlib.Core.Path.{_≡_, refl, sym, _∙_}
+use mathlib.Core.Path.{_≡_, sym, _∙_}
 use Prim.Native.Nat.{_-_}
 use Rattle.build.proofs.grid.listed.Statement.{statement}
 use Rattle.build.proofs.grid.listed.Tie as tie

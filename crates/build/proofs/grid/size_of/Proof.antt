@@ -1,6 +1,6 @@
 -- `build::grid::size_of` meets its contract: by whether the list has a cell.
 -- Assumes nothing.
-use mathlib.Core.Path.{_≡_, refl, sym, _∙_}
+use mathlib.Core.Path.{refl}
 use borrow.Author.Tests.{eq-eqb, ne-eqb}
 use borrow.Author.Needs.{needs}
 use Rattle.build.proofs.grid.size_of.Statement.{statement}

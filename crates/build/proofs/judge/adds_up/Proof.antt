@@ -1,15 +1,13 @@
 -- `build::judge::adds_up` meets its contract: what is left and the counts passed add up to the total.
 -- Assumes nothing.
 use Rattle.build.proofs.Judging.{same-test}
-use lib.Dec.{eqb}
-use mathlib.Core.Bool.{Bool, true, false}
-use borrow.Author.Tests.{eq-eqb, ne-eqb, eqb-true}
+use borrow.Author.Tests.{ne-eqb}
 use Rattle.build.proofs.Judging.{sum-none, sum-more, sum-mono}
 use Rattle.build.specs.Board.{sumTo}
 use native.Mathlib.Omega.{arith}
 use lib.ListN.{length}
 use borrow.Author.Needs.{needs}
-use mathlib.Core.Path.{_≡_, refl, sym, ap, _∙_}
+use mathlib.Core.Path.{_≡_, sym, ap}
 use Prim.Native.Nat.{_+_, _-_, _≤_}
 use Rattle.build.proofs.judge.adds_up.Statement.{statement}
 use Rattle.build.proofs.judge.adds_up.Tie as tie

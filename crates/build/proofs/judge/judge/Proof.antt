@@ -4,7 +4,7 @@ use Rattle.strips.specs.Rings.{ringInRange, ringSlants}
 use Prim.Native.Nat.{_+_}
 use borrow.Author.Tests.{not-true, not-false}
 use lib.Ieee.{nan}
-use mathlib.Core.Bool.{true, false}
+use mathlib.Core.Bool.{true}
 use Rattle.build.proofs.Judging.{sum-none, sum-more, ring-ends, ring-part, judge-sheet, judge-range, judge-slant, judge-on, judge-end}
 use Rattle.floats.specs.Fractions.{inSheet}
 use Rattle.build.specs.Says.{judgeFrom}

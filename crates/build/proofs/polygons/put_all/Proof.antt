@@ -8,8 +8,8 @@ use Rattle.build.specs.Board.{Board, board, sumTo, ringAt, rootsTo, root
 use native.Mathlib.Omega.{arith}
 use borrow.Author.Needs.{needs}
 use lib.ListN.{length, getD, take, drop}
-use mathlib.Core.Path.{_≡_, refl, sym, ap, _∙_}
-use Prim.Native.Nat.{_+_, _*_, _-_, _≤_}
+use mathlib.Core.Path.{_≡_, refl, sym, _∙_}
+use Prim.Native.Nat.{_+_, _-_, _≤_}
 use Rattle.build.proofs.polygons.put_all.Statement.{statement}
 use Rattle.build.proofs.polygons.put_all.Tie as tie
 

@@ -11,7 +11,7 @@ use Rattle.refusals.specs.Limits.{maxCap, maxSlots}
 use native.Mathlib.Omega.{arith}
 use borrow.Author.Needs.{needs}
 use lib.ListN.{length, getD, take, drop}
-use mathlib.Core.Path.{_≡_, refl, sym, ap, _∙_}
+use mathlib.Core.Path.{_≡_, refl, sym, _∙_}
 use Prim.Native.Nat.{_+_, _*_, _-_, _≤_}
 use Rattle.build.proofs.polygons.survey_all.Statement.{statement}
 use Rattle.build.proofs.polygons.survey_all.Tie as tie

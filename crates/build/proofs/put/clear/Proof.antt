@@ -6,8 +6,8 @@ use borrow.Author.Needs.{needs}
 use lib.ListN.{length, take, replicate, length-set}
 use lib.IntN.{pos}
 use mathlib.Core.List.{_++_}
-use mathlib.Core.Path.{_≡_, refl, sym, _∙_}
-use Prim.Native.Nat.{_≤_, _-_}
+use mathlib.Core.Path.{_≡_, sym, _∙_}
+use Prim.Native.Nat.{_-_}
 use Rattle.build.proofs.put.clear.Statement.{statement}
 use Rattle.build.proofs.put.clear.Tie as tie
 

@@ -2,7 +2,6 @@
 -- Assumes nothing.
 use Rattle.strips.specs.declared.walk.Strip.{Strip}
 use Rattle.build.proofs.Placing.{grid-none, grid-more, length-grid-more, grid-mono, length-row, placed-more}
-use Rattle.build.proofs.Cutting.{pieces}
 use Rattle.build.specs.Steps.{placed}
 use Rattle.build.specs.Grid.{rowOf, rowTo, gridTo}
 use native.Mathlib.Omega.{arith}

@@ -6,7 +6,7 @@ use lib.IntN.{ℤ, pos}
 use mathlib.Core.List.{List, [], _∷_}
 use Prim.Native.Nat.{_+_, _*_}
 use Rattle.build.proofs.Placing.{root-placed}
-use mathlib.Core.Path.{_≡_, refl, sym, ap, _∙_}
+use mathlib.Core.Path.{ap, _∙_}
 use borrow.Author.Needs.{needs}
 use Rattle.build.proofs.put.put_root.Statement.{statement}
 use Rattle.build.proofs.put.put_root.Tie as tie

@@ -2,7 +2,7 @@
 -- Assumes nothing.
 use lib.IntN.{ℤ}
 use mathlib.Core.List.{List, [], _∷_}
-use Rattle.build.proofs.Placing.{row-none, row-more, length-row, placed-more, length-placed}
+use Rattle.build.proofs.Placing.{row-none, row-more, length-row, placed-more}
 use Rattle.build.proofs.Cutting.{pieces}
 use Rattle.build.specs.Steps.{placed}
 use Rattle.build.specs.Grid.{boxed, cellOf, rowTo}

@@ -1,6 +1,6 @@
 -- `build::put::put_strips` meets its contract: what stands in the table and what is left make up the table that is wanted.
 -- Assumes nothing.
-use mathlib.Core.List.{[], _∷_}
+use mathlib.Core.List.{_∷_}
 use Rattle.build.proofs.Placing.{roots-none, length-roots-cons, strip-placed, placed-none, room-down}
 use Rattle.build.proofs.Cutting.{cuts}
 use Rattle.build.specs.Steps.{placed}
@@ -8,13 +8,13 @@ use Rattle.build.specs.Grid.{cutOf, gridTo, rootsIn}
 use Rattle.strips.proofs.Bounds.{strips-sound, sound-first, sound-rest}
 use Rattle.strips.proofs.Crossing.{ready-strips}
 use Rattle.strips.proofs.Walks.{started}
-use Rattle.strips.specs.Walk.{left, Sound, AllSound}
+use Rattle.strips.specs.Walk.{left, AllSound}
 use Rattle.strips.specs.Strips.{stripsOf}
 use native.Mathlib.Omega.{arith}
 use borrow.Author.Needs.{needs}
 use lib.ListN.{length, drop}
 use mathlib.Core.Path.{_≡_, refl, sym, ap, _∙_}
-use Prim.Native.Nat.{_+_, _≤_}
+use Prim.Native.Nat.{_+_}
 use Rattle.build.proofs.put.put_strips.Statement.{statement}
 use Rattle.build.proofs.put.put_strips.Tie as tie
 

@@ -3,7 +3,7 @@
 use Rattle.build.proofs.Cutting.{product-fits}
 use Rattle.refusals.specs.Limits.{maxCap}
 use borrow.Author.Tests.{lt-ltb, le-ltb}
-use mathlib.Core.Path.{_≡_, refl}
+use mathlib.Core.Path.{refl}
 use native.Mathlib.Omega.{arith}
 use Rattle.build.proofs.survey.more.Statement.{statement}
 use Rattle.build.proofs.survey.more.Tie as tie

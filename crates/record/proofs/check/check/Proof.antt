@@ -1,8 +1,7 @@
 -- `record::check::check` meets its contract. Assumes nothing.
-use mathlib.Core.Path.{_≡_, refl, sym, ap, _∙_}
+use mathlib.Core.Path.{refl, sym, ap, _∙_}
 use borrow.Author.Needs.{needs}
-use Rattle.record.specs.Fields.{value}
-use Rattle.record.specs.Board.{settings, board}
+use Rattle.record.specs.Board.{board}
 use Rattle.record.specs.Answers.{toldHead}
 use Rattle.record.proofs.Walks.{ends}
 use Rattle.record.proofs.Items.{settings-ends}

@@ -1,5 +1,5 @@
 -- `record::check::check_lists` meets its contract: each way out, by the fields and the lists read on the way. Assumes nothing.
-use Prim.Native.Nat.{_≤_, _+_}
+use Prim.Native.Nat.{_+_}
 use mathlib.Core.Path.{refl, sym, _∙_}
 use native.Mathlib.Omega.{arith}
 use lib.ListN.{length}

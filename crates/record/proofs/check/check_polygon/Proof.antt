@@ -1,12 +1,11 @@
 -- `record::check::check_polygon` meets its contract: each way out, by the fields read on the way. Assumes nothing.
-use Prim.Native.Nat.{_≤_, _+_}
-use mathlib.Core.Path.{_≡_, refl, sym, ap, _∙_}
+use Prim.Native.Nat.{_+_}
+use mathlib.Core.Path.{refl, sym, _∙_}
 use native.Mathlib.Omega.{arith}
-use lib.ListN.{length}
 use borrow.Author.Needs.{needs}
 use Rattle.refusals.specs.Limits.{maxPoints}
-use Rattle.record.specs.Board.{ring, point, polygon}
-use Rattle.record.specs.Answers.{went, nothing}
+use Rattle.record.specs.Board.{ring, point}
+use Rattle.record.specs.Answers.{nothing}
 use Rattle.record.proofs.Walks.{got, cut, arrived, halted, ends, ranged-ends, several-length}
 use Rattle.record.proofs.Items.{polygon-no-layer, polygon-no-component, polygon-no-sheet, polygon-no-count, polygon-no-ring, polygon-value}
 use borrow.Author.Needs.{needs}

@@ -1,13 +1,13 @@
 -- `record::check::check_splits` meets its contract. The loop's invariant: the walk over what is left comes to what the whole one does. Assumes nothing.
 use Prim.Native.Nat.{_≤_, _+_, _-_}
-use mathlib.Core.Path.{_≡_, refl, sym, ap, _∙_}
+use mathlib.Core.Path.{_≡_, refl, sym, _∙_}
 use native.Mathlib.Omega.{arith}
 use lib.ListN.{length}
 use borrow.Author.Needs.{needs}
 use Rattle.record.specs.declared.check.Walk.the-variants as W
 use Rattle.record.specs.Fields.{field}
 use Rattle.record.specs.Board.{ids}
-use Rattle.record.specs.Answers.{went, nothing, why}
+use Rattle.record.specs.Answers.{went, nothing}
 use Rattle.record.proofs.Walks.{got, cut, ends, field-ends, several-end, several-stop, several-go}
 use Rattle.record.proofs.check.check_splits.Statement.{statement}
 use Rattle.record.proofs.check.check_splits.Tie as tie

@@ -1,7 +1,6 @@
 -- `record::check::level_at` meets its contract. Assumes nothing.
 use mathlib.Core.Path.{refl}
-use borrow.Author.Tests.{eq-eqb, ne-eqb, le-leb, lt-leb}
-use Rattle.refusals.specs.Limits.{maxLevel}
+use borrow.Author.Tests.{ne-eqb, le-leb, lt-leb}
 use Rattle.record.specs.Board.{level}
 use borrow.Author.Needs.{needs}
 use Rattle.record.proofs.check.level_at.Statement.{statement}

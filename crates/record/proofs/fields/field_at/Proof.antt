@@ -4,7 +4,6 @@ use native.Mathlib.Omega.{arith}
 use lib.ListN.{length}
 use borrow.Author.Tests.{lt-leb, le-leb}
 use Rattle.record.specs.Fields.{field}
-use Rattle.record.specs.Answers.{told}
 use borrow.Author.Needs.{needs}
 use Rattle.record.proofs.fields.field_at.Statement.{statement}
 use Rattle.record.proofs.fields.field_at.Tie as tie

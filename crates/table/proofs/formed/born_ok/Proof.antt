@@ -2,7 +2,6 @@
 use Rattle.table.proofs.Tests.{near}
 use Rattle.table.specs.Formed.{bornOk}
 use borrow.Author.Tests.{lt-ltb, le-ltb, le-leb, lt-leb}
-use native.Mathlib.Omega.{arith}
 use borrow.Author.Needs.{needs}
 use Rattle.table.proofs.formed.born_ok.Statement.{statement}
 use Rattle.table.proofs.formed.born_ok.Tie as tie

@@ -1,7 +1,6 @@
 -- `table::formed::cell_ok` meets its contract. Assumes nothing.
 use lib.Pow.{pow-pos}
-use mathlib.Core.Path.{subst, sym}
-use Prim.Native.Nat.{ℕ, _+_, _^_, _<_}
+use Prim.Native.Nat.{_<_}
 use Rattle.table.specs.Formed.{cellOk}
 use native.Mathlib.Omega.{arith}
 use borrow.Author.Needs.{needs}

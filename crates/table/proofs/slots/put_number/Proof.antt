@@ -1,5 +1,5 @@
 -- `table::slots::put_number` meets its contract. Assumes nothing.
-use Prim.Native.Nat.{ℕ, min, _<_, _^_}
+use Prim.Native.Nat.{min, _<_, _^_}
 use mathlib.Core.Path.{_≡_}
 use native.Mathlib.Omega.{arith}
 use mir.Syntax.{w64}

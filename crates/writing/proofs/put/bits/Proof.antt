@@ -1,7 +1,6 @@
 -- `writing::put::bits` meets its contract: at or above 0, and below. Assumes nothing.
 use native.Mathlib.Omega.{arith}
 use mir.Facts.{toZ-ofZ}
-use borrow.Author.Needs.{needs}
 use Rattle.writing.proofs.Stores.{up, down}
 use Rattle.writing.proofs.put.bits.Statement.{statement}
 use Rattle.writing.proofs.put.bits.Tie as tie

@@ -1,5 +1,5 @@
 -- `writing::put::put` meets its contract. The loop's invariant: the bytes still to be put make the row what it is to be. Assumes nothing.
-use Prim.Native.Nat.{_≤_, _+_, _-_, _/_, _%_}
+use Prim.Native.Nat.{_≤_, _+_, _-_, _%_}
 use mathlib.Core.Path.{_≡_, refl, sym, _∙_}
 use native.Mathlib.Omega.{arith}
 use lib.ListN.{length, length-set}

@@ -8,7 +8,7 @@ use lib.Seq.{sets}
 use borrow.Author.Needs.{needs}
 use Rattle.board.specs.Writing.{bytes, each, entryBytes}
 use Rattle.board.proofs.RoundTrip.{bytes-length}
-use Rattle.writing.specs.Boards.{entryOf, entriesOf}
+use Rattle.writing.specs.Boards.{entryOf}
 use Rattle.writing.proofs.Stores.{each-map, row-turn, row-start, row-end}
 use Rattle.writing.proofs.put.put_layers.Statement.{statement}
 use Rattle.writing.proofs.put.put_layers.Tie as tie

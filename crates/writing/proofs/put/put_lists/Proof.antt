@@ -1,10 +1,8 @@
 -- `writing::put::put_lists` meets its contract: each list behind the one before it. Assumes nothing.
 use Prim.Native.Nat.{_+_, _*_}
-use mathlib.Core.Path.{_≡_, refl, sym, ap, _∙_}
 use mathlib.Core.List.{_++_}
 use native.Mathlib.Omega.{arith}
 use lib.ListN.{length, length-append}
-use borrow.Author.Needs.{needs}
 use Rattle.board.specs.Writing.{bytes, each, entryBytes, polygonBytes}
 use Rattle.board.proofs.RoundTrip.{bytes-length}
 use Rattle.writing.specs.Boards.{entriesOf, polygonsOf}

@@ -1,5 +1,5 @@
 -- `writing::put::put_polygons` meets its contract. The loop's invariant: the polygons still to be put make the row what it is to be. Assumes nothing.
-use Prim.Native.Nat.{ℕ, _≤_, _+_, _*_, _-_}
+use Prim.Native.Nat.{_≤_, _+_, _*_, _-_}
 use mathlib.Core.Path.{_≡_, refl, sym, ap, subst, _∙_}
 use mathlib.Core.Bool.{true}
 use mathlib.Core.List.{[], _++_}
@@ -8,7 +8,7 @@ use lib.ListN.{length, getD, take, drop, length-take}
 use lib.Seq.{sets}
 use borrow.Author.Needs.{needs}
 use Rattle.board.specs.Writing.{bytes, each, polygonBytes}
-use Rattle.writing.specs.Boards.{countOf, sheetBits, polygonsOf, addUp}
+use Rattle.writing.specs.Boards.{countOf, polygonsOf, addUp}
 use Rattle.writing.proofs.Turns.{count-fits, polygon-turn, polygons-end}
 use Rattle.writing.proofs.put.put_polygons.Statement.{statement}
 use Rattle.writing.proofs.put.put_polygons.Tie as tie

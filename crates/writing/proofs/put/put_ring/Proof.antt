@@ -12,7 +12,7 @@ use lib.IntN.{ℤ, pos}
 use mir.Syntax.{w64}
 use mir.Val.{ofZ, SFits}
 use mir.Facts.{toZ-ofZ}
-use Rattle.writing.specs.Boards.{pointOf, ringOf}
+use Rattle.writing.specs.Boards.{pointOf}
 use Rattle.writing.proofs.Stores.{each-map, row-turn, row-start, row-end}
 use Rattle.writing.proofs.put.put_ring.Statement.{statement}
 use Rattle.writing.proofs.put.put_ring.Tie as tie

@@ -1,16 +1,13 @@
 -- `writing::put::put_splits` meets its contract. The loop's invariant: the ids still to be put make the row what it is to be. Assumes nothing.
-use Prim.Native.Nat.{ℕ, _≤_, _+_, _*_, _-_}
+use Prim.Native.Nat.{_≤_, _+_, _*_, _-_}
 use mathlib.Core.Path.{_≡_, refl, sym, ap, _∙_}
-use mathlib.Core.List.{List, []}
 use native.Mathlib.Omega.{arith}
-use lib.ListN.{length, drop, getD, length-append}
+use lib.ListN.{length, drop}
 use lib.Seq.{sets}
 use borrow.Author.Needs.{needs}
-use Rattle.board.specs.Writing.{bytes, each, entryBytes}
-use Rattle.board.proofs.Shapes.{sets-append}
+use Rattle.board.specs.Writing.{bytes, each}
 use Rattle.board.proofs.RoundTrip.{bytes-length}
-use Rattle.writing.specs.Boards.{entryOf, entriesOf}
-use Rattle.writing.proofs.Stores.{each-map, row-turn, row-start, row-end}
+use Rattle.writing.proofs.Stores.{row-turn, row-start, row-end}
 use Rattle.writing.proofs.put.put_splits.Statement.{statement}
 use Rattle.writing.proofs.put.put_splits.Tie as tie
 

@@ -1,6 +1,5 @@
 -- `writing::put::sheet_bits` meets its contract. Assumes nothing.
 use mathlib.Core.Path.{refl}
-use borrow.Author.Needs.{needs}
 use Rattle.writing.proofs.Stores.{no-nan}
 use Rattle.writing.proofs.put.sheet_bits.Statement.{statement}
 use Rattle.writing.proofs.put.sheet_bits.Tie as tie
