@@ -8,7 +8,7 @@ use calls::limits::{COORDINATE, RING_POINTS};
 use calls::strips::{strips, strips_by_the_words, TickPoint};
 use inputs::long_rings::{longest_rings, pad, random_long_ring};
 use inputs::ring_faults::{push_to_the_limit, put_out_of_range, slant, spoil};
-use inputs::rings::random_ring;
+use inputs::rings::{random_ring, rings_at_the_limits};
 use inputs::Random;
 
 const LONG_ONE_IN: u64 = 500;
@@ -32,19 +32,8 @@ pub fn compare(count: u64, seed: u64) -> bool {
 /// P7, no, one and two points, the limits, and the longest rings with a point more and with faults.
 fn boundary_rings(random: &mut Random) -> Vec<Vec<TickPoint>> {
     let far = COORDINATE;
-    let mut list: Vec<Vec<TickPoint>> = vec![
-        vec![[0, 0], [8, 0], [8, 4], [4, 4], [4, 8], [0, 8]],
-        vec![],
-        vec![[7, 7]],
-        vec![[far + 1, 0]],
-        vec![[0, 0], [0, 9]],
-        vec![[0, 0], [1, 1]],
-        vec![[0, 0], [4, 0], [4, 4]],
-        vec![[-far, -far], [far, -far], [far, far], [-far, far]],
-        vec![[-far, -far], [far, -far], [far, far + 1], [-far, far + 1]],
-        vec![[-far - 1, -far], [far, -far], [far, far], [-far - 1, far]],
-        vec![[i64::MIN, i64::MAX]; 4],
-    ];
+    let mut list = rings_at_the_limits();
+    list.push(vec![[-far - 1, -far], [far, -far], [far, far], [-far - 1, far]]);
     for ring in longest_rings(random) {
         let mut more = ring.clone();
         pad(&mut more, RING_POINTS + 1, random);

@@ -2,7 +2,25 @@
 //! rings that enclose nothing.
 
 use crate::random::Random;
+use calls::limits::COORDINATE;
 use calls::strips::TickPoint;
+
+/// P7, no, one and two points, a slanted and an open ring, and the limits.
+pub fn rings_at_the_limits() -> Vec<Vec<TickPoint>> {
+    let far = COORDINATE;
+    vec![
+        vec![[0, 0], [8, 0], [8, 4], [4, 4], [4, 8], [0, 8]],
+        vec![],
+        vec![[7, 7]],
+        vec![[far + 1, 0]],
+        vec![[0, 0], [0, 9]],
+        vec![[0, 0], [1, 1]],
+        vec![[0, 0], [4, 0], [4, 4]],
+        vec![[-far, -far], [far, -far], [far, far], [-far, far]],
+        vec![[-far, -far], [far, -far], [far, far + 1], [-far, far + 1]],
+        vec![[i64::MIN, i64::MAX]; 4],
+    ]
+}
 
 /// A rectilinear ring whose coordinates are multiples of `pitch`.
 pub fn random_ring(random: &mut Random, pitch: i64) -> Vec<TickPoint> {

@@ -10,7 +10,7 @@ use inputs::long_rings::pad;
 use inputs::plan_faults::{every_two_faults, put_fault};
 use inputs::plans::{random_plan, Plan, Polygon};
 use inputs::ring_faults::{push_to_the_limit, spoil};
-use inputs::rings::random_ring;
+use inputs::rings::{random_ring, rings_at_the_limits};
 use inputs::Random;
 
 const STRIPS: u64 = 1;
@@ -53,19 +53,7 @@ pub fn replay(count: u64, random: &mut Random) -> Replay {
 
 /// P7, rings of no, one and two points, the limits, the longest ring and one point more.
 fn boundary_rings(random: &mut Random) -> Vec<Vec<TickPoint>> {
-    let far = COORDINATE;
-    let mut list: Vec<Vec<TickPoint>> = vec![
-        vec![[0, 0], [8, 0], [8, 4], [4, 4], [4, 8], [0, 8]],
-        vec![],
-        vec![[7, 7]],
-        vec![[far + 1, 0]],
-        vec![[0, 0], [0, 9]],
-        vec![[0, 0], [1, 1]],
-        vec![[0, 0], [4, 0], [4, 4]],
-        vec![[-far, -far], [far, -far], [far, far], [-far, far]],
-        vec![[-far, -far], [far, -far], [far, far + 1], [-far, far + 1]],
-        vec![[i64::MIN, i64::MAX]; 4],
-    ];
+    let mut list = rings_at_the_limits();
     for points in [RING_POINTS, RING_POINTS + 1] {
         let mut ring = vec![[0, 0], [8, 0], [8, 8], [0, 8]];
         pad(&mut ring, points, random);
