@@ -16,3 +16,4 @@ pub mod Numbered
 pub mod Laws
 pub mod Room
 pub mod Sides
+pub mod Settled

@@ -3,5 +3,7 @@ pub mod Pairs
 pub mod Rowing
 pub mod Undoing
 pub mod Turns
+pub mod Descents
+pub mod Watching
 pub mod Passing
 pub mod Demand

@@ -1,8 +1,7 @@
--- The turns of the engine's loops: a row that holds certain cells, and what a split, a pair that is not due and the end of the room
--- do to it. Assumes nothing.
+-- The turns of the engine's loops: a row that holds certain cells, and what a split and the end of the room do to it. Assumes nothing.
 use Prim.Native.Nat.{ℕ, suc, _+_, _-_, _/_, _<_, _≤_}
 use mathlib.Core.Path.{_≡_, refl, sym, ap, subst, _∙_}
-use mathlib.Core.Bool.{true, false}
+use mathlib.Core.Bool.{true}
 use mathlib.Core.Option.{Option, none, some}
 use mathlib.Core.List.{List}
 use native.Mathlib.Omega.{arith}
@@ -12,22 +11,21 @@ use lib.IntN.{ℤ}
 use lib.ListN.{length}
 use Rattle.cell.specs.Cells.{noCell}
 use Rattle.table.specs.Slots.{cellAt}
-use Rattle.table.specs.Mesh.{Cell, at, table, split, meshCell, isNone, isLeaf}
+use Rattle.table.specs.Mesh.{Cell, at, table, split, isNone, isLeaf}
 use Rattle.table.specs.Formed.{WellFormed}
 use Rattle.table.specs.Leaves.{leafAt}
 use Rattle.table.specs.Refine.{splitRow}
 use Rattle.table.proofs.Cells.{length-table, at-table}
 use Rattle.table.proofs.Splits.{split-table, refine-keeps, length-splitRow}
-use Rattle.coarsest.specs.Passes.{Engine, dueCells, due}
+use Rattle.coarsest.specs.Passes.{Engine, due}
 use Rattle.coarsest.specs.Sweep.{row}
 use Rattle.coarsest.proofs.Pair.{leaf-is}
 use Rattle.coarsest.proofs.Least.{due-of}
 use Rattle.table.proofs.Meshes.{length-split}
 use Rattle.coarsest.proofs.Sweep.{dueOf}
-use Rattle.coarsest.proofs.Loops.{coarser, row-due, row-skip, row-most}
+use Rattle.coarsest.proofs.Loops.{coarser, row-due, row-most}
 use Rattle.even.specs.Undo.{undone}
 use Rattle.even.specs.Parts.{Grew}
-use Rattle.even.proofs.Pairs.{due-row}
 use Rattle.even.proofs.Undoing.{undone-split}
 
 -- the row u of r cells holds the cells `what`, and came from the row t of n cells by splits
@@ -126,9 +124,6 @@ module _ (e : Engine) (k M : ℕ) (T : List Cell) (t u : List ℤ) (n r a b : �
       (sym (ap (row e k T a) (add-one b) ∙ row-due e k T a b d))
       (on-split M (row e k T a b) t u n r o (coarser e a b) both (w .0) (w .1) room)
 
-  pub turn-skip : dueOf e k (row e k T a b) a b ≡ false → On M (row e k T a (b + 1)) t u n r
-  turn-skip d = on-as M (row e k T a b) (row e k T a (b + 1)) t u n r (sym (ap (row e k T a) (add-one b) ∙ row-skip e k T a b d)) o
-
   pub turn-full : (stop : ℕ) → a < stop → b < stop → stop ≤ length T → dueOf e k (row e k T a b) a b ≡ true → length t / 8 < r + 4
       → Grew M (row e k T a stop) t u n (length t / 8 + 1)
   turn-full stop la lb ls d full =
@@ -138,11 +133,6 @@ module _ (e : Engine) (k M : ℕ) (T : List Cell) (t u : List ℤ) (n r a b : �
       let m = row-most e k stop T a (suc b) (stop - suc b) la (omega arith) ls in
       let g = ap (λ (x : ℕ). length (row e k T a x)) q in
       on-full M (row e k T a b) (row e k T a stop) t u n r o (omega arith)
-
--- a pair of the row's own cells
-pub due-on : (k M : ℕ) (what : List Cell) (t u : List ℤ) (n r : ℕ) → On M what t u n r → (f c : ℕ) → f < r → c < r
-    → due k what f c ≡ dueCells k (meshCell (cellAt u f)) (meshCell (cellAt u c))
-due-on k M what t u n r o f c hf hc = ap (λ (x : List Cell). due k x f c) (sym (o .cells)) ∙ due-row k u r f c hf hc
 
 -- whether a slot's cell is a leaf, in the table that the row holds
 pub kids-of : (t : List ℤ) (n i : ℕ) → i < n → isLeaf (table t n) i ≡ eqb (cellAt t i .first) noCell

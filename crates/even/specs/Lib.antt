@@ -3,3 +3,4 @@ pub mod Rows
 pub mod Undo
 pub mod Parts
 pub mod Even
+pub mod Watch

@@ -9,15 +9,15 @@ use lib.ListN.{length}
 use borrow.Author.Tests.{not-true, not-false, eq-eqb, ne-eqb}
 use Rattle.cell.specs.Cells.{noCell}
 use Rattle.table.specs.Slots.{cellAt}
-use Rattle.table.specs.Mesh.{Cell, table, split, meshCell}
+use Rattle.table.specs.Mesh.{Cell, table, split}
 use Rattle.table.proofs.Cells.{length-table, at-table}
-use Rattle.coarsest.specs.Passes.{conforming, dueCells, splitIf}
+use Rattle.coarsest.specs.Passes.{conforming, due, splitIf}
 use Rattle.coarsest.specs.Sweep.{row, anyTo}
 use Rattle.coarsest.proofs.Loops.{no-leaf}
 use Rattle.coarsest.proofs.Rows.{row-none, row-finest, conform-row}
 use Rattle.table.proofs.Meshes.{length-split}
 use Rattle.even.specs.Parts.{Rowed}
-use Rattle.even.proofs.Pairs.{any-row}
+use Rattle.even.proofs.Pairs.{found-any}
 use Rattle.even.proofs.Turns.{on-start, on-grew, on-as, on-full, on-split, kids-of, none-of}
 use borrow.Author.Needs.{needs}
 use Rattle.even.proofs.conform_row.Statement.{statement}
@@ -29,18 +29,22 @@ still : (c : tie.Start) → row conforming (c .args .k) (table (c .args .t .now)
 still c e = on-grew _ _ _ _ _ _ (on-as _ _ _ _ _ _ _ (sym e) (on-start _ _ _ (c .pre .0)))
 
 -- the row of pairs by one test
-whole : (c : tie.Start) → row conforming (c .args .k) (table (c .args .t .now) (c .args .n)) (c .args .a) (c .args .stop) ≡ splitIf (anyTo (λ (b : ℕ). dueCells (c .args .k) (meshCell (cellAt (c .args .t .now) b)) (meshCell (cellAt (c .args .t .now) (c .args .a)))) (c .args .stop)) (table (c .args .t .now) (c .args .n)) (c .args .a)
-whole c =
-    conform-row (c .args .k) (table (c .args .t .now) (c .args .n)) (c .args .a) (rw (length-table (c .args .t .now) (c .args .n)) (omega (arith, c .pre .1))) (c .args .stop)
-    ∙ ap (λ (b : Bool). splitIf b (table (c .args .t .now) (c .args .n)) (c .args .a)) (any-row (c .args .k) (c .args .t .now) (c .args .n) (c .args .a) (c .args .stop) (c .pre .1 .0) (omega (arith, c .pre .1)))
+whole : (c : tie.Start) → row conforming (c .args .k) (table (c .args .t .now) (c .args .n)) (c .args .a) (c .args .stop) ≡ splitIf (anyTo (λ (b : ℕ). due (c .args .k) (table (c .args .t .now) (c .args .n)) b (c .args .a)) (c .args .stop)) (table (c .args .t .now) (c .args .n)) (c .args .a)
+whole c = conform-row (c .args .k) (table (c .args .t .now) (c .args .n)) (c .args .a) (rw (length-table (c .args .t .now) (c .args .n)) (omega (arith, c .pre .1 .0))) (c .args .stop)
+
+-- what the search found
+found : (c : tie.After-any-due) → c .any-due .result ≡ anyTo (λ (b : ℕ). due (c .before .before .before .before .before .before .before .before .args .k) (table (c .before .before .before .before .before .before .before .before .args .t .now) (c .before .before .before .before .before .before .before .before .args .n)) b (c .before .before .before .before .before .before .before .before .args .a)) (c .before .before .before .before .before .before .before .before .args .stop)
+found c =
+    let s = c .before .before .before .before .before .before .before .before in
+    found-any (λ (b : ℕ). due (s .args .k) (table (s .args .t .now) (s .args .n)) b (s .args .a)) (s .args .n) (s .args .stop) (c .any-due .result) (s .pre .1 .0 .0) (c .any-due .ensures)
 
 -- past the test a is split
 asked : (c : tie.Else3) → row conforming (c .before .before .before .before .before .before .before .before .before .args .k) (table (c .before .before .before .before .before .before .before .before .before .args .t .now) (c .before .before .before .before .before .before .before .before .before .args .n)) (c .before .before .before .before .before .before .before .before .before .args .a) (c .before .before .before .before .before .before .before .before .before .args .stop) ≡ split (table (c .before .before .before .before .before .before .before .before .before .args .t .now) (c .before .before .before .before .before .before .before .before .before .args .n)) (c .before .before .before .before .before .before .before .before .before .args .a)
 asked c =
-    whole (c .before .before .before .before .before .before .before .before .before) ∙ ap (λ (b : Bool). splitIf b (table (c .before .before .before .before .before .before .before .before .before .args .t .now) (c .before .before .before .before .before .before .before .before .before .args .n)) (c .before .before .before .before .before .before .before .before .before .args .a)) (sym (c .before .any-due .ensures) ∙ not-false (c .before .any-due .result) (c .if3 .left))
+    whole (c .before .before .before .before .before .before .before .before .before) ∙ ap (λ (b : Bool). splitIf b (table (c .before .before .before .before .before .before .before .before .before .args .t .now) (c .before .before .before .before .before .before .before .before .before .args .n)) (c .before .before .before .before .before .before .before .before .before .args .a)) (sym (found (c .before)) ∙ not-false (c .before .any-due .result) (c .if3 .left))
 
 first-at-requires : tie.Need-first-at-requires
-first-at-requires c κs = omega (arith, c .before .pre .0 .count, c .before .pre .1)
+first-at-requires c κs = omega (arith, c .before .pre .0 .count, c .before .pre .1 .0)
 
 same-length : tie.Need-same-length
 same-length c = search needs
@@ -48,12 +52,12 @@ same-length c = search needs
 returns : tie.Need-returns
 returns c =
     let s = c .before .before .before in
-    let e = kids-of (s .args .t .now) (s .args .n) (s .args .a) (omega (arith, s .pre .1)) in
+    let e = kids-of (s .args .t .now) (s .args .n) (s .args .a) (omega (arith, s .pre .1 .0)) in
     still s (row-none conforming (s .args .k) (table (s .args .t .now) (s .args .n)) (s .args .a) (s .args .stop)
     (λ b h. no-leaf conforming (s .args .k) (table (s .args .t .now) (s .args .n)) (s .args .a) b (e ∙ ne-eqb (cellAt (s .args .t .now) (s .args .a) .first) noCell (λ q. c .if1 .taken (c .before .first-at .ensures ∙ q)))))
 
 level-at-requires : tie.Need-level-at-requires
-level-at-requires c κs = omega (arith, c .before .before .before .before .pre .0 .count, c .before .before .before .before .pre .1)
+level-at-requires c κs = omega (arith, c .before .before .before .before .pre .0 .count, c .before .before .before .before .pre .1 .0)
 
 same-length-2 : tie.Need-same-length-2
 same-length-2 c = search needs
@@ -61,12 +65,12 @@ same-length-2 c = search needs
 returns-2 : tie.Need-returns-2
 returns-2 c =
     let s = c .before .before .before .before .before .before in
-    let l = ap (λ (x : Cell). x .level) (at-table (s .args .t .now) (s .args .n) (s .args .a) (omega (arith, s .pre .1))) in
+    let l = ap (λ (x : Cell). x .level) (at-table (s .args .t .now) (s .args .n) (s .args .a) (omega (arith, s .pre .1 .0))) in
     still s (row-finest (s .args .k) (s .args .m) (table (s .args .t .now) (s .args .n)) (s .args .a) (s .args .stop) (s .pre .0 .cells)
-    (rw (length-table (s .args .t .now) (s .args .n)) (s .pre .1 .0)) (omega (arith, l, c .if2 .taken, c .before .level-at .ensures)))
+    (rw (length-table (s .args .t .now) (s .args .n)) (s .pre .1 .0 .0)) (omega (arith, l, c .if2 .taken, c .before .level-at .ensures)))
 
 any-due-requires : tie.Need-any-due-requires
-any-due-requires c κs = omega (arith, c .before .before .before .before .before .before .before .pre .0 .count, c .before .before .before .before .before .before .before .pre .1)
+any-due-requires c κs = let s = c .before .before .before .before .before .before .before in (s .pre .0, (((omega (arith, s .pre .1 .0), s .pre .1 .1 .0 .0), s .pre .1 .1 .0 .1), s .pre .1 .1 .1))
 
 same-length-3 : tie.Need-same-length-3
 same-length-3 c = search needs
@@ -74,7 +78,7 @@ same-length-3 c = search needs
 returns-3 : tie.Need-returns-3
 returns-3 c =
     let s = c .before .before .before .before .before .before .before .before .before in
-    still s (whole s ∙ ap (λ (b : Bool). splitIf b (table (s .args .t .now) (s .args .n)) (s .args .a)) (sym (c .before .any-due .ensures) ∙ not-true (c .before .any-due .result) (c .if3 .taken)))
+    still s (whole s ∙ ap (λ (b : Bool). splitIf b (table (s .args .t .now) (s .args .n)) (s .args .a)) (sym (found (c .before)) ∙ not-true (c .before .any-due .result) (c .if3 .taken)))
 
 sub-if4 : tie.Need-sub-if4
 sub-if4 c = c .before .before .before .before .before .before .before .before .before .pre .0 .count
@@ -94,7 +98,7 @@ returns-4 c =
 split-cell-requires : tie.Need-split-cell-requires
 split-cell-requires c κs =
     let s = c .before .before .before .before .before .before .before .before .before .before .before in (
-      omega (arith, s .pre .1),
+      omega (arith, s .pre .1 .0),
       omega (arith, c .before .if4 .left, s .pre .0 .count),
       omega (arith, s .pre .0 .range, c .before .before .before .before .before .if2 .left, c .before .before .before .before .before .before .level-at .ensures),
     )
@@ -109,7 +113,7 @@ returns-5 : tie.Need-returns-5
 returns-5 c =
     let s = c .before .before .before .before .before .before .before .before .before .before .before .before .before in
     let T = table (s .args .t .now) (s .args .n) in
-    let h : s .args .a < s .args .n = omega (arith, s .pre .1) in
+    let h : s .args .a < s .args .n = omega (arith, s .pre .1 .0) in
     let k = kids-of (s .args .t .now) (s .args .n) (s .args .a) h in
     let l = ap (λ (x : Cell). x .level) (at-table (s .args .t .now) (s .args .n) (s .args .a) h) in
     let room : s .args .n + 4 ≤ length (s .args .t .now) / 8 = omega (arith, c .before .before .before .if4 .left, s .pre .0 .count) in

@@ -1,65 +1,62 @@
 -- `even::even_out` meets its contract. Assumes nothing.
-use mathlib.Core.Path.{_≡_, refl, sym, ap, _∙_}
+use mathlib.Core.Path.{_≡_, refl, _∙_}
 use native.Mathlib.Omega.{arith}
 use Rattle.table.specs.Mesh.{table}
-use Rattle.coarsest.specs.Passes.{evened, splitsLeft}
 use Rattle.even.specs.Parts.{engineOf}
-use Rattle.even.proofs.Turns.{On, on-start, on-as, on-grew}
-use Rattle.even.proofs.Passing.{evened-over, evened-turn, evened-same, evened-less, evened-done}
+use Rattle.even.proofs.Watching.{watched-all}
+use borrow.Author.Needs.{needs}
 use Rattle.even.proofs.even_out.Statement.{statement}
 use Rattle.even.proofs.even_out.Tie as tie
+use Rattle.even.proofs.even_out.Reads as reads
+use Rattle.even.proofs.even_out.Lts as lts
+use Rattle.descent.proofs.index.index.Reads as index-reads
+use Rattle.descent.proofs.roots_end.Reads as roots-end-reads
+use Rattle.even.proofs.passes.Reads as passes-reads
 
-abbrev Inv-loop : tie.InvT-loop
-Inv-loop t₀ conforms m k n slots count₀ t count = On m (table t count) t₀ t n count × (evened (engineOf conforms) k m (table t count) ≡ evened (engineOf conforms) k m (table t₀ n))
+roots-end-requires : tie.Need-roots-end-requires
+roots-end-requires c κs = search needs
 
-abbrev μ-loop : tie.MeasureT-loop
-μ-loop t₀ conforms m k n slots count₀ t count = splitsLeft m (table t count)
+slice-aggregate-index : tie.Need-slice-aggregate-index
+slice-aggregate-index c = search needs
 
-loop-holds : tie.Need-loop-holds Inv-loop μ-loop
-loop-holds c = (on-start _ _ _ (c .pre), refl)
+index-requires : tie.Need-index-requires
+index-requires c κs = search needs
 
-even-pass-requires : tie.Need-even-pass-requires Inv-loop μ-loop
-even-pass-requires c κs = c .before .loop .inv .0 .formed
+slice-aggregate-passes : tie.Need-slice-aggregate-passes
+slice-aggregate-passes c = search needs
 
-same-length : tie.Need-same-length Inv-loop μ-loop
-same-length c = c .before .before .even-pass .kept .0 ∙ c .before .before .before .before .loop .inv .0 .size
+slice-aggregate-passes-2 : tie.Need-slice-aggregate-passes-2
+slice-aggregate-passes-2 c = search needs
 
-returns : tie.Need-returns Inv-loop μ-loop
-returns c = evened-over (engineOf (c .before .before .before .before .before .args .conforms)) (c .before .before .before .before .before .args .k) (c .before .before .before .before .before .args .m) (c .before .before .before .before .before .args .t .now) (c .before .before .before .before .loop .t) (c .before .before .before .before .before .args .n) (c .before .before .before .before .loop .count) (table (c .before .before .before .before .loop .t) (c .before .before .before .before .loop .count)) (c .before .before .before .before .loop .inv .0) (c .before .before .before .before .loop .inv .1) _ _ (c .before .before .even-pass .ensures) (c .if1 .taken)
-
-same-length-2 : tie.Need-same-length-2 Inv-loop μ-loop
-same-length-2 c = c .before .before .before .even-pass .kept .0 ∙ c .before .before .before .before .before .loop .inv .0 .size
-
-returns-2 : tie.Need-returns-2 Inv-loop μ-loop
-returns-2 c =
-    on-grew _ _ _ _ _ _
-    (on-as _ _ _ _ _ _ _ (evened-done (engineOf (c .before .before .before .before .before .before .args .conforms)) (c .before .before .before .before .before .before .args .k) (c .before .before .before .before .before .before .args .m) (c .before .before .before .before .before .before .args .t .now) (c .before .before .before .before .before .loop .t) (c .before .before .before .before .before .before .args .n) (c .before .before .before .before .before .loop .count) (table (c .before .before .before .before .before .loop .t) (c .before .before .before .before .before .loop .count)) (c .before .before .before .before .before .loop .inv .0) (c .before .before .before .before .before .loop .inv .1) _ _ (c .before .before .before .even-pass .ensures) (c .before .if1 .left) (c .if2 .taken))
-    (evened-turn (engineOf (c .before .before .before .before .before .before .args .conforms)) (c .before .before .before .before .before .before .args .k) (c .before .before .before .before .before .before .args .m) (c .before .before .before .before .before .before .args .t .now) (c .before .before .before .before .before .loop .t) (c .before .before .before .before .before .before .args .n) (c .before .before .before .before .before .loop .count) (table (c .before .before .before .before .before .loop .t) (c .before .before .before .before .before .loop .count)) (c .before .before .before .before .before .loop .inv .0) (c .before .before .before .before .before .loop .inv .1) _ _ (c .before .before .before .even-pass .ensures) (c .before .if1 .left)))
-
-loop-less : tie.Need-loop-less Inv-loop μ-loop
-loop-less c =
-    let o = evened-turn (engineOf (c .before .before .before .before .before .before .args .conforms)) (c .before .before .before .before .before .before .args .k) (c .before .before .before .before .before .before .args .m) (c .before .before .before .before .before .before .args .t .now) (c .before .before .before .before .before .loop .t) (c .before .before .before .before .before .before .args .n) (c .before .before .before .before .before .loop .count) (table (c .before .before .before .before .before .loop .t) (c .before .before .before .before .before .loop .count)) (c .before .before .before .before .before .loop .inv .0) (c .before .before .before .before .before .loop .inv .1) _ _ (c .before .before .before .even-pass .ensures) (c .before .if1 .left) in
-    omega (arith, ap (splitsLeft (c .before .before .before .before .before .before .args .m)) (o .cells), evened-less (engineOf (c .before .before .before .before .before .before .args .conforms)) (c .before .before .before .before .before .before .args .k) (c .before .before .before .before .before .before .args .m) (c .before .before .before .before .before .before .args .t .now) (c .before .before .before .before .before .loop .t) (c .before .before .before .before .before .before .args .n) (c .before .before .before .before .before .loop .count) (table (c .before .before .before .before .before .loop .t) (c .before .before .before .before .before .loop .count)) (c .before .before .before .before .before .loop .inv .0) (c .before .before .before .before .before .loop .inv .1) _ _ (c .before .before .before .even-pass .ensures) (c .before .if1 .left) (c .if2 .left))
-
-loop-again : tie.Need-loop-again Inv-loop μ-loop
-loop-again c =
-    let s = c .before .before .before .before .before .before .args in
-    let o = evened-turn (engineOf (c .before .before .before .before .before .before .args .conforms)) (c .before .before .before .before .before .before .args .k) (c .before .before .before .before .before .before .args .m) (c .before .before .before .before .before .before .args .t .now) (c .before .before .before .before .before .loop .t) (c .before .before .before .before .before .before .args .n) (c .before .before .before .before .before .loop .count) (table (c .before .before .before .before .before .loop .t) (c .before .before .before .before .before .loop .count)) (c .before .before .before .before .before .loop .inv .0) (c .before .before .before .before .before .loop .inv .1) _ _ (c .before .before .before .even-pass .ensures) (c .before .if1 .left) in (
-      on-as _ _ _ _ _ _ _ (sym (o .cells)) o,
-      ap (evened (engineOf (s .conforms)) (s .k) (s .m)) (o .cells) ∙ evened-same (engineOf (c .before .before .before .before .before .before .args .conforms)) (c .before .before .before .before .before .before .args .k) (c .before .before .before .before .before .before .args .m) (c .before .before .before .before .before .before .args .t .now) (c .before .before .before .before .before .loop .t) (c .before .before .before .before .before .before .args .n) (c .before .before .before .before .before .loop .count) (table (c .before .before .before .before .before .loop .t) (c .before .before .before .before .before .loop .count)) (c .before .before .before .before .before .loop .inv .0) (c .before .before .before .before .before .loop .inv .1) _ _ (c .before .before .before .even-pass .ensures),
+passes-requires : tie.Need-passes-requires
+passes-requires c κs =
+    let s = c .before .before .before .before .before .before .before .before .before in
+    let g = c .before .before .before .before .before .before .before .roots-end .ensures in (
+      s .pre .0,
+      (
+        ((g .0, c .before .before .before .before .index .kept .1 .1 .1 .1 .0 ∙ refl), c .before .before .before .before .index .ensures),
+        (
+          (refl, s .pre .1),
+          watched-all (engineOf (s .args .conforms)) (s .args .k) (table (s .args .t .now) (s .args .n)) (s .args .n) 2048 (omega (arith, s .pre .0 .count, s .pre .0 .slots)),
+        ),
+      ),
     )
+
+same-length : tie.Need-same-length
+same-length c = search needs
+
+returns : tie.Need-returns
+returns c = search needs
 
 pub even-out-spec : {M : Type 1} → statement M
 even-out-spec =
     tie.close
     (tie.spec
-    Inv-loop
-    μ-loop
-    loop-holds
-    even-pass-requires
+    roots-end-requires
+    slice-aggregate-index
+    index-requires
+    slice-aggregate-passes
+    slice-aggregate-passes-2
+    passes-requires
     same-length
-    returns
-    same-length-2
-    returns-2
-    loop-less
-    loop-again)
+    returns)

@@ -60,7 +60,7 @@ unfolding evenRow
 returns c = (sym (says-7 c), (rw (says-7 c), demand-bad _ _ _ _ _))
 
 even-out-requires : tie.Need-even-out-requires
-even-out-requires c κs = facts (c .before)
+even-out-requires c κs = (facts (c .before), c .before .before .before .before .pre)
 
 undo-requires : tie.Need-undo-requires
 undo-requires c κs = omega (arith, facts (c .before .before .before .before .before) .count, c .before .before .before .even-out .kept .0)
