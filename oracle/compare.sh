@@ -1,7 +1,7 @@
 #!/bin/sh
 # Holds the port and the original side by side.
 #
-#   compare.sh [CALLS [COUNT [SEED]]]    CALLS: contact, table, even, strips, build, record, power,
+#   compare.sh [CALLS [COUNT [SEED]]]    CALLS: contact, table, even, large, strips, build, record, power,
 #                                        network, checks, leafnet, or all
 #   compare.sh bench [CALLS]             times of both
 #   compare.sh heap [CALLS]              the heap that each takes for the benchmarks' calls

@@ -1,22 +1,24 @@
 //! Times of port and original, taken in the same run on the same inputs. Only the calls are timed, for
-//! the port its judging of what it is lent included; the best of several rounds counts.
+//! the port its judging of what it is lent included; the best of several rounds counts, by the
+//! processor's time.
 
-mod boards;
+pub mod boards;
 pub mod build;
 pub mod checks;
+#[cfg(not(feature = "heap"))]
+mod clock;
 pub mod even;
+pub mod hostile;
 pub mod network;
 pub mod power;
+pub mod table;
 
 #[cfg(feature = "heap")]
 mod heap;
 
 use std::time::Duration;
-#[cfg(not(feature = "heap"))]
-use std::time::Instant;
 
-/// Rounds are repeated until so much time has gone by.
-#[cfg(not(feature = "heap"))]
+/// Rounds are repeated until so much time has gone by, unless a benchmark says otherwise.
 const ENOUGH: Duration = Duration::from_millis(1_500);
 
 /// What a call costs: its time or, in the run that counts it, its heap.
@@ -32,9 +34,9 @@ type Best<T> = (Cost, T);
 
 #[cfg(not(feature = "heap"))]
 fn timed(work: impl FnOnce()) -> Cost {
-    let start = Instant::now();
+    let start = clock::now();
     work();
-    Cost { time: start.elapsed() }
+    Cost { time: clock::now() - start }
 }
 
 #[cfg(feature = "heap")]
@@ -42,11 +44,15 @@ fn timed(work: impl FnOnce()) -> Cost {
     Cost { time: Duration::ZERO, heap: heap::most_bytes(work) }
 }
 
+fn best<T>(round: impl FnMut() -> (Cost, T)) -> Best<T> {
+    best_within(ENOUGH, round)
+}
+
 #[cfg(not(feature = "heap"))]
-fn best<T>(mut round: impl FnMut() -> (Cost, T)) -> Best<T> {
-    let start = Instant::now();
+fn best_within<T>(enough: Duration, mut round: impl FnMut() -> (Cost, T)) -> Best<T> {
+    let start = clock::now();
     let (mut least, mut left) = round();
-    while start.elapsed() < ENOUGH {
+    while clock::now() - start < enough {
         let (cost, again) = round();
         least.time = least.time.min(cost.time);
         left = again;
@@ -55,7 +61,7 @@ fn best<T>(mut round: impl FnMut() -> (Cost, T)) -> Best<T> {
 }
 
 #[cfg(feature = "heap")]
-fn best<T>(mut round: impl FnMut() -> (Cost, T)) -> Best<T> {
+fn best_within<T>(_: Duration, mut round: impl FnMut() -> (Cost, T)) -> Best<T> {
     round()
 }
 

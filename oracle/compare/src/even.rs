@@ -36,12 +36,7 @@ pub fn compare(count: u64, seed: u64) -> bool {
     }
     for _ in 0..count {
         let table = any_table(&mut random);
-        for allowed in [Allowed::One, Allowed::None] {
-            let mut lent = table.clone();
-            lent.set_slots(any_room(&table, allowed, &mut random));
-            if random.one_in(DAMAGED_ONE_IN) {
-                damage(&mut lent, &mut random);
-            }
+        for (lent, allowed) in lent_for_both(&table, &mut random) {
             reports.run(&lent, allowed);
         }
         if random.one_in(HISTORY_ONE_IN) {
@@ -72,6 +67,24 @@ fn boundary_tables() -> Vec<(Table, Allowed)> {
     list.extend([Allowed::One, Allowed::None].map(|allowed| (Table::new(3), allowed)));
     list.extend([0, 1, 4].map(|more| (full(more), Allowed::One)));
     list
+}
+
+/// One table with room of its own for each call, now and then damaged.
+fn lent_for_both(table: &Table, random: &mut Random) -> [(Table, Allowed); 2] {
+    [Allowed::One, Allowed::None].map(|allowed| {
+        let mut lent = table.clone();
+        lent.set_slots(any_room(table, allowed, random));
+        if random.one_in(DAMAGED_ONE_IN) {
+            damage(&mut lent, random);
+        }
+        (lent, allowed)
+    })
+}
+
+/// A random table as this group draws them.
+pub fn any_lent(random: &mut Random) -> [(Table, Allowed); 2] {
+    let table = any_table(random);
+    lent_for_both(&table, random)
 }
 
 fn any_table(random: &mut Random) -> Table {

@@ -8,6 +8,9 @@ mod build;
 mod checks;
 mod contact;
 mod even;
+mod hostile;
+mod indexed;
+mod large;
 mod leafnet;
 mod network;
 mod port;
@@ -34,8 +37,14 @@ struct Group {
 
 const GROUPS: &[Group] = &[
     Group { name: "contact", count: 1_000_000, compare: contact::compare, bench: None },
-    Group { name: "table", count: 120_000, compare: table::compare, bench: None },
+    Group {
+        name: "table",
+        count: 120_000,
+        compare: table::compare,
+        bench: Some(bench::table::run),
+    },
     Group { name: "even", count: 60_000, compare: even::compare, bench: Some(bench::even::run) },
+    Group { name: "large", count: 300, compare: large::compare, bench: Some(bench::hostile::run) },
     Group { name: "strips", count: 200_000, compare: strips::compare, bench: None },
     Group {
         name: "build",

@@ -19,9 +19,11 @@ pub fn comb_of(heights: &[i64]) -> Vec<TickPoint> {
 
 /// Teeth of a comb that has all points a ring may have.
 pub const LONGEST_COMB: usize = (RING_POINTS - 4) / 4;
+/// Steps of a stair that has all points a ring may have.
+pub const LONGEST_STAIR: i64 = RING_POINTS as i64 / 2 - 1;
 
 /// A stair of so many steps with a straight back: two points a step and two more.
-fn stair_of(steps: i64) -> Vec<TickPoint> {
+pub fn stair_of(steps: i64) -> Vec<TickPoint> {
     let mut ring: Vec<TickPoint> = (0..steps).flat_map(|k| [[k, k], [k + 1, k]]).collect();
     ring.extend([[steps, steps], [0, steps]]);
     ring
@@ -72,7 +74,7 @@ pub fn longest_rings(random: &mut Random) -> Vec<Vec<TickPoint>> {
     vec![
         comb_of(&[3; LONGEST_COMB]),
         comb_of(&rising),
-        stair_of(most / 2 - 1),
+        stair_of(LONGEST_STAIR),
         spiral_of(most / 2 - 1),
         fold(most),
         pole(most),

@@ -1,15 +1,15 @@
-//! Strips and build: a comb ring of all 1,024 points, and a board of 256 rectangles.
+//! Strips and build: rings of all 1,024 points (combs, a stair, a disc), and a board of 256 rectangles.
 
 use super::{best, compare, timed};
 use crate::port;
 use calls::build::{roots_of, Outlines, Settings};
 use calls::contact::Rect;
-use calls::limits::POLYGONS;
+use calls::limits::{POLYGONS, RING_POINTS};
 use calls::sheets::Sheets;
 use calls::strips::{strips_by_the_words, to_points, TickPoint};
 use calls::table::{store_grid, WIDTH};
 use calls::ticks::{metres, ticks};
-use inputs::long_rings::{comb_of, LONGEST_COMB};
+use inputs::long_rings::{comb_of, stair_of, LONGEST_COMB, LONGEST_STAIR};
 use inputs::plans::{Plan, Polygon};
 use original::adaptive::AdaptiveGrid;
 use original::geometry::Point;
@@ -20,6 +20,10 @@ const MAX_LEVEL: u64 = 3;
 const UNIT: i64 = 16;
 /// Different heights of a comb's teeth, each of which makes a band.
 const HEIGHTS: usize = 64;
+/// What divides into one to eight equal cells.
+const EIGHT_WAYS: i64 = 840;
+/// Half of a disc's width, in the former.
+const RADIUS: i64 = 10_000;
 
 /// True if both answered the same.
 pub fn run() -> bool {
@@ -29,6 +33,8 @@ pub fn run() -> bool {
     let boards = [
         ("comb of 1,024 points, even teeth", 7, vec![even_teeth]),
         ("comb of 1,024 points, 64 heights", 7, vec![comb_of(&heights)]),
+        ("stair of 1,024 points", (LONGEST_STAIR + 1) / 8 * EIGHT_WAYS, vec![stair()]),
+        ("disc of 1,024 points", RADIUS / 4 * EIGHT_WAYS, vec![disc()]),
         ("256 rectangles", 1, rectangles()),
     ];
     let mut same = true;
@@ -38,6 +44,29 @@ pub fn run() -> bool {
         same &= build(name, cell * UNIT, &rings);
     }
     same
+}
+
+/// Steps so long that each strip divides into cells of one width, eight at most.
+fn stair() -> Vec<TickPoint> {
+    stair_of(LONGEST_STAIR).into_iter().map(|[x, y]| [x * EIGHT_WAYS, y * EIGHT_WAYS]).collect()
+}
+
+/// A disc in bands of one height and widths of their own: up its east side, down its west side. Its
+/// middle lies off the middle of a band.
+fn disc() -> Vec<TickPoint> {
+    let bands = (RING_POINTS / 4) as i64;
+    let band = 2 * RADIUS / (bands + 1);
+    let half_width = |n: i64| {
+        let from_middle = ((n - bands / 2) * band + band / 3) as f64;
+        ((RADIUS * RADIUS) as f64 - from_middle * from_middle).sqrt() as i64
+    };
+    let side = |n: i64, sign: i64| {
+        let x = sign * half_width(n) * EIGHT_WAYS;
+        [[x, n * band], [x, (n + 1) * band]]
+    };
+    let east = (0..bands).flat_map(|n| side(n, 1));
+    let west = (0..bands).flat_map(|n| side(n, -1));
+    east.chain(west.collect::<Vec<TickPoint>>().into_iter().rev()).collect()
 }
 
 /// Four by four cells each, side by side with gaps.
