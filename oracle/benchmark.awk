@@ -1,5 +1,6 @@
-# docs/BENCHMARK.md: what `compare.sh bench` and `compare.sh heap` print as a table, put into benchmark_text.md in the place of
-# the line TABLE, and how the network's times grow in the place of the line GROWTH.
+# docs/BENCHMARK.md: what `compare.sh bench` and `compare.sh heap` print as a table, put into benchmark_text.md in the
+# place of the line TABLE, how the network's times grow in the place of the line GROWTH, and what `stack.sh` prints as a
+# table in the place of the line STACK.
 
 function kib(bytes) { return sprintf("%.0f KiB", bytes / 1024) }
 
@@ -12,6 +13,16 @@ function table(    n, name) {
     }
 }
 
+function by_thousands(n) { return n + 0 < 1000 ? n : by_thousands(int(n / 1000)) sprintf(",%03d", n % 1000) }
+
+function stack_table(    n) {
+    print "| Call | Stack, in bytes |"
+    print "|---|---|"
+    for (n = 1; n <= stacks; n++) {
+        print "| " stack_names[n] " | " by_thousands(stack[n]) " |"
+    }
+}
+
 # The number behind a word of the line.
 function behind(word,    rest) {
     rest = $0
@@ -21,6 +32,12 @@ function behind(word,    rest) {
 }
 
 FNR == NR && /, growth from / { growth = $0; next }
+FNR == NR && /: stack [0-9]+ of / {
+    stack[++stacks] = behind(": stack")
+    sub(/: stack .*/, "")
+    stack_names[stacks] = $0
+    next
+}
 FNR == NR {
     name = $0
     sub(/: (port|heap) .*/, "", name)
@@ -36,4 +53,5 @@ FNR == NR {
 }
 /^TABLE$/ { table(); next }
 /^GROWTH$/ { print "- " growth "."; next }
+/^STACK$/ { stack_table(); next }
 { print }

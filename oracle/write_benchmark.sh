@@ -1,6 +1,6 @@
 #!/bin/sh
 # Runs all benchmarks and writes docs/BENCHMARK.md from what they print: times of port and original in
-# one run, then in another run the heap that each takes.
+# one run, then in other runs the heap that each takes and the stack that the port takes.
 #
 #   write_benchmark.sh
 #
@@ -12,8 +12,11 @@ said=$(mktemp)
 trap 'rm -f "$said"' EXIT
 ./compare.sh bench >"$said"
 # The port has just been made.
-LEAFMESH_LIBRARY=${LEAFMESH_LIBRARY:-$(cd .. && pwd)/target/staticlib} LEAFMESH_PROGRAM=unused \
-    ./compare.sh heap >>"$said"
+LEAFMESH_LIBRARY=${LEAFMESH_LIBRARY:-$(cd .. && pwd)/target/staticlib}
+LEAFMESH_PROGRAM=${LEAFMESH_PROGRAM:-$(cd .. && pwd)/target/bin/leafnet}
+export LEAFMESH_LIBRARY LEAFMESH_PROGRAM
+./compare.sh heap >>"$said"
+./stack.sh >>"$said"
 
 awk -f benchmark.awk "$said" benchmark_text.md >../docs/BENCHMARK.md
 cat ../docs/BENCHMARK.md
