@@ -1,5 +1,5 @@
-# docs/BENCHMARK.md: what `compare.sh bench`, `compare.sh heap` and `p4est.sh` print, as tables in the place of the lines of
-# benchmark_text.md that are one word in capitals.
+# docs/BENCHMARK.md: what `compare.sh bench`, `compare.sh heap`, `stack.sh` and `p4est.sh` print, as tables in the place of the
+# lines of benchmark_text.md that are one word in capitals.
 
 function kib(bytes) { return sprintf("%.0f KiB", bytes / 1024) }
 
@@ -9,6 +9,16 @@ function calls_table(    n, name) {
     for (n = 1; n <= calls; n++) {
         name = names[n]
         print "| " name " | " port[name] " | " original[name] " | " ratio[name] " | " kib(heap[name]) " |"
+    }
+}
+
+function by_thousands(n) { return n + 0 < 1000 ? n : by_thousands(int(n / 1000)) sprintf(",%03d", n % 1000) }
+
+function stack_table(    n) {
+    print "| Call | Stack, in bytes |"
+    print "|---|---|"
+    for (n = 1; n <= stacks; n++) {
+        print "| " stack_names[n] " | " by_thousands(stack[n]) " |"
     }
 }
 
@@ -76,6 +86,12 @@ function between(from, to,    rest) {
 function counts(words) { sub(/ to /, " | ", words); return words }
 
 FNR == NR && /, growth from / { growth = $0; next }
+FNR == NR && /: stack [0-9]+ of / {
+    stack[++stacks] = between(": stack ", " of ")
+    sub(/: stack .*/, "")
+    stack_names[stacks] = $0
+    next
+}
 
 FNR == NR && /^(balance|conform), .*, (exponents|[0-9]+ slots, [0-9]+ to [0-9]+ cells): port / {
     name = $0
@@ -144,4 +160,5 @@ FNR == NR { print "not understood: " $0 >"/dev/stderr"; exit 1 }
 /^TEST$/ { test_table(); next }
 /^P4EST$/ { p4est_table(); next }
 /^GROWTH$/ { print "- " growth "."; next }
+/^STACK$/ { stack_table(); next }
 { print }

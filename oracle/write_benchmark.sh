@@ -1,6 +1,7 @@
 #!/bin/sh
 # Runs all benchmarks and writes docs/BENCHMARK.md from what they print: times of port and original in
-# one run, then in another run the heap that each takes, then balance beside p4est where that is installed.
+# one run, then in other runs the heap that each takes, the stack that the port takes, and balance beside p4est where that
+# is installed.
 #
 #   write_benchmark.sh
 #
@@ -12,8 +13,11 @@ said=$(mktemp)
 trap 'rm -f "$said"' EXIT
 ./compare.sh bench >"$said"
 # The port has just been made.
-export LEAFMESH_LIBRARY="${LEAFMESH_LIBRARY:-$(cd .. && pwd)/target/staticlib}" LEAFMESH_PROGRAM=unused
+LEAFMESH_LIBRARY=${LEAFMESH_LIBRARY:-$(cd .. && pwd)/target/staticlib}
+LEAFMESH_PROGRAM=${LEAFMESH_PROGRAM:-$(cd .. && pwd)/target/bin/leafnet}
+export LEAFMESH_LIBRARY LEAFMESH_PROGRAM
 ./compare.sh heap >>"$said"
+./stack.sh >>"$said"
 ./p4est.sh >>"$said"
 
 awk -f benchmark.awk "$said" benchmark_text.md >../docs/BENCHMARK.md
