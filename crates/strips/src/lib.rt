@@ -63,14 +63,19 @@ fn cut_few(points: &[[i64; 2]], out: &mut [[i64; 4]]) -> Stripped
     cut(points, &mut heights, &mut edges, out)
 }
 
-fn cut_many(points: &[[i64; 2]], out: &mut [[i64; 4]]) -> Stripped
+// Long ones, one in each of two turns: the first turn is lent a row that is too short, and lends its own to the second.
+// LLVM never inlines a function that calls itself into another. So the long rows stand in frames of their own, and a ring
+// of few points, which doesn't come here, takes no stack for them.
+fn cut_many(points: &[[i64; 2]], lent: &mut [u64], out: &mut [[i64; 4]]) -> Stripped
     requires { ⌜ length (now points) ≤ maxPoints ⌝ }
     ensures { λ r. ⌜ strippedSaid r ≡ counted (length (stripsOf (now (points .entry)))) (length (now (out .entry))) ⌝ }
     ensures { λ r. ⌜ now (out .exit) ≡ ifAccepted (strippedSaid r) (laid (stripsOf (now (points .entry))) (now (out .entry))) (now (out .entry)) ⌝ }
 {
-    let mut heights = [0u64; RING_POINTS];
-    let mut edges = [0u64; RING_POINTS];
-    cut(points, &mut heights, &mut edges, out)
+    let mut row = [0u64; RING_POINTS];
+    if lent.len() < points.len() {
+        return cut_many(points, &mut row, out);
+    }
+    cut(points, lent, &mut row, out)
 }
 
 // The strips of a ring, by band from the bottom, then left to right: x0, y0, x1, y1 in each row.
@@ -87,5 +92,6 @@ pub fn strips(points: &[[i64; 2]], out: &mut [[i64; 4]]) -> Stripped
     if points.len() <= FEW {
         return cut_few(points, out);
     }
-    cut_many(points, out)
+    let mut none = [0u64; 0];
+    cut_many(points, &mut none, out)
 }

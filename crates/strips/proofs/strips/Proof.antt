@@ -50,18 +50,21 @@ returns-3 c = let a = c .before .before .before .before .before .before .before 
     let s = straight (c .before .before .before .before) in
     (rw (i, s) (k .0), rw (i, s) (k .1 ∙ ap (λ (x : Said). ifAccepted x (laid (stripsOf (a .points .now)) (a .out .now)) (a .out .now)) (k .0)))
 
+slice-aggregate-cut-many : tie.Need-slice-aggregate-cut-many
+slice-aggregate-cut-many c = search needs
+
 cut-many-requires : tie.Need-cut-many-requires
-cut-many-requires c κs = few-points _ (in-range (c .before .before))
+cut-many-requires c κs = few-points _ (in-range (c .before .before .before))
 
 same-length-2 : tie.Need-same-length-2
 same-length-2 c = search needs
 
 returns-4 : tie.Need-returns-4
 unfolding stripsSays stripsLeave
-returns-4 c = let a = c .before .before .before .before .before .before .before .before .args in
-    let k = c .before .cut-many .ensures in
-    let i = in-range (c .before .before .before .before) in
-    let s = straight (c .before .before .before .before) in
+returns-4 c = let a = c .before .before .before .before .before .before .before .before .before .before .args in
+    let k = c .before .before .cut-many .ensures in
+    let i = in-range (c .before .before .before .before .before .before) in
+    let s = straight (c .before .before .before .before .before .before) in
     (rw (i, s) (k .0), rw (i, s) (k .1 ∙ ap (λ (x : Said). ifAccepted x (laid (stripsOf (a .points .now)) (a .out .now)) (a .out .now)) (k .0)))
 
 pub strips-spec : {M : Type 1} → statement M
@@ -75,6 +78,7 @@ strips-spec =
     cut-few-requires
     same-length
     returns-3
+    slice-aggregate-cut-many
     cut-many-requires
     same-length-2
     returns-4)
