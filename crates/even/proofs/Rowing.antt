@@ -1,45 +1,23 @@
 -- A well-formed row is the row of its cells: each number of a cell in its slot is exact, and behind the cells are zeros. Assumes nothing.
-use Prim.Native.Nat.{ℕ, zero, suc, _+_, _*_, _-_, min, _<_, _≤_}
+use Prim.Native.Nat.{ℕ, zero, suc, _+_, _*_, _-_, _<_, _≤_}
 use mathlib.Core.Path.{_≡_, refl, sym, ap, _∙_}
-use mathlib.Core.Bool.{Bool, true, false, _&&_}
+use mathlib.Core.Bool.{Bool, true, false}
 use mathlib.Core.List.{List, [], _∷_, _++_, append-nil, append-assoc}
 use native.Mathlib.Omega.{arith}
 use native.Mathlib.Nat.{add-zero}
-use lib.Dec.{eqb, leb}
-use lib.IntN.{ℤ, pos, negsuc, subℕ}
-use lib.Signed.{nonNeg}
+use lib.Dec.{eqb}
+use lib.IntN.{ℤ, pos}
 use lib.ListN.{length, getD, take, drop, replicate, length-drop, length-replicate, getD-replicate, take-append-drop}
 use lib.Seq.{ext-getD, drop-cons, length-take-le, getD-drop, take-add}
-use borrow.Author.Tests.{le-ltb, lt-ltb, leb-true, eqb-true}
-use Rattle.refusals.specs.Limits.{coordinate}
+use borrow.Author.Tests.{eqb-true}
 use Rattle.cell.specs.Cells.{noCell}
-use Rattle.cell.specs.Ticks.{off, on, inRange}
-use Rattle.table.specs.Slots.{counted, number, start, cellAt, inSlot}
+use Rattle.table.specs.Slots.{cellAt}
 use Rattle.table.specs.Mesh.{Cell, opt, optIf, meshCell, table}
 use Rattle.table.specs.Formed.{WellFormed}
-use Rattle.table.proofs.All.{and-left, and-right}
+use Rattle.table.proofs.Exact.{Exact, exact}
 use Rattle.even.specs.Rows.{marked, numbersOf, flat, rowOf}
 
 -- ---- one number, there and back
-
-pub on-off : (z : ℤ) → inRange z ≡ true → on (off z) ≡ z
-unfolding on off inRange
-on-off (pos n) e =
-    let h = leb-true n coordinate (and-right true (leb n coordinate) e) in
-    let d : min (min (n + coordinate) (coordinate + coordinate)) (coordinate + coordinate) ≡ n + coordinate = omega arith in
-    let s : subℕ (n + coordinate) coordinate ≡ pos (n + coordinate - coordinate) = simp (le-ltb (n + coordinate) coordinate (omega arith)) in
-    rw d (s ∙ ap pos (omega arith))
-on-off (negsuc n) e =
-    let h = leb-true n (coordinate - 1) (and-left (leb n (coordinate - 1)) true e) in
-    let m = coordinate - suc n in
-    let d : min m (coordinate + coordinate) ≡ m = omega arith in
-    let s : subℕ m coordinate ≡ negsuc (coordinate - suc m) = simp (lt-ltb m coordinate (omega arith)) in
-    rw d (s ∙ ap negsuc (omega arith))
-
-pub pos-counted : (z : ℤ) → nonNeg z ≡ true → pos (counted z) ≡ z
-unfolding counted
-pos-counted (pos n) e = refl
-pos-counted (negsuc n) e = let z : _≡_ {A = ℕ} 0 1 = cc in absurd (omega arith)
 
 pub marked-opt : (v : ℕ) → marked (opt v) ≡ pos v
 marked-opt v = by (eqb v noCell) refl
@@ -49,44 +27,6 @@ marked-opt v = by (eqb v noCell) refl
     by false e = refl
 
 -- ---- the numbers of one cell
-
-pub record Exact (t : List ℤ) (i : ℕ) : Type 0 where
-  pub x0 : on (cellAt t i .x0) ≡ start t i
-  pub y0 : on (cellAt t i .y0) ≡ number t i 1
-  pub x1 : on (cellAt t i .x1) ≡ number t i 2
-  pub y1 : on (cellAt t i .y1) ≡ number t i 3
-  pub level : pos (cellAt t i .level) ≡ number t i 4
-  pub parent : pos (cellAt t i .parent) ≡ number t i 5
-  pub first : pos (cellAt t i .first) ≡ number t i 6
-  pub poly : pos (cellAt t i .poly) ≡ number t i 7
-
-pub exact : (t : List ℤ) (i : ℕ) → inSlot t i ≡ true → Exact t i
-unfolding inSlot cellAt
-exact t i e =
-    let b0 = inRange (start t i) in
-    let b1 = inRange (number t i 1) in
-    let b2 = inRange (number t i 2) in
-    let b3 = inRange (number t i 3) in
-    let b4 = nonNeg (number t i 4) in
-    let b5 = nonNeg (number t i 5) in
-    let b6 = nonNeg (number t i 6) in
-    let b7 = nonNeg (number t i 7) in
-    let e6 = and-left (b0 && b1 && b2 && b3 && b4 && b5 && b6) b7 e in
-    let e5 = and-left (b0 && b1 && b2 && b3 && b4 && b5) b6 e6 in
-    let e4 = and-left (b0 && b1 && b2 && b3 && b4) b5 e5 in
-    let e3 = and-left (b0 && b1 && b2 && b3) b4 e4 in
-    let e2 = and-left (b0 && b1 && b2) b3 e3 in
-    let e1 = and-left (b0 && b1) b2 e2 in
-    record {
-      x0 = on-off (start t i) (and-left b0 b1 e1);
-      y0 = on-off (number t i 1) (and-right b0 b1 e1);
-      x1 = on-off (number t i 2) (and-right (b0 && b1) b2 e2);
-      y1 = on-off (number t i 3) (and-right (b0 && b1 && b2) b3 e3);
-      level = pos-counted (number t i 4) (and-right (b0 && b1 && b2 && b3) b4 e4);
-      parent = pos-counted (number t i 5) (and-right (b0 && b1 && b2 && b3 && b4) b5 e5);
-      first = pos-counted (number t i 6) (and-right (b0 && b1 && b2 && b3 && b4 && b5) b6 e6);
-      poly = pos-counted (number t i 7) (and-right (b0 && b1 && b2 && b3 && b4 && b5 && b6) b7 e);
-    }
 
 -- the m numbers from index b + k on
 abbrev run : List ℤ → ℕ → ℕ → ℕ → List ℤ

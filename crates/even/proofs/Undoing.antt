@@ -27,7 +27,7 @@ use Rattle.table.proofs.Stores.{put-elsewhere, first-elsewhere}
 use Rattle.table.proofs.Cells.{length-table, at-table}
 use Rattle.table.proofs.Wellformed.{opt-some}
 use Rattle.table.proofs.Splits.{length-splitRow, splitRow-self, splitRow-old-held}
-use Rattle.even.proofs.Rowing.{exact}
+use Rattle.table.proofs.Exact.{exact}
 use Rattle.even.specs.Undo.{undoneAt, mapFrom, undone}
 
 -- ---- number by number

@@ -25,6 +25,11 @@ pub and-false : (x y : Bool) → y ≡ false → (x && y) ≡ false
 and-false true y h = h
 and-false false y h = refl
 
+-- a test that cannot hold
+pub never : (x : Bool) → (x ≡ true → ⊥) → x ≡ false
+never true h = absurd (h refl)
+never false h = refl
+
 -- an index below n + 1 is below n, or n
 pub top? : (i n : ℕ) → i < suc n → (i < n) ⊎ (i ≡ n)
 top? i n h = by (eqb i n) refl

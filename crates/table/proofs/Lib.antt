@@ -9,9 +9,11 @@ pub mod Shape
 pub mod Tests
 pub mod Facts
 pub mod Stores
+pub mod Exact
 pub mod Cells
 pub mod Meshes
 pub mod Wellformed
+pub mod Walk
 pub mod Splits
 pub mod Refining
 pub mod Times

@@ -84,7 +84,7 @@ high-range : (m : ℕ) → m ≤ coordinate → inRange (pos m) ≡ true
 unfolding inRange
 high-range m h = rw (le-leb m coordinate h)
 
-on-range : (n : ℕ) → inRange (on n) ≡ true
+pub on-range : (n : ℕ) → inRange (on n) ≡ true
 unfolding on
 on-range n =
     let m = min n (coordinate + coordinate) in

@@ -1,5 +1,5 @@
--- Document 01's "Well-formed table", clause by clause; and the test that the code computes, which holds exactly if the definition does
--- (proofs/Wellformed.antt).
+-- Document 01's "Well-formed table", clause by clause; and the test whose answer the code gives, which holds exactly if
+-- the definition does (proofs/Wellformed.antt). How the code comes to that answer is in Walk.antt.
 use Prim.Native.Nat.{ℕ, zero, suc, _+_, _*_, _-_, _/_, _%_, _^_, _<_, _≤_}
 use mathlib.Core.Path.{_≡_}
 use mathlib.Core.Bool.{Bool, true, _&&_, cond}

@@ -2,5 +2,6 @@
 pub mod Slots
 pub mod Mesh
 pub mod Formed
+pub mod Walk
 pub mod Leaves
 pub mod Refine

@@ -1,8 +1,9 @@
 -- Cells in the slots of a lent row, eight numbers to a slot: x0 y0 x1 y1 level parent first-child polygon.
 use Prim.Native.Nat.{ℕ, _+_, _*_, min}
-use mathlib.Core.Bool.{Bool, _&&_}
+use mathlib.Core.Bool.{Bool, false, _&&_}
 use mathlib.Core.List.{List}
 use lib.ListN.{getD, set}
+use lib.Dec.{eqb}
 use lib.IntN.{ℤ, pos, negsuc}
 use lib.Signed.{nonNeg}
 use Rattle.cell.specs.declared.Cell.{Cell}
@@ -15,6 +16,13 @@ counted (negsuc n) = 0
 
 unfoldable pub kept : ℕ → ℤ
 kept n = pos (min n 9223372036854775807)
+
+-- two numbers of the row are the same
+abbrev pub sameZ : ℤ → ℤ → Bool
+sameZ (pos a) (pos b) = eqb a b
+sameZ (pos a) (negsuc b) = false
+sameZ (negsuc a) (pos b) = false
+sameZ (negsuc a) (negsuc b) = eqb a b
 
 -- the number at an index of slot i
 abbrev pub number : List ℤ → ℕ → ℕ → ℤ

@@ -5,7 +5,7 @@ ghost use lib.ListN.{length, getD};
 ghost use lib.IntN.{pos};
 ghost use lib.Signed.{nonNeg};
 ghost use Rattle.cell.specs.Ticks.{inRange, off, on};
-ghost use Rattle.table.specs.Slots.{counted, kept, stored, cellAt, putCell, putFirst, inSlot};
+ghost use Rattle.table.specs.Slots.{counted, kept, sameZ, stored, cellAt, putCell, putFirst, inSlot};
 use cell::Cell;
 
 // The number at index j, as a cell holds a coordinate, and as it holds anything else: 0 for a negative number.
@@ -72,6 +72,13 @@ pub fn level_at(t: &[i64], i: usize) -> u64
     number_at(t, i * 8 + 4)
 }
 
+pub fn parent_at(t: &[i64], i: usize) -> u64
+    requires { ⌜ i * 8 + 8 ≤ length (now t) ⌝ }
+    ensures { λ r. ⌜ r ≡ cellAt (now (t .entry)) i .parent ⌝ }
+{
+    number_at(t, i * 8 + 5)
+}
+
 pub fn first_at(t: &[i64], i: usize) -> u64
     requires { ⌜ i * 8 + 8 ≤ length (now t) ⌝ }
     ensures { λ r. ⌜ r ≡ cellAt (now (t .entry)) i .first ⌝ }
@@ -84,6 +91,15 @@ pub fn poly_at(t: &[i64], i: usize) -> u64
     ensures { λ r. ⌜ r ≡ cellAt (now (t .entry)) i .poly ⌝ }
 {
     number_at(t, i * 8 + 7)
+}
+
+// Whether number j is z, whatever the two are. Internal: the number is in the row.
+pub fn is_at(t: &[i64], j: usize, z: i64) -> bool
+    requires { ⌜ j < length (now t) ⌝ }
+    ensures { λ r. ⌜ r ≡ sameZ (getD (now (t .entry)) j (pos 0)) z ⌝ }
+{
+    let a = t[j];
+    a == z
 }
 
 // Internal: the slot is in the row.

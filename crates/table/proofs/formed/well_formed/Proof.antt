@@ -1,6 +1,7 @@
 -- `table::formed::well_formed` meets its contract. Assumes nothing.
 use mathlib.Core.Path.{_≡_, sym, _∙_}
 use mathlib.Core.Bool.{true, false}
+use native.Mathlib.Omega.{arith}
 use lib.ListN.{length}
 use borrow.Author.Tests.{not-true, not-false}
 use Rattle.table.proofs.Shape.{Shape, shape-of, within}
@@ -29,10 +30,12 @@ shaped c =
     shape-of (length (c .before .before .args .t .now)) (c .before .before .args .head .count) (c .before .before .args .head .«max_level») (shaped-true c)
 
 rest-zero-requires : tie.Need-rest-zero-requires
-rest-zero-requires c κs = within _ _ _ (shaped c)
+rest-zero-requires c κs = (within _ _ _ (shaped c), shaped c .whole)
 
 cells-ok-requires : tie.Need-cells-ok-requires
-cells-ok-requires c κs = (within _ _ _ (shaped (c .before)), shaped (c .before) .range)
+cells-ok-requires c κs =
+    let s = shaped (c .before) in
+    (within _ _ _ s, omega arith, s .range)
 
 returns-2 : tie.Need-returns-2
 unfolding wellFormed
