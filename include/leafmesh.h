@@ -6,6 +6,11 @@
  * or a refusal; a refused call changes nothing that it was lent. No call allocates, prints, or keeps
  * anything between calls. A row is a pointer and the number of its entries; where the number is 0 the
  * pointer may be null. Rows of one call must not overlap where one of them is written.
+ *
+ * The net's conductances are the original's, bit for bit. They are not the copper's at a change of level, beside
+ * other copper of the same layer's rows and columns, and where two polygons of one component meet: see
+ * docs/CONDUCTANCES.md before you rely on them. Corners, sheets and the table are exact; a solver can be
+ * assembled from those.
  */
 #ifndef LEAFMESH_H
 #define LEAFMESH_H

@@ -32,9 +32,15 @@
 
 pub mod drawing;
 pub mod ffi;
+mod mesh;
+mod pitch;
 mod refusal;
+pub mod sides;
+pub mod solving;
 pub mod text;
 
+pub use mesh::{Mesh, OwnedNet, Polygons};
+pub use pitch::{Misfit, Pitch, Why};
 use refusal::{judged, judged_net, judged_read};
 pub use refusal::{Reason, Refusal};
 
@@ -52,6 +58,27 @@ pub const NO_CELL: i64 = 4_294_967_295;
 
 /// How many numbers a slot of a table has: x0, y0, x1, y1, level, parent, first child, polygon.
 pub const SLOT: usize = 8;
+
+/// The largest table: so many cells, split ones among them.
+pub const SLOTS: usize = 16_384;
+
+/// Coordinates lie from minus this to this: 2^36 ticks, a quarter of a metre.
+pub const COORDINATE: i64 = 1 << 36;
+
+/// The deepest level that a table may have.
+pub const MAX_LEVEL: u64 = 12;
+
+/// The numbers of a slot, by their place in it.
+pub mod columns {
+    pub const X0: usize = 0;
+    pub const Y0: usize = 1;
+    pub const X1: usize = 2;
+    pub const Y1: usize = 3;
+    pub const LEVEL: usize = 4;
+    pub const PARENT: usize = 5;
+    pub const FIRST_CHILD: usize = 6;
+    pub const POLYGON: usize = 7;
+}
 
 /// What a table has beside its row: how many cells, and how deep they may be split.
 #[derive(Clone, Copy, Debug, PartialEq, Eq)]
