@@ -34,10 +34,14 @@ pub mod drawing;
 pub mod ffi;
 mod mesh;
 mod pitch;
+pub mod printed;
 mod refusal;
 pub mod sides;
 pub mod solving;
 pub mod text;
+#[doc(hidden)]
+pub mod tool;
+pub mod vtk;
 
 pub use mesh::{Mesh, OwnedNet, Polygons};
 pub use pitch::{Misfit, Pitch, Why};
@@ -59,14 +63,9 @@ pub const NO_CELL: i64 = 4_294_967_295;
 /// How many numbers a slot of a table has: x0, y0, x1, y1, level, parent, first child, polygon.
 pub const SLOT: usize = 8;
 
-/// The largest table: so many cells, split ones among them.
-pub const SLOTS: usize = 16_384;
+pub mod limits;
 
-/// Coordinates lie from minus this to this: 2^36 ticks, a quarter of a metre.
-pub const COORDINATE: i64 = 1 << 36;
-
-/// The deepest level that a table may have.
-pub const MAX_LEVEL: u64 = 12;
+pub use limits::{COORDINATE, MAX_LEVEL, SLOTS};
 
 /// The numbers of a slot, by their place in it.
 pub mod columns {

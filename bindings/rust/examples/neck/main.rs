@@ -2,12 +2,15 @@
 //! round solved twice on the same cells, by bilinear elements and by the net's conductances, and both held
 //! against a fine uniform grid.
 //!
-//! `cargo run --release --example neck`
+//! `cargo run --release --example neck FOLDER` leaves pictures of the last round there, neck.svg (its mesh) and
+//! neck-power.svg (power density at 10 A), and neck.vtk for ParaView; without a folder it prints only.
 
+mod pictures;
 mod uniform;
 
 use leafmesh::solving::{across, System};
 use leafmesh::{power, Mesh, Net, Pitch, Polygons, Refusal, Settings};
+use std::env;
 use std::error::Error;
 
 /// In millimetres.
@@ -15,6 +18,8 @@ const PITCH: f64 = 1.0;
 const MAX_LEVEL: u64 = 6;
 /// Copper of 35 micrometres, in ohms a square.
 const SHEET: f64 = 0.5e-3;
+/// Through the neck, for the pictures.
+const AMPERES: f64 = 10.0;
 const ROUNDS: usize = 7;
 /// A round splits so many of the leaves, those of the largest power.
 const ONE_IN: usize = 6;
@@ -56,6 +61,8 @@ fn main() -> Result<(), Box<dyn Error>> {
         );
         if round < ROUNDS {
             refine_hottest(&mut mesh, net, &volts)?;
+        } else if let Some(folder) = env::args().nth(1) {
+            pictures::put(&folder, &mesh, net, &volts, AMPERES * cells * SHEET)?;
         }
     }
     Ok(())
