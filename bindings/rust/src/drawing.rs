@@ -468,7 +468,7 @@ fn put_colour_bar(values: &Values, y: f64, text: &mut String) -> Result<f64, fmt
 
 fn in_words(value: f64, least: f64, clipped: bool) -> String {
     match value {
-        value if value == 0.0 => "0".to_string(),
+        0.0 => "0".to_string(),
         value if value <= least && clipped => format!("{value:.1e} and less"),
         value => format!("{value:.1e}"),
     }

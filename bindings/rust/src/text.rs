@@ -354,7 +354,8 @@ mod tests {
         let text = "level 2\ncap 8\ntarget 16\nlayer 1 8\npolygon 1 0 0.5\n0 0\n16 0\n16 16\n0 16\nsplit 0\n";
         let (board, lines) = parse_with_lines(text).expect("a board");
         assert_eq!(compare(&board, &board, &lines), Ok(()));
-        let damages: [(usize, fn(&mut Board)); 9] = [
+        type Damage = fn(&mut Board);
+        let damages: [(usize, Damage); 9] = [
             (1, |b| b.max_level = 3),
             (2, |b| b.cap = 9),
             (3, |b| b.target = 17),
