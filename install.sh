@@ -1,7 +1,7 @@
 #!/bin/sh
-# install.sh PREFIX: puts the header, the library and a file for pkg-config under PREFIX (include, lib, lib/pkgconfig). With DESTDIR
-# set all of it goes below that folder, and the file for pkg-config still says PREFIX. The library is made first unless
-# it is there, or taken from the folder that LEAFMESH_LIBRARY names.
+# install.sh PREFIX: puts the header, the library and a file for pkg-config under PREFIX (include, lib,
+# lib/pkgconfig). With DESTDIR set all of it goes below that folder, and the file for pkg-config still says PREFIX.
+# The library is made first unless it is there, or taken from the folder that LEAFMESH_LIBRARY names.
 set -eu
 if [ $# -ne 1 ]; then
     echo "usage: install.sh PREFIX" >&2

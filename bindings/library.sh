@@ -20,7 +20,7 @@ command -v rt >/dev/null || {
 }
 log=$(mktemp)
 trap 'rm -f "$log"' EXIT
-echo "$what: the first run proves every crate it needs and takes some 15 minutes" >&2
+echo "$what: the first run proves every crate it needs and takes a quarter of an hour or more" >&2
 $what >"$log" 2>&1 || {
     tail -n 20 "$log" >&2
     exit 1

@@ -43,9 +43,19 @@ say "Rust: tests, and examples build"
 say "the crate from another workspace, beside it and around it"
 mkdir -p "$folder/beside/user/src"
 printf '[workspace]\nmembers = ["user"]\nresolver = "2"\n' >"$folder/beside/Cargo.toml"
-printf '[package]\nname = "user"\nversion = "0.0.0"\nedition = "2021"\n[dependencies]\nleafmesh = { path = "%s" }\n' "$root/bindings/rust" \
-    >"$folder/beside/user/Cargo.toml"
-echo 'fn main() { assert_eq!(leafmesh::contact([0, 0, 4, 4], [4, 3, 8, 8]), Ok(true)); }' >"$folder/beside/user/src/main.rs"
+cat >"$folder/beside/user/Cargo.toml" <<USER
+[package]
+name = "user"
+version = "0.0.0"
+edition = "2021"
+[dependencies]
+leafmesh = { path = "$root/bindings/rust" }
+USER
+cat >"$folder/beside/user/src/main.rs" <<'USER'
+fn main() {
+    assert_eq!(leafmesh::contact([0, 0, 4, 4], [4, 3, 8, 8]), Ok(true));
+}
+USER
 (cd "$folder/beside" && CARGO_TARGET_DIR=$folder/built cargo run --offline --quiet -p user)
 cp -r "$folder/beside" "$folder/around"
 mkdir -p "$folder/around/leafmesh/bindings"
@@ -56,7 +66,8 @@ library=${LEAFMESH_LIBRARY:-$root/target/staticlib}
 (cd "$folder/around" && LEAFMESH_LIBRARY=$library CARGO_TARGET_DIR=$folder/built cargo run --offline --quiet -p user)
 
 say "a missing library is told by name"
-if (cd "$folder/around" && LEAFMESH_LIBRARY=$folder CARGO_TARGET_DIR=$folder/built cargo build --offline --quiet) 2>"$folder/said"; then
+without() { (cd "$folder/around" && LEAFMESH_LIBRARY=$folder CARGO_TARGET_DIR=$folder/built cargo build --offline); }
+if without 2>"$folder/said"; then
     fail "built without a library"
 fi
 grep -q 'rt staticlib leafmesh' "$folder/said" || fail "a missing library isn't told: $(cat "$folder/said")"

@@ -1,6 +1,7 @@
 /* From outline to net in C: a square of 8 by 8 ticks, split once, balanced, and its net printed.
  *
- * Built and run by run.sh beside this file. */
+ * Built and run by run.sh beside this file.
+ */
 #include "leafmesh.h"
 
 #include <inttypes.h>
@@ -36,8 +37,9 @@ int main(void)
     static const leafmesh_point points[] = {{0, 0}, {8, 0}, {8, 8}, {0, 8}};
     const uint64_t max_level = 2;
 
-    leafmesh_outcome built = leafmesh_build(max_level, LEAFMESH_CAP, 8, NULL, 0, layers, LENGTH(layers), components, LENGTH(components), sheets,
-                                            LENGTH(sheets), counts, LENGTH(counts), points, LENGTH(points), table, LENGTH(table));
+    leafmesh_outcome built = leafmesh_build(max_level, LEAFMESH_CAP, 8, NULL, 0, layers, LENGTH(layers), components,
+                                            LENGTH(components), sheets, LENGTH(sheets), counts, LENGTH(counts),
+                                            points, LENGTH(points), table, LENGTH(table));
     judge("build", built.number, built.place);
     leafmesh_outcome split = leafmesh_refine(table, LENGTH(table), built.value, max_level, 0);
     judge("refine", split.number, split.place);
@@ -45,10 +47,10 @@ int main(void)
     judge("balance", even.number, even.place);
     size_t count = split.value + 4 * even.value;
 
-    leafmesh_net_outcome net =
-        leafmesh_network(table, LENGTH(table), count, max_level, layers, LENGTH(layers), components, LENGTH(components), sheets, LENGTH(sheets), nodes,
-                         LENGTH(nodes), ends, LENGTH(ends), conductances, LENGTH(conductances), corners, LENGTH(corners), cell_sheets,
-                         LENGTH(cell_sheets), work, LENGTH(work));
+    leafmesh_net_outcome net = leafmesh_network(
+        table, LENGTH(table), count, max_level, layers, LENGTH(layers), components, LENGTH(components), sheets,
+        LENGTH(sheets), nodes, LENGTH(nodes), ends, LENGTH(ends), conductances, LENGTH(conductances), corners,
+        LENGTH(corners), cell_sheets, LENGTH(cell_sheets), work, LENGTH(work));
     judge("network", net.number, net.place);
     printf("cells %zu nodes %" PRIu64 " edges %" PRIu64 "\n", count, net.nodes, net.edges);
     for (uint64_t e = 0; e < net.edges; e++) {
@@ -57,7 +59,8 @@ int main(void)
 
     /* A refusal: there is no cell 99, and nothing is changed. */
     leafmesh_outcome none = leafmesh_refine(table, LENGTH(table), count, max_level, 99);
-    printf("refine 99: refused %" PRIu64 " %" PRIu64 ": %s\n", none.number, none.place, leafmesh_words(none.number));
+    printf("refine 99: refused %" PRIu64 " %" PRIu64 ": %s\n", none.number, none.place,
+           leafmesh_words(none.number));
     if (fflush(stdout) != 0 || ferror(stdout)) {
         perror("standard output");
         return 1;

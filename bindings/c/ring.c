@@ -1,5 +1,5 @@
-/* A ring that is filled while the program runs, as a reader of layouts would: a comb of as many teeth as the first word says,
- * through strips, record and build. It is C11 and C++17 alike. */
+/* A ring that is filled while the program runs, as a reader of layouts would: a comb of as many teeth as the first
+ * word says, through strips, record and build. It is C11 and C++17 alike. */
 #include "leafmesh.h"
 
 #include <stdio.h>
@@ -63,12 +63,13 @@ int main(int argc, char **argv)
     polygon[0].component = 0;
     polygon[0].points = points;
     double sheet[1] = {0.0005};
-    const leafmesh_outcome written =
-        leafmesh_write(0, LEAFMESH_CAP, 8, cells, 1, polygon, 1, sheet, 1, ring, points, NULL, 0, record, LENGTH(record));
+    const leafmesh_outcome written = leafmesh_write(0, LEAFMESH_CAP, 8, cells, 1, polygon, 1, sheet, 1, ring,
+                                                    points, NULL, 0, record, LENGTH(record));
     if (!is_accepted("strips", cut.number, cut.place) || !is_accepted("write", written.number, written.place)) {
         return 1;
     }
-    const leafmesh_read_outcome back = leafmesh_read(record, written.value, cells, 1, polygon, 1, sheet, 1, ring, POINTS, NULL, 0);
+    const leafmesh_read_outcome back =
+        leafmesh_read(record, written.value, cells, 1, polygon, 1, sheet, 1, ring, POINTS, NULL, 0);
     if (!is_accepted("read", back.number, back.place)) {
         return 1;
     }
@@ -76,12 +77,13 @@ int main(int argc, char **argv)
     uint32_t components[1];
     uint64_t counts[1];
     leafmesh_outlines(polygon, 1, layers, components, counts);
-    const leafmesh_outcome built = leafmesh_build(back.level, back.cap, back.target, cells, 1, layers, 1, components, 1, sheet, 1, counts, 1, ring,
-                                                  back.points, table, LENGTH(table));
+    const leafmesh_outcome built =
+        leafmesh_build(back.level, back.cap, back.target, cells, 1, layers, 1, components, 1, sheet, 1, counts, 1,
+                       ring, back.points, table, LENGTH(table));
     if (!is_accepted("build", built.number, built.place)) {
         return 1;
     }
-    printf("leafmesh %s: %u points, %u strips, %u bytes, %u cells\n", LEAFMESH_VERSION, (unsigned)points, (unsigned)cut.value,
-           (unsigned)written.value, (unsigned)built.value);
+    printf("leafmesh %s: %u points, %u strips, %u bytes, %u cells\n", LEAFMESH_VERSION, (unsigned)points,
+           (unsigned)cut.value, (unsigned)written.value, (unsigned)built.value);
     return fflush(stdout) == 0 ? 0 : 1;
 }

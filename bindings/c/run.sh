@@ -1,6 +1,6 @@
 #!/bin/sh
-# Installs header and library into a folder of its own, builds the C programs against them by pkg-config, as C11 and what can be as
-# C++17, with every warning an error, runs them, and holds what they print to what is expected.
+# Installs header and library into a folder of its own, builds the C programs against them by pkg-config, as C11 and
+# what can be as C++17, with every warning an error, runs them, and holds what they print to what is expected.
 set -eu
 cd "$(dirname "$0")"
 for tool in cc c++ pkg-config; do

@@ -1,5 +1,6 @@
-//! From outline to net, by the library's own calls: two pads joined by a neck, split where the neck is, balanced, and solved on
-//! the cells to show their power. (`Mesh` holds the same calls in one; examples/neck has a board in millimetres.)
+//! From outline to net, by the library's own calls: two pads joined by a neck, split where the neck is, balanced,
+//! and solved on the cells to show their power. (`Mesh` holds the same calls in one; examples/neck has a board in
+//! millimetres.)
 //!
 //! `cargo run --example outline_to_net`
 

@@ -10,8 +10,9 @@
 //! copper of the layer and where two polygons of a component meet: see docs/CONDUCTANCES.md. [`solving`] shows
 //! how to solve on the cells instead.
 //!
-//! **Where bands of a ring get cells of unequal width the net is wrong**, and no check tells; [`sides::loose`] does. It can't
-//! happen where all ring coordinates are multiples of the base cell, which is what a [`Pitch`] gives.
+//! **Where bands of a ring get cells of unequal width the net is wrong**, and no check tells; [`sides::loose`]
+//! does. It can't happen where all ring coordinates are multiples of the base cell, which is what a [`Pitch`]
+//! gives.
 //!
 //! [`Mesh`] holds a table, its polygons and the calls in one; the functions of this page are the library's own.
 //!
@@ -79,8 +80,8 @@ pub mod limits;
 
 pub use limits::{COORDINATE, MAX_LEVEL, SLOTS};
 
-/// The places of numbers: in a slot of a table, in a node of a net (its row has four numbers a node), and the corners of a
-/// cell (four nodes a cell).
+/// The places of numbers: in a slot of a table, in a node of a net (its row has four numbers a node), and the
+/// corners of a cell (four nodes a cell).
 pub mod columns {
     pub const X0: usize = 0;
     pub const Y0: usize = 1;
@@ -304,8 +305,8 @@ pub fn leaves(table: &[i64], head: Head, out: &mut [u64]) -> Result<usize, Refus
     Ok(judged(outcome)? as usize)
 }
 
-/// The ids of the leaves by polygon, then id, into the front of `out`. Answers how many. Cell i of the net is the i-th of
-/// these leaves.
+/// The ids of the leaves by polygon, then id, into the front of `out`. Answers how many. Cell i of the net is the
+/// i-th of these leaves.
 ///
 /// # Errors
 ///
@@ -416,9 +417,9 @@ pub fn network(
     judged_net(outcome)
 }
 
-/// The power of each cell of a net in watts, from the potential of each node in volts, into the front of `answers`. Cell i
-/// is [`leaf_order`]'s i-th leaf. With its area A in square metres a cell of power P carries, on average, a sheet
-/// current of J = sqrt(P / (A · r_sheet)) amperes a metre.
+/// The power of each cell of a net in watts, from the potential of each node in volts, into the front of `answers`.
+/// Cell i is [`leaf_order`]'s i-th leaf. With its area A in square metres a cell of power P carries, on average, a
+/// sheet current of J = sqrt(P / (A · r_sheet)) amperes a metre.
 ///
 /// # Errors
 ///

@@ -1,5 +1,6 @@
-//! A mesh as a file that ParaView reads: VTK's legacy form, as text. Leaves are quads in metres, each layer at a height of
-//! its own; level, polygon, layer, component and ohms a square stand with the cells, hanging nodes with the points.
+//! A mesh as a file that ParaView reads: VTK's legacy form, as text. Leaves are quads in metres, each layer at a
+//! height of its own; level, polygon, layer, component and ohms a square stand with the cells, hanging nodes with
+//! the points.
 
 use crate::sides::hanging;
 use crate::{Mesh, Net, Refusal, TICK};

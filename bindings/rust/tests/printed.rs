@@ -5,7 +5,8 @@ use leafmesh::printed::{read, show};
 use leafmesh::solving::{across, System};
 use leafmesh::{text, Net};
 
-const BOARD: &str = "level 2\ntarget 8\npolygon 1 0 1\n0 0\n8 0\n8 16\n0 16\nsplit 0\npolygon 2 1 1\n0 0\n8 0\n8 8\n0 8\n";
+const BOARD: &str = "level 2\ntarget 8\npolygon 1 0 1\n0 0\n8 0\n8 16\n0 16\nsplit 0\n\
+    polygon 2 1 1\n0 0\n8 0\n8 8\n0 8\n";
 
 /// What draw and relax do with a text.
 fn used(text: &str) -> bool {

@@ -1,5 +1,6 @@
-//! Standard input to standard output: `board pack` makes a record of a board's text, `board unpack` the text of a record.
-//! Of either, `board net` prints what leafnet prints, with no bound of 64 slots, and `board vtk` a file for ParaView.
+//! Standard input to standard output: `board pack` makes a record of a board's text, `board unpack` the text of a
+//! record. Of either, `board net` prints what leafnet prints, with no bound of 64 slots, and `board vtk` a file for
+//! ParaView.
 
 use leafmesh::{printed, read, text, tool, vtk, Board, Mesh};
 use std::env;
