@@ -11,11 +11,13 @@ use leafmesh::{
     Outlines, Settings, SLOT, TICK,
 };
 use std::error::Error;
+use std::io::{stdout, Write};
 
 /// Ohms a square.
 const SHEET: f64 = 0.5e-3;
 
 fn main() -> Result<(), Box<dyn Error>> {
+    let mut out = stdout();
     // An hourglass of copper: pads of 48 by 16 ticks, and a neck of 16 by 16 between them. All coordinates are
     // multiples of the base cell, so that the bands' cells meet corner to corner.
     let outlines = Outlines {
@@ -45,7 +47,7 @@ fn main() -> Result<(), Box<dyn Error>> {
     };
     let mut table = vec![0; SLOT * 256];
     let head = build(settings, &[], outlines, &mut table)?;
-    println!("{} base cells", head.count);
+    writeln!(out, "{} base cells", head.count)?;
 
     // The neck is the base cell in the middle band; split it, and one of its quarters.
     let is_neck = |&id: &usize| table[SLOT * id + Y0] == 16;
@@ -54,28 +56,30 @@ fn main() -> Result<(), Box<dyn Error>> {
     let quarter = head.count - 4;
     let head = refine(&mut table, head, quarter)?;
     let (splits, head) = balance(&mut table, head)?;
-    println!("{splits} split(s) to balance, {} cells", head.count);
+    writeln!(out, "{splits} split(s) to balance, {} cells", head.count)?;
 
     let leaves = leaf_count(&table, head)?;
     let mut rows = NetRows::for_leaves(leaves);
     let counts = network(&table, head, outlines, &mut rows)?;
     let net = rows.net(counts);
-    println!(
+    writeln!(
+        out,
         "{leaves} leaves, {} nodes, {} edges",
         counts.nodes, counts.edges
-    );
+    )?;
 
     // The check looks at the middles of sides; that no node stands elsewhere inside one is the outline's doing.
     let found = check_by_layer(&table, head, net, outlines, &mut [])?;
-    println!("a node without its halves: {found:?}");
-    println!("a node off a side's middle: {:?}", sides::loose(net));
+    writeln!(out, "a node without its halves: {found:?}")?;
+    writeln!(out, "a node off a side's middle: {:?}", sides::loose(net))?;
 
     let system = System::of_cells(net)?;
     let volts = system.solve(&across(net.nodes))?;
-    println!(
+    writeln!(
+        out,
         "{:.3} squares from the bottom to the top",
         1.0 / (system.watts(&volts) * SHEET)
-    );
+    )?;
     let mut watts = vec![0.0; counts.cells];
     power(net, &volts, &mut watts)?;
     let hottest = |a: &usize, b: &usize| watts[*a].total_cmp(&watts[*b]);
@@ -86,9 +90,10 @@ fn main() -> Result<(), Box<dyn Error>> {
     let slot = &table[SLOT * order[cell] as usize..][..SLOT];
     let area = (slot[2] - slot[0]) as f64 * TICK * (slot[3] - slot[1]) as f64 * TICK;
     let amperes = (watts[cell] / (area * SHEET)).sqrt();
-    println!(
+    writeln!(
+        out,
         "most power: leaf {} with {:.1} W, {amperes:.3e} A a metre",
         order[cell], watts[cell]
-    );
+    )?;
     Ok(())
 }

@@ -15,6 +15,7 @@ use calls::table::{leaf_count, refine};
 use calls::{Answer, Refusal};
 use leafmesh::{text, Board, SLOT, SLOTS};
 use std::error::Error;
+use std::io::{stdout, Write};
 
 fn main() -> Result<(), Box<dyn Error>> {
     let all: Result<Vec<Meshed>, _> = CASES.into_iter().map(boards::meshed).collect();
@@ -23,8 +24,9 @@ fn main() -> Result<(), Box<dyn Error>> {
     for meshed in &all {
         numbers += held_to_the_original(meshed)?;
     }
-    print!("{}", boards::table(&all)?);
-    println!("{} nets, {numbers} numbers: each is the original's, bit for bit", all.len());
+    let mut out = stdout();
+    write!(out, "{}", boards::table(&all)?)?;
+    writeln!(out, "{} nets, {numbers} numbers: each is the original's, bit for bit", all.len())?;
     Ok(())
 }
 

@@ -5,9 +5,10 @@
 mod boards;
 
 use std::error::Error;
+use std::io::{stdout, Write};
 
 fn main() -> Result<(), Box<dyn Error>> {
     let all: Result<Vec<_>, _> = boards::CASES.into_iter().map(boards::meshed).collect();
-    print!("{}", boards::table(&all?)?);
+    write!(stdout(), "{}", boards::table(&all?)?)?;
     Ok(())
 }

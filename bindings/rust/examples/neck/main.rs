@@ -12,6 +12,7 @@ use leafmesh::solving::{across, System};
 use leafmesh::{power, Mesh, Net, Pitch, Polygons, Refusal, Settings};
 use std::env;
 use std::error::Error;
+use std::io::{stdout, Write};
 
 /// In millimetres.
 const PITCH: f64 = 1.0;
@@ -43,9 +44,13 @@ const OUTLINE: [[f64; 2]; 12] = [
 ];
 
 fn main() -> Result<(), Box<dyn Error>> {
+    let mut out = stdout();
     let squares = uniform::squares(&OUTLINE, PITCH / FINE as f64)?;
-    println!("uniform grid of {FINE} by {FINE} cells a pitch: {squares:.4} squares");
-    println!("round leaves   elements, in 100 off   net, in 100 off");
+    writeln!(
+        out,
+        "uniform grid of {FINE} by {FINE} cells a pitch: {squares:.4} squares"
+    )?;
+    writeln!(out, "round leaves   elements, in 100 off   net, in 100 off")?;
     let mut mesh = base_cells()?;
     for round in 0..=ROUNDS {
         let made = mesh.net()?;
@@ -53,12 +58,13 @@ fn main() -> Result<(), Box<dyn Error>> {
         let (cells, volts) = solved(&System::of_cells(net)?, net)?;
         let (edges, _) = solved(&System::of_net(net), net)?;
         let off = |own: f64| 100.0 * (own / squares - 1.0);
-        println!(
+        writeln!(
+            out,
             "{round:5} {:6}   {cells:8.4} {:+13.2}   {edges:8.4} {:+8.2}",
             net.sheets.len(),
             off(cells),
             off(edges)
-        );
+        )?;
         if round < ROUNDS {
             refine_hottest(&mut mesh, net, &volts)?;
         } else if let Some(folder) = env::args().nth(1) {
