@@ -165,15 +165,14 @@ fn text_to_record_and_back() {
 
 #[test]
 fn full_and_closed_outputs_are_told() {
-    let (text, record) = (
-        fs::read(sample("neck.txt")),
-        fs::read(sample("neck.record")),
-    );
-    let (text, record) = (text.expect("a sample"), record.expect("a sample"));
+    // No byte of this record is a newline, at which a buffer would be written out.
+    let text = b"polygon 1 0 1\n0 0\n8 0\n8 8\n0 8\n";
+    assert!(!made(BOARD, &["pack"], text).contains(&b'\n'));
+    let record = fs::read(sample("neck.record")).expect("a sample");
     let (net, file) = (net_of("neck.txt"), sample("neck.record"));
     let file = file.to_str().expect("a name");
     let runs: [(&str, Vec<&str>, &[u8]); 7] = [
-        (BOARD, vec!["pack"], &text),
+        (BOARD, vec!["pack"], text),
         (BOARD, vec!["unpack"], &record),
         (BOARD, vec!["net"], &record),
         (BOARD, vec!["vtk"], &record),
