@@ -29,11 +29,25 @@ pub fn of_mesh(mesh: &Mesh, net: Net, fields: &[Field]) -> Result<String, Refusa
 
 fn put(mesh: &Mesh, order: &[usize], net: Net, fields: &[Field], text: &mut String) -> fmt::Result {
     let (nodes, cells) = (net.nodes.len() / 4, net.sheets.len());
+    put_grid(net, text)?;
+    writeln!(text, "CELL_DATA {cells}")?;
+    put_leaves(mesh, order, net, text)?;
+    put_own(fields, true, cells, text)?;
+    writeln!(text, "POINT_DATA {nodes}")?;
+    let hangs = hanging(net);
+    let hangs = |at: usize| f64::from(u8::from(hangs.binary_search(&at).is_ok()));
+    put_field("hanging", &mut (0..nodes).map(hangs), text)?;
+    put_own(fields, false, nodes, text)
+}
+
+/// Nodes in metres, and leaves as quads.
+fn put_grid(net: Net, text: &mut String) -> fmt::Result {
+    let cells = net.sheets.len();
     writeln!(
         text,
         "# vtk DataFile Version 3.0\nleafmesh\nASCII\nDATASET UNSTRUCTURED_GRID"
     )?;
-    writeln!(text, "POINTS {nodes} double")?;
+    writeln!(text, "POINTS {} double", net.nodes.len() / 4)?;
     let apart = layers_apart(net);
     let layers: BTreeSet<i64> = net.nodes.chunks_exact(4).map(|node| node[0]).collect();
     for node in net.nodes.chunks_exact(4) {
@@ -54,8 +68,11 @@ fn put(mesh: &Mesh, order: &[usize], net: Net, fields: &[Field], text: &mut Stri
         )?;
     }
     writeln!(text, "CELL_TYPES {cells}")?;
-    (0..cells).try_for_each(|_| writeln!(text, "9"))?;
-    writeln!(text, "CELL_DATA {cells}")?;
+    (0..cells).try_for_each(|_| writeln!(text, "9"))
+}
+
+/// What every leaf has.
+fn put_leaves(mesh: &Mesh, order: &[usize], net: Net, text: &mut String) -> fmt::Result {
     let polygon = |at: usize| mesh.polygon(order[at]);
     let numbers: [(&str, &dyn Fn(usize) -> f64); 6] = [
         ("leaf", &|at| order[at] as f64),
@@ -68,14 +85,9 @@ fn put(mesh: &Mesh, order: &[usize], net: Net, fields: &[Field], text: &mut Stri
         ("r_sheet", &|at| net.sheets[at]),
     ];
     for (name, number) in numbers {
-        put_field(name, &mut (0..cells).map(number), text)?;
+        put_field(name, &mut (0..net.sheets.len()).map(number), text)?;
     }
-    put_own(fields, true, cells, text)?;
-    writeln!(text, "POINT_DATA {nodes}")?;
-    let hangs = hanging(net);
-    let hangs = |at: usize| f64::from(u8::from(hangs.binary_search(&at).is_ok()));
-    put_field("hanging", &mut (0..nodes).map(hangs), text)?;
-    put_own(fields, false, nodes, text)
+    Ok(())
 }
 
 /// A twentieth of the board's larger side, in metres.
