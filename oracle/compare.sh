@@ -12,8 +12,8 @@ set -eu
 
 cd "$(dirname "$0")"
 . ./setup.sh
-[ -n "${LEAFMESH_LIBRARY:-}" ] || (cd .. && rt staticlib leafmesh >&2)
-[ -n "${LEAFMESH_PROGRAM:-}" ] || (cd .. && rt check leafnet >&2)
+[ -n "${LEAFMESH_LIBRARY:-}" ] || ../bindings/library.sh
+[ -n "${LEAFMESH_PROGRAM:-}" ] || ../bindings/library.sh leafnet
 features=""
 if [ "${1:-}" = heap ]; then
     shift

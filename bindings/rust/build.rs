@@ -3,6 +3,7 @@
 
 use std::env;
 use std::path::{Path, PathBuf};
+use std::process::exit;
 
 /// `LEAFMESH_LIBRARY` names another folder. Either is seen from this crate unless it is absolute.
 const DEFAULT_FOLDER: &str = "../../target/staticlib";
@@ -15,6 +16,14 @@ fn main() {
         "cargo:rerun-if-changed={}",
         folder.join("libleafmesh.a").display()
     );
+    if !folder.join("libleafmesh.a").is_file() {
+        eprintln!(
+            "no libleafmesh.a in {}: make it with `rt staticlib leafmesh` at the repository's root, or name its \
+             folder in LEAFMESH_LIBRARY",
+            folder.display()
+        );
+        exit(1);
+    }
     println!("cargo:rustc-link-search=native={}", folder.display());
     println!("cargo:rustc-link-lib=static=leafmesh");
 }

@@ -1,104 +1,107 @@
-//! From outline to net: two pads joined by a neck, split where the neck is, balanced, and solved roughly to show the power of the cells.
+//! From outline to net, by the library's own calls: two pads joined by a neck, split where the neck is, balanced,
+//! and solved on the cells to show their power. (`Mesh` holds the same calls in one; examples/neck has a board in
+//! millimetres.)
 //!
 //! `cargo run --example outline_to_net`
 
+use leafmesh::columns::Y0;
+use leafmesh::solving::{across, System};
 use leafmesh::{
-    balance, build, check_by_layer, leaf_count, network, power, refine, NetRows, Outlines, Refusal,
-    Settings,
+    balance, build, check_by_layer, leaf_count, leaf_order, network, power, refine, sides, Head,
+    Net, NetRows, Outlines, Point, Refusal, Settings, SLOT, TICK,
 };
+use std::error::Error;
+use std::io::{stdout, Write};
 
-fn main() -> Result<(), Refusal> {
-    // An hourglass of copper: pads of 32 by 16 ticks, and a neck 8 wide and 16 long between them.
+/// Ohms a square.
+const SHEET: f64 = 0.5e-3;
+
+/// An hourglass of copper: pads of 48 by 16 ticks, and a neck of 16 by 16 between them. All coordinates are multiples
+/// of the base cell, so that the bands' cells meet corner to corner.
+const RING: [Point; 12] = [
+    [0, 0],
+    [48, 0],
+    [48, 16],
+    [32, 16],
+    [32, 32],
+    [48, 32],
+    [48, 48],
+    [0, 48],
+    [0, 32],
+    [16, 32],
+    [16, 16],
+    [0, 16],
+];
+
+fn main() -> Result<(), Box<dyn Error>> {
+    let mut out = stdout();
     let outlines = Outlines {
         layers: &[1],
         components: &[0],
-        sheets: &[0.5e-3],
+        sheets: &[SHEET],
         counts: &[12],
-        points: &[
-            [0, 0],
-            [32, 0],
-            [32, 16],
-            [20, 16],
-            [20, 32],
-            [32, 32],
-            [32, 48],
-            [0, 48],
-            [0, 32],
-            [12, 32],
-            [12, 16],
-            [0, 16],
-        ],
+        points: &RING,
     };
+    let mut table = vec![0; SLOT * 256];
+    let (splits, head) = meshed(outlines, &mut table)?;
+    writeln!(out, "{splits} split(s) to balance, {} cells", head.count)?;
+
+    let leaves = leaf_count(&table, head)?;
+    let mut rows = NetRows::for_leaves(leaves);
+    let counts = network(&table, head, outlines, &mut rows)?;
+    let net = rows.net(counts);
+    writeln!(
+        out,
+        "{leaves} leaves, {} nodes, {} edges",
+        counts.nodes, counts.edges
+    )?;
+
+    // The check looks at the middles of sides; that no node stands elsewhere inside one is the outline's doing.
+    let found = check_by_layer(&table, head, net, outlines, &mut [])?;
+    writeln!(out, "a node without its halves: {found:?}")?;
+    writeln!(out, "a node off a side's middle: {:?}", sides::loose(net))?;
+
+    let system = System::of_cells(net)?;
+    let volts = system.solve(&across(net.nodes))?;
+    let squares = 1.0 / (system.watts(&volts) * SHEET);
+    writeln!(out, "{squares:.3} squares from the bottom to the top")?;
+    let (cell, watts) = hottest(net, &volts)?;
+    // Cell i of the net is the i-th leaf of the order.
+    let mut order = vec![0; leaves];
+    leaf_order(&table, head, &mut order)?;
+    let slot = &table[SLOT * order[cell] as usize..][..SLOT];
+    let area = (slot[2] - slot[0]) as f64 * TICK * (slot[3] - slot[1]) as f64 * TICK;
+    let amperes = (watts / (area * SHEET)).sqrt();
+    writeln!(
+        out,
+        "most power: leaf {} with {watts:.1} W, {amperes:.3e} A a metre",
+        order[cell]
+    )?;
+    Ok(())
+}
+
+/// The base cells, the one in the middle band and one of its quarters split, balanced.
+fn meshed(outlines: Outlines, table: &mut [i64]) -> Result<(usize, Head), Refusal> {
     let settings = Settings {
         max_level: 2,
         cap: 256,
         target: 16,
     };
-    let mut table = vec![0; 8 * 256];
-    let head = build(settings, &[], outlines, &mut table)?;
-    println!("{} base cells", head.count);
-
-    // The neck is the base cell in the middle band; split it, and one of its quarters.
-    let neck = (0..head.count)
-        .find(|&id| table[8 * id + 1] == 16)
-        .expect("a neck");
-    let head = refine(&mut table, head, neck)?;
-    let quarter = head.count - 4;
-    let head = refine(&mut table, head, quarter)?;
-    let (splits, head) = balance(&mut table, head)?;
-    println!("{splits} splits to balance, {} cells", head.count);
-
-    let leaves = leaf_count(&table, head)?;
-    let mut rows = NetRows::for_leaves(leaves);
-    let counts = network(&table, head, outlines, &mut rows)?;
-    println!(
-        "{leaves} leaves, {} nodes, {} edges",
-        counts.nodes, counts.edges
-    );
-
-    // Where bands of different cell widths meet, the by-layer check looks at midpoints only.
-    let found = check_by_layer(
-        &table,
-        head,
-        rows.net(counts),
-        outlines,
-        &mut rows.work.clone(),
-    )?;
-    println!("a node without its halves: {found:?}");
-
-    let volts = relax(&rows, counts.nodes, counts.edges);
-    let mut watts = vec![0.0; counts.cells];
-    power(rows.net(counts), &volts, &mut watts)?;
-    let most = watts.iter().copied().fold(0.0, f64::max);
-    println!("hottest cell: {most:.3e} W");
-    Ok(())
-}
-
-/// A rough solution: 1 V along the top, 0 V along the bottom, and every other node the mean of its neighbours.
-fn relax(rows: &NetRows, nodes: usize, edges: usize) -> Vec<f64> {
-    let y = |node: usize| rows.nodes[4 * node + 3];
-    let top = (0..nodes).map(y).max().unwrap_or(0);
-    let bottom = (0..nodes).map(y).min().unwrap_or(0);
-    let mut volts: Vec<f64> = (0..nodes)
-        .map(|node| (y(node) - bottom) as f64 / (top - bottom) as f64)
-        .collect();
-    for _ in 0..2000 {
-        let mut sum = vec![0.0; nodes];
-        let mut weight = vec![0.0; nodes];
-        for edge in 0..edges {
-            let (a, b) = (
-                rows.ends[2 * edge] as usize,
-                rows.ends[2 * edge + 1] as usize,
-            );
-            let g = rows.conductances[edge];
-            sum[a] += g * volts[b];
-            sum[b] += g * volts[a];
-            weight[a] += g;
-            weight[b] += g;
-        }
-        for node in (0..nodes).filter(|&node| y(node) != top && y(node) != bottom) {
-            volts[node] = sum[node] / weight[node];
+    let mut head = build(settings, &[], outlines, table)?;
+    for id in 0..head.count {
+        if table[SLOT * id + Y0] == 16 {
+            head = refine(table, head, id)?;
         }
     }
-    volts
+    let quarter = head.count - 4;
+    head = refine(table, head, quarter)?;
+    balance(table, head)
+}
+
+/// The cell of the most power, and how many watts it has.
+fn hottest(net: Net, volts: &[f64]) -> Result<(usize, f64), Refusal> {
+    let mut watts = vec![0.0; net.sheets.len()];
+    power(net, volts, &mut watts)?;
+    let most = |a: (usize, f64), b: (usize, f64)| if b.1 > a.1 { b } else { a };
+    Ok(watts.into_iter().enumerate().fold((0, 0.0), most))
 }

@@ -1,7 +1,20 @@
 //! Safe calls of leafmesh, a proved quadtree mesher: from copper outlines to a net of conductances.
 //!
-//! Coordinates are whole ticks of 2^-38 m. Every call takes any input and answers `Ok`, or `Err` with a
-//! [`Refusal`]; a refused call changes nothing that it was lent. No call allocates.
+//! Coordinates are whole ticks of 2^-38 m, so that a board lies within a quarter of a metre each way; [`Pitch`] takes
+//! millimetres there and back. Sheet resistance is in ohms a square, potential in volts, power in watts, conductance in
+//! siemens. Every call takes any input and answers `Ok`, or `Err` with a [`Refusal`]; a refused call changes
+//! nothing that it was lent. No call allocates or keeps anything, so any number of threads may call at once.
+//! [`limits`] has the ranges, [`columns`] the places of numbers in a slot and in a node.
+//!
+//! **The net's conductances are the original's, bit for bit, and not the copper's at a change of level**, beside other
+//! copper of the layer and where two polygons of a component meet: see docs/CONDUCTANCES.md. [`solving`] shows
+//! how to solve on the cells instead.
+//!
+//! **Where bands of a ring get cells of unequal width the net is wrong**, and no check tells; [`sides::loose`]
+//! does. It can't happen where all ring coordinates are multiples of the base cell, which is what a [`Pitch`]
+//! gives.
+//!
+//! [`Mesh`] holds a table, its polygons and the calls in one; the functions of this page are the library's own.
 //!
 //! The build links `libleafmesh.a` from target/staticlib under the repository's root, where `rt staticlib
 //! leafmesh` leaves it, or from the folder that `LEAFMESH_LIBRARY` names.
@@ -32,9 +45,19 @@
 
 pub mod drawing;
 pub mod ffi;
+mod mesh;
+mod pitch;
+pub mod printed;
 mod refusal;
+pub mod sides;
+pub mod solving;
 pub mod text;
+#[doc(hidden)]
+pub mod tool;
+pub mod vtk;
 
+pub use mesh::{Mesh, OwnedNet, Polygons};
+pub use pitch::{Misfit, Pitch, Why};
 use refusal::{judged, judged_net, judged_read};
 pub use refusal::{Reason, Refusal};
 
@@ -53,6 +76,33 @@ pub const NO_CELL: i64 = 4_294_967_295;
 /// How many numbers a slot of a table has: x0, y0, x1, y1, level, parent, first child, polygon.
 pub const SLOT: usize = 8;
 
+pub mod limits;
+
+pub use limits::{COORDINATE, MAX_LEVEL, SLOTS};
+
+/// The places of numbers: in a slot of a table, in a node of a net (its row has four numbers a node), and the
+/// corners of a cell (four nodes a cell).
+pub mod columns {
+    pub const X0: usize = 0;
+    pub const Y0: usize = 1;
+    pub const X1: usize = 2;
+    pub const Y1: usize = 3;
+    pub const LEVEL: usize = 4;
+    pub const PARENT: usize = 5;
+    pub const FIRST_CHILD: usize = 6;
+    pub const POLYGON: usize = 7;
+
+    pub const NODE_LAYER: usize = 0;
+    pub const NODE_COMPONENT: usize = 1;
+    pub const NODE_X: usize = 2;
+    pub const NODE_Y: usize = 3;
+
+    pub const SW: usize = 0;
+    pub const SE: usize = 1;
+    pub const NE: usize = 2;
+    pub const NW: usize = 3;
+}
+
 /// What a table has beside its row: how many cells, and how deep they may be split.
 #[derive(Clone, Copy, Debug, PartialEq, Eq)]
 pub struct Head {
@@ -69,8 +119,8 @@ pub struct Settings {
     pub target: u64,
 }
 
-/// Polygons by rows: layer, component, sheet resistance and number of points of each, and all points
-/// one polygon after another.
+/// Polygons by rows: layer, component, sheet resistance in ohms a square and number of points of each, and all
+/// points, one polygon after another. [`Polygons`] holds such rows.
 #[derive(Clone, Copy, Debug)]
 pub struct Outlines<'a> {
     pub layers: &'a [u16],
@@ -95,10 +145,11 @@ pub struct NetRows {
     pub nodes: Vec<i64>,
     /// Two nodes an edge.
     pub ends: Vec<u64>,
+    /// In siemens; not the copper's everywhere (docs/CONDUCTANCES.md).
     pub conductances: Vec<f64>,
-    /// The nodes SW, SE, NE, NW of each cell.
+    /// The nodes SW, SE, NE, NW of each cell. Cell i is [`leaf_order`]'s i-th leaf.
     pub corners: Vec<u64>,
-    /// The sheet resistance of each cell.
+    /// Ohms a square of each cell.
     pub sheets: Vec<f64>,
     pub work: Vec<u64>,
 }
@@ -155,6 +206,10 @@ pub struct Hanging {
 /// assert_eq!(leafmesh::contact([0, 0, 4, 4], [4, 3, 8, 8]), Ok(true));
 /// assert_eq!(leafmesh::contact([0, 0, 4, 4], [4, 4, 8, 8]), Ok(false));
 /// ```
+///
+/// # Errors
+///
+/// [`Reason::OutOfRange`] for a coordinate out of range or a side that isn't positive.
 pub fn contact(a: Rect, b: Rect) -> Result<bool, Refusal> {
     let outcome = unsafe { ffi::leafmesh_contact(a[0], a[1], a[2], a[3], b[0], b[1], b[2], b[3]) };
     Ok(judged(outcome)? == 1)
@@ -168,6 +223,10 @@ pub fn contact(a: Rect, b: Rect) -> Result<bool, Refusal> {
 /// assert_eq!(leafmesh::strips(&ring, &mut out), Ok(2));
 /// assert_eq!(out[..2], [[0, 0, 8, 4], [0, 4, 4, 8]]);
 /// ```
+///
+/// # Errors
+///
+/// [`Reason::OutOfRange`] (more than 1,024 points among it), [`Reason::Slanted`], [`Reason::NoRoom`].
 pub fn strips(ring: &[Point], out: &mut [Rect]) -> Result<usize, Refusal> {
     let (to, room) = (out.as_mut_ptr(), out.len());
     let outcome = unsafe { ffi::leafmesh_strips(ring.as_ptr(), ring.len(), to, room) };
@@ -176,6 +235,11 @@ pub fn strips(ring: &[Point], out: &mut [Rect]) -> Result<usize, Refusal> {
 
 /// The level-0 table of a board. `list` gives some layers a cell size of their own (0: the target),
 /// with rising layers. All slots that are not filled become zero.
+///
+/// # Errors
+///
+/// [`Reason::BadTable`] for rows that don't fit together, [`Reason::OutOfRange`], [`Reason::Slanted`],
+/// [`Reason::UnevenCell`] and [`Reason::NoRoom`], in that order.
 pub fn build(
     settings: Settings,
     list: &[[u64; 2]],
@@ -210,6 +274,10 @@ pub fn build(
 }
 
 /// How many leaves a table has.
+///
+/// # Errors
+///
+/// [`Reason::BadTable`].
 pub fn leaf_count(table: &[i64], head: Head) -> Result<usize, Refusal> {
     let outcome = unsafe {
         ffi::leafmesh_leaf_count(table.as_ptr(), table.len(), head.count, head.max_level)
@@ -218,6 +286,10 @@ pub fn leaf_count(table: &[i64], head: Head) -> Result<usize, Refusal> {
 }
 
 /// The ids of the leaves, rising, into the front of `out`. Answers how many.
+///
+/// # Errors
+///
+/// [`Reason::BadTable`], [`Reason::NoRoom`].
 pub fn leaves(table: &[i64], head: Head, out: &mut [u64]) -> Result<usize, Refusal> {
     let (to, room) = (out.as_mut_ptr(), out.len());
     let outcome = unsafe {
@@ -233,7 +305,12 @@ pub fn leaves(table: &[i64], head: Head, out: &mut [u64]) -> Result<usize, Refus
     Ok(judged(outcome)? as usize)
 }
 
-/// The same by polygon, then id.
+/// The ids of the leaves by polygon, then id, into the front of `out`. Answers how many. Cell i of the net is the
+/// i-th of these leaves.
+///
+/// # Errors
+///
+/// [`Reason::BadTable`], [`Reason::NoRoom`].
 pub fn leaf_order(table: &[i64], head: Head, out: &mut [u64]) -> Result<usize, Refusal> {
     let (to, room) = (out.as_mut_ptr(), out.len());
     let outcome = unsafe {
@@ -250,6 +327,10 @@ pub fn leaf_order(table: &[i64], head: Head, out: &mut [u64]) -> Result<usize, R
 }
 
 /// Splits the leaf with this id into four.
+///
+/// # Errors
+///
+/// [`Reason::BadTable`], [`Reason::NoSuchCell`], [`Reason::AlreadySplit`], [`Reason::FinestLevel`], [`Reason::NoRoom`].
 pub fn refine(table: &mut [i64], head: Head, id: usize) -> Result<Head, Refusal> {
     let (row, length) = (table.as_mut_ptr(), table.len());
     let outcome = unsafe { ffi::leafmesh_refine(row, length, head.count, head.max_level, id) };
@@ -260,7 +341,12 @@ pub fn refine(table: &mut [i64], head: Head, id: usize) -> Result<Head, Refusal>
 }
 
 /// Splits leaves until no two that share an edge differ by more than one level, and no more than that
-/// needs. Answers the number of splits and the new head.
+/// needs. Answers the number of splits and the new head. Layers play no part: what is split on one splits what lies
+/// on its sides on the others.
+///
+/// # Errors
+///
+/// [`Reason::BadTable`], [`Reason::NoRoom`].
 pub fn balance(table: &mut [i64], head: Head) -> Result<(usize, Head), Refusal> {
     let (row, length) = (table.as_mut_ptr(), table.len());
     let outcome = unsafe { ffi::leafmesh_balance(row, length, head.count, head.max_level) };
@@ -268,6 +354,10 @@ pub fn balance(table: &mut [i64], head: Head) -> Result<(usize, Head), Refusal> 
 }
 
 /// The same until no two leaves that share an edge differ in level.
+///
+/// # Errors
+///
+/// [`Reason::BadTable`], [`Reason::NoRoom`].
 pub fn conform(table: &mut [i64], head: Head) -> Result<(usize, Head), Refusal> {
     let (row, length) = (table.as_mut_ptr(), table.len());
     let outcome = unsafe { ffi::leafmesh_conform(row, length, head.count, head.max_level) };
@@ -286,7 +376,12 @@ fn grown(splits: u64, head: Head) -> (usize, Head) {
 }
 
 /// The net of a table's leaves into the front of the rows; the work room is zero afterwards. Of the
-/// outlines layers, components and sheets are read.
+/// outlines layers, components and sheets are read. Cell i is [`leaf_order`]'s i-th leaf.
+///
+/// # Errors
+///
+/// [`Reason::BadTable`], [`Reason::OutOfRange`] for a sheet resistance or more than 256 polygons,
+/// [`Reason::NoRoom`].
 pub fn network(
     table: &[i64],
     head: Head,
@@ -322,7 +417,14 @@ pub fn network(
     judged_net(outcome)
 }
 
-/// The power of each cell of a net, from the potential of each node, into the front of `answers`.
+/// The power of each cell of a net in watts, from the potential of each node in volts, into the front of `answers`.
+/// Cell i is [`leaf_order`]'s i-th leaf. With its area A in square metres a cell of power P carries, on average, a
+/// sheet current of J = sqrt(P / (A · r_sheet)) amperes a metre.
+///
+/// # Errors
+///
+/// [`Reason::BadTable`] for a bad net, [`Reason::OutOfRange`] for potentials that aren't as many as the nodes or
+/// past 2^20 V, [`Reason::NoRoom`].
 pub fn power(net: Net, potentials: &[f64], answers: &mut [f64]) -> Result<(), Refusal> {
     let outcome = unsafe {
         ffi::leafmesh_power(
@@ -347,6 +449,10 @@ pub fn power(net: Net, potentials: &[f64], answers: &mut [f64]) -> Result<(), Re
 
 /// The first leaf edge whose middle node lacks a half, nodes being found by their place alone. `work` may
 /// be empty; with enough of it the check takes n log n steps, and it is zero afterwards.
+///
+/// # Errors
+///
+/// [`Reason::BadTable`].
 pub fn check_network_conforming(
     table: &[i64],
     head: Head,
@@ -377,6 +483,10 @@ pub fn check_network_conforming(
 }
 
 /// The same with nodes of the leaf's own layer and component.
+///
+/// # Errors
+///
+/// [`Reason::BadTable`].
 pub fn check_by_layer(
     table: &[i64],
     head: Head,
@@ -438,6 +548,10 @@ impl Board {
 }
 
 /// A board record. Rooms are as large as a record of this length could need.
+///
+/// # Errors
+///
+/// [`Reason::WrongVersion`], [`Reason::WrongLength`], [`Reason::OutOfRange`], each with an offset.
 pub fn read(bytes: &[u8]) -> Result<Board, Refusal> {
     let n = bytes.len();
     let mut board = Board {
@@ -477,6 +591,12 @@ pub fn read(bytes: &[u8]) -> Result<Board, Refusal> {
 }
 
 /// The record of a board, from the start of `out`. Answers its length.
+///
+/// # Errors
+///
+/// [`Reason::BadTable`] for polygon rows that don't fit together, [`Reason::OutOfRange`] for too many rows,
+/// [`Reason::NoRoom`]. Values are not judged: one out of range is written by its low bytes, so read the record
+/// back and compare, as [`text::pack`] does.
 pub fn write(board: &Board, out: &mut [u8]) -> Result<usize, Refusal> {
     let outcome = unsafe {
         ffi::leafmesh_write(

@@ -13,52 +13,70 @@ pub struct Refusal {
     pub place: usize,
 }
 
-/// The ten refusals, by their numbers.
+/// Why, by the refusal's number. A later library may have more of them.
 #[derive(Clone, Copy, Debug, PartialEq, Eq, PartialOrd, Ord)]
+#[non_exhaustive]
 pub enum Reason {
-    WrongVersion = 1,
-    WrongLength = 2,
-    OutOfRange = 3,
-    Slanted = 4,
-    UnevenCell = 5,
-    NoRoom = 6,
-    BadTable = 7,
-    NoSuchCell = 8,
-    AlreadySplit = 9,
-    FinestLevel = 10,
+    WrongVersion,
+    WrongLength,
+    OutOfRange,
+    Slanted,
+    UnevenCell,
+    NoRoom,
+    BadTable,
+    NoSuchCell,
+    AlreadySplit,
+    FinestLevel,
+    /// A number that this crate doesn't know.
+    Other(u64),
 }
 
-impl Reason {
-    const ALL: [Reason; 10] = [
-        Reason::WrongVersion,
+/// The reasons that have words, from number 1 on.
+const KNOWN: [(Reason, &str); 10] = [
+    (Reason::WrongVersion, "the record is not of version 1"),
+    (
         Reason::WrongLength,
-        Reason::OutOfRange,
+        "the record is cut short, too long, or gives a wrong length",
+    ),
+    (Reason::OutOfRange, "a value is out of range"),
+    (
         Reason::Slanted,
+        "two neighbouring points of a ring differ in both x and y",
+    ),
+    (
         Reason::UnevenCell,
-        Reason::NoRoom,
+        "a base cell's side is no multiple of 2^(max_level+1) ticks",
+    ),
+    (Reason::NoRoom, "a lent row is too short"),
+    (
         Reason::BadTable,
-        Reason::NoSuchCell,
-        Reason::AlreadySplit,
-        Reason::FinestLevel,
-    ];
+        "the table or net is not well formed, or rows do not fit together",
+    ),
+    (Reason::NoSuchCell, "there is no cell with this id"),
+    (Reason::AlreadySplit, "the cell is split already"),
+    (Reason::FinestLevel, "the cell is at the finest level"),
+];
 
-    pub fn number(self) -> u64 {
-        self as u64
+impl Reason {
+    fn of_number(number: u64) -> Self {
+        let known = number.checked_sub(1).and_then(|at| KNOWN.get(at as usize));
+        known.map_or(Reason::Other(number), |entry| entry.0)
     }
 
-    fn words(self) -> &'static str {
+    /// As the library and leafnet give it.
+    pub fn number(self) -> u64 {
         match self {
-            Reason::WrongVersion => "the record is not of version 1",
-            Reason::WrongLength => "the record is cut short, too long, or gives a wrong length",
-            Reason::OutOfRange => "a value is out of range",
-            Reason::Slanted => "two neighbouring points of a ring differ in both x and y",
-            Reason::UnevenCell => "a base cell's side is no multiple of 2^(max_level+1) ticks",
-            Reason::NoRoom => "a lent row is too short",
-            Reason::BadTable => "the table or net is not well formed, or rows do not fit together",
-            Reason::NoSuchCell => "there is no cell with this id",
-            Reason::AlreadySplit => "the cell is split already",
-            Reason::FinestLevel => "the cell is at the finest level",
+            Reason::Other(number) => number,
+            known => KNOWN
+                .iter()
+                .position(|entry| entry.0 == known)
+                .map_or(0, |at| at as u64 + 1),
         }
+    }
+
+    pub fn words(self) -> &'static str {
+        let known = KNOWN.iter().find(|entry| entry.0 == self);
+        known.map_or("a refusal of a later version", |entry| entry.1)
     }
 }
 
@@ -80,7 +98,7 @@ fn refused(number: u64, place: u64) -> Result<(), Refusal> {
     match number {
         0 => Ok(()),
         n => Err(Refusal {
-            reason: Reason::ALL[n as usize - 1],
+            reason: Reason::of_number(n),
             place: place as usize,
         }),
     }
@@ -113,4 +131,34 @@ pub fn judged_check(outcome: CheckOutcome) -> Result<Option<Hanging>, Refusal> {
         to: outcome.to as usize,
     };
     Ok((outcome.broken == 1).then_some(hanging))
+}
+
+#[cfg(test)]
+mod tests {
+    use super::*;
+
+    #[test]
+    fn numbers_there_and_back() {
+        for number in 1..=10 {
+            let reason = Reason::of_number(number);
+            assert_eq!(
+                (reason.number(), reason),
+                (number, KNOWN[number as usize - 1].0)
+            );
+        }
+        for number in [11, 255, u64::MAX] {
+            let outcome = Outcome {
+                number,
+                place: 7,
+                value: 0,
+            };
+            let refusal = judged(outcome).expect_err("a refusal");
+            assert_eq!(refusal.reason, Reason::Other(number));
+            assert_eq!(
+                refusal.to_string(),
+                format!("refused {number} 7: a refusal of a later version")
+            );
+        }
+        assert_eq!(judged(Outcome::default()), Ok(0));
+    }
 }

@@ -194,3 +194,43 @@ fn one_cell_of_one_ohm() {
     assert_eq!(watts, [1.0]);
     assert_eq!(rows.conductances[..4], [0.5; 4]);
 }
+
+/// As the header says.
+#[test]
+fn calls_need_little_stack() {
+    let ring = [[0, 0], [512, 0], [512, 512], [0, 512]];
+    let square = Outlines {
+        points: &ring,
+        ..outlines()
+    };
+    let settings = Settings {
+        max_level: 3,
+        cap: 256,
+        target: 16,
+    };
+    let mut table = vec![0; SLOT * SLOTS];
+    let (mut rows, mut order) = (NetRows::for_leaves(1_100), vec![0; 1_100]);
+    let (mut work, mut strips_room) = (vec![0; 1 << 16], [[0; 4]; 1]);
+    let mut calls = || -> Result<(), Refusal> {
+        strips(square.points, &mut strips_room)?;
+        let head = build(settings, &[], square, &mut table)?;
+        let head = refine(&mut table, head, 500)?;
+        let head = refine(&mut table, head, head.count - 1)?;
+        let (_, head) = balance(&mut table, head)?;
+        leaf_order(&table, head, &mut order)?;
+        let counts = network(&table, head, square, &mut rows)?;
+        let net = rows.net(counts);
+        assert_eq!(
+            check_network_conforming(&table, head, net, &mut work)?,
+            None
+        );
+        assert_eq!(check_by_layer(&table, head, net, square, &mut work)?, None);
+        Ok(())
+    };
+    std::thread::scope(|scope| {
+        let small = std::thread::Builder::new().stack_size(64 << 10);
+        small
+            .spawn_scoped(scope, || calls().expect("accepted"))
+            .expect("a thread");
+    });
+}

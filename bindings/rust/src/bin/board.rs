@@ -1,45 +1,43 @@
-//! `board pack` makes a record of a board's text, `board unpack` the text of a record: standard input to standard output.
+//! Standard input to standard output: `board pack` makes a record of a board's text, `board unpack` the text of a
+//! record. Of either, `board net` prints what leafnet prints, with no bound of 64 slots, and `board vtk` a file for
+//! ParaView.
 
-use leafmesh::{read, record_length, text, write};
+use leafmesh::{printed, read, text, tool, vtk, Board, Mesh};
 use std::env;
-use std::io::{self, Read, Write};
 use std::process::ExitCode;
 
+const USAGE: &str = "usage: board pack|unpack|net|vtk < input > output";
+
 fn main() -> ExitCode {
-    match run(&env::args().skip(1).collect::<Vec<_>>()) {
-        Ok(()) => ExitCode::SUCCESS,
-        Err(why) => {
-            eprintln!("{why}");
-            ExitCode::FAILURE
+    let words: Vec<String> = env::args().skip(1).collect();
+    tool::end(run(&words))
+}
+
+fn run(words: &[String]) -> Result<Vec<u8>, String> {
+    match words {
+        [word] if word == "pack" => {
+            text::pack(&tool::text(tool::input()?)?).map_err(|why| why.to_string())
         }
+        [word] if word == "unpack" => unpack(&tool::input()?),
+        [word] if word == "net" => in_text(&tool::board(tool::input()?)?),
+        [word] if word == "vtk" => in_vtk(&tool::board(tool::input()?)?),
+        _ => Err(USAGE.to_string()),
     }
 }
 
-fn run(words: &[String]) -> Result<(), String> {
-    let mut input = Vec::new();
-    io::stdin()
-        .read_to_end(&mut input)
-        .map_err(|e| e.to_string())?;
-    let output = match words {
-        [word] if word == "pack" => pack(input)?,
-        [word] if word == "unpack" => unpack(&input)?,
-        _ => return Err("usage: board pack|unpack < input > output".to_string()),
-    };
-    io::stdout().write_all(&output).map_err(|e| e.to_string())
-}
-
-/// The record is read again, so that a value out of range is told here and not later.
-fn pack(input: Vec<u8>) -> Result<Vec<u8>, String> {
-    let words = String::from_utf8(input).map_err(|e| e.to_string())?;
-    let board = text::parse(&words).map_err(|e| e.to_string())?;
-    let mut record = vec![0; record_length(&board)];
-    let length = write(&board, &mut record).map_err(|e| e.to_string())?;
-    record.truncate(length);
-    read(&record).map_err(|e| e.to_string())?;
-    Ok(record)
-}
-
-fn unpack(input: &[u8]) -> Result<Vec<u8>, String> {
-    let board = read(input).map_err(|e| e.to_string())?;
+fn unpack(record: &[u8]) -> Result<Vec<u8>, String> {
+    let board = read(record).map_err(|why| why.to_string())?;
     Ok(text::show(&board).into_bytes())
+}
+
+fn in_text(board: &Board) -> Result<Vec<u8>, String> {
+    let text = printed::show(board).map_err(|why| why.to_string())?;
+    Ok(text.into_bytes())
+}
+
+fn in_vtk(board: &Board) -> Result<Vec<u8>, String> {
+    let mesh = Mesh::of_board(board).map_err(|why| why.to_string())?;
+    let net = mesh.net().map_err(|why| why.to_string())?;
+    let file = vtk::of_mesh(&mesh, net.net(), &[]).map_err(|why| why.to_string())?;
+    Ok(file.into_bytes())
 }
