@@ -1,5 +1,5 @@
 -- Laws of text put behind text. Assumes nothing.
-use Prim.Native.Nat.{ℕ, suc, _+_, _<_, _≤_}
+use Prim.Native.Nat.{ℕ, zero, suc, _+_, _<_, _≤_}
 use mathlib.Core.Path.{_≡_, refl, sym, ap, ap₂, subst, _∙_}
 use mathlib.Core.List.{List, [], _∷_, _++_, append-assoc, append-nil}
 use native.Mathlib.Nat.{add-zero, add-suc, suc-add}
@@ -11,6 +11,7 @@ use lib.Seq.{sets, sets-eq, length-sets, length-take-le, take-suc}
 use Rattle.io.specs.Counts.{Counts}
 use Rattle.io.proofs.Counting.{counts}
 use Rattle.lines.specs.Text.{newline, space, decimal, signed, numbers, line, edgeWord, named, written, Puts}
+use Rattle.lines.specs.Lines.{inTurn}
 
 -- stores behind stores
 sets-more : (l : List ℕ) (k : ℕ) (xs ys : List ℕ) → sets (sets l k xs) (k + length xs) ys ≡ sets l k (xs ++ ys)
@@ -52,25 +53,43 @@ unfolding numbers signed
 alone n = ap (λ l. space ∷ l) (sym (append-nil (decimal n)))
 
 -- a word and its first number, the others, and the end of the line
-pub lined : {a b c : ℕ} {x y z : List ℕ} (w word : List ℕ) (n : ℕ) (zs : List ℤ)
-    → Puts 0 (named word n) w a x → Puts a (numbers zs) x b y → Puts b (newline ∷ []) y c z → Puts 0 (line word (pos n ∷ zs)) w c z
+pub lined : {a b c : ℕ} {x y z : List ℕ} (at : ℕ) (w word : List ℕ) (n : ℕ) (zs : List ℤ)
+    → Puts at (named word n) w a x → Puts a (numbers zs) x b y → Puts b (newline ∷ []) y c z → Puts at (line word (pos n ∷ zs)) w c z
 unfolding numbers signed
-lined {a} {x = x} w word n zs p q r =
+lined {a} {x = x} at w word n zs p q r =
     let t = numbers zs ++ (newline ∷ []) in
-    join 0 w (named word n) t (line word (pos n ∷ zs)) (simp append-assoc) p (join a x (numbers zs) (newline ∷ []) t refl q r)
+    join at w (named word n) t (line word (pos n ∷ zs)) (simp append-assoc) p (join a x (numbers zs) (newline ∷ []) t refl q r)
 
 -- the same with a conductance behind the numbers
-pub edged : {a b c d : ℕ} {w x y z : List ℕ} (v : List ℕ) (from to : ℕ) (hex : List ℕ)
-    → Puts 0 (named edgeWord from) v a w → Puts a (space ∷ decimal to) w b x → Puts b (space ∷ hex) x c y → Puts c (newline ∷ []) y d z
-    → Puts 0 (edgeWord ++ (numbers (pos from ∷ pos to ∷ []) ++ (space ∷ hex ++ (newline ∷ [])))) v d z
+pub edged : {a b c d : ℕ} {w x y z : List ℕ} (at : ℕ) (v : List ℕ) (from to : ℕ) (hex : List ℕ)
+    → Puts at (named edgeWord from) v a w → Puts a (space ∷ decimal to) w b x → Puts b (space ∷ hex) x c y → Puts c (newline ∷ []) y d z
+    → Puts at (edgeWord ++ (numbers (pos from ∷ pos to ∷ []) ++ (space ∷ hex ++ (newline ∷ [])))) v d z
 unfolding numbers signed
-edged {a} {b} {w = w} {x = x} v from to hex p q r l =
+edged {a} {b} {w = w} {x = x} at v from to hex p q r l =
     let t = space ∷ hex ++ (newline ∷ []) in
     let u = (space ∷ decimal to) ++ t in
-    join 0 v (named edgeWord from) u (edgeWord ++ (numbers (pos from ∷ pos to ∷ []) ++ t)) (simp (append-assoc, append-nil)) p
+    join at v (named edgeWord from) u (edgeWord ++ (numbers (pos from ∷ pos to ∷ []) ++ t)) (simp (append-assoc, append-nil)) p
     (join a w (space ∷ decimal to) t u refl q (join b x (space ∷ hex) (newline ∷ []) t refl r l))
 
--- a line is a text at the row's start
+-- ---- line behind line
+
+-- none yet
+pub no-lines : (f : ℕ → List ℕ) (at : ℕ) (x : List ℕ) → Puts at (inTurn f 0) x at x
+unfolding inTurn
+no-lines f at x = (sym (add-zero at), refl)
+
+-- one line more
+pub one-line : {b d : ℕ} {y z : List ℕ} (f : ℕ → List ℕ) (i at : ℕ) (x : List ℕ) → Puts at (inTurn f i) x b y → Puts b (f i) y d z → Puts at (inTurn f (i + 1)) x d z
+unfolding inTurn
+one-line f i at x p q = join at x (inTurn f i) (f i) (inTurn f (i + 1)) (ap (inTurn f) (sym (add-one i))) p q
+
+-- lines that are the same
+pub turn-same : (f g : ℕ → List ℕ) (n : ℕ) → ((i : ℕ) → i < n → f i ≡ g i) → inTurn f n ≡ inTurn g n
+unfolding inTurn
+turn-same f g zero h = refl
+turn-same f g (suc n) h = ap₂ (λ x y. x ++ y) (turn-same f g n (λ i k. h i (omega arith))) (h n (omega arith))
+
+-- a text at the row's start
 pub lies : {r : ℕ} {after : List ℕ} (row text : List ℕ) → r ≤ length row → Puts 0 text row r after → Counts r after × ((r ≡ length text) × (after ≡ written text row))
 unfolding written
 lies {r} {after} row text h p =

@@ -1,2 +1,3 @@
--- What a line of `leafnet` says.
+-- What a line of `leafnet` says, and what all of a kind say.
 pub mod Text
+pub mod Lines

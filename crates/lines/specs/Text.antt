@@ -10,9 +10,21 @@ use lib.IntN.{ℤ, pos, negsuc}
 use lib.Ieee.{Float, binary64, toBits}
 use Rattle.io.specs.Digits.{digits}
 
--- the bytes that a line has room in: no line is longer
-abbrev pub room : ℕ
-room = 256
+-- no line of its kind is longer: a number has at most 20 digits, and a signed one its minus
+abbrev pub totalsMost : ℕ
+totalsMost = 137
+
+abbrev pub leafMost : ℕ
+leafMost = 158
+
+abbrev pub nodeMost : ℕ
+nodeMost = 114
+
+abbrev pub edgeMost : ℕ
+edgeMost = 64
+
+abbrev pub refusedMost : ℕ
+refusedMost = 50
 
 -- a text at the start of a row: behind it the row is as it was
 unfoldable pub written : List ℕ → List ℕ → List ℕ

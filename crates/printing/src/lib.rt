@@ -1,9 +1,14 @@
-// What `leafnet` writes for a record: totals, leaves, nodes, edges; or `refused` with a number and a place.
-//
-// The work is done by two proved calls on slices, `mesh::mesh` and `network::network`, and each line's text by `lines`. Here rows are lent, and
-// lines are picked and written.
-use libc::STDOUT_FILENO;
-use lines::ROOM;
+// What `leafnet` writes for a record, as text in a lent row: totals, leaves, nodes, edges; or `refused` with a number and
+// a place. Only reading and writing are left to the program.
+ghost use mathlib.Core.Path.{_≡_};
+ghost use Prim.Native.Nat.{_≤_};
+ghost use lib.ListN.{length};
+ghost use Rattle.io.specs.Counts.{Counts as Fits};
+ghost use Rattle.refusals.specs.Said.{refusal};
+ghost use Rattle.lines.specs.Text.{Puts, written, refusedMost};
+ghost use Rattle.network.specs.Says.{polygons};
+ghost use Rattle.printing.specs.Output.{saidText, tableText, outputText};
+ghost use Rattle.printing.specs.Lent.{TableRows, NetRows, rowsText};
 use mesh::Meshed;
 use mesh::Totals;
 use network::Netted;
@@ -11,161 +16,100 @@ use refusals::Refusal;
 use table::Head;
 use unweighted::Counts;
 
-fn refuse(why: Refusal) {
+// No text is longer: the totals, 64 leaves, 256 nodes and 512 edges.
+pub const TEXT: usize = 72201;
+
+fn refuse(out: &mut [u8], why: Refusal) -> usize
+    requires { ⌜ refusedMost ≤ length (now out) ⌝ }
+    ensures { λ r. ⌜ r ≤ length (now (out .entry)) ⌝ }
+    ensures { λ r. ⌜ Puts 0 (saidText (refusal why)) (now (out .entry)) r (now (out .exit)) ⌝ }
+{
     let code = refusals::code_of(why);
-    let mut out = [0u8; ROOM];
-    let n = lines::refused_line(code.number, code.place, &mut out);
-    io::write_all(STDOUT_FILENO, &out[..n]);
+    lines::refused_line(out, code.number, code.place)
 }
 
-fn print_totals(t: Totals, c: Counts) -> bool {
-    let mut out = [0u8; ROOM];
-    let n = lines::totals_line(t.count, t.leaves, c.nodes, c.edges, t.splits, &mut out);
-    io::write_all(STDOUT_FILENO, &out[..n])
+// The lines of a table and its net, from rows that hold both.
+fn put_lines(
+    out: &mut [u8],
+    t: Totals,
+    c: Counts,
+    table: &[i64],
+    order: &[u64],
+    nodes: &[i64],
+    ends: &[u64],
+    gs: &[f64],
+) -> usize
+    requires { ⌜ TableRows t (now out) (now table) (now order) ⌝ }
+    requires { ⌜ NetRows c (now nodes) (now ends) (now gs) ⌝ }
+    ensures { λ r. ⌜ r ≤ length (now (out .entry)) ⌝ }
+    ensures { λ r. ⌜ Puts 0 (rowsText t c (now (table .entry)) (now (order .entry)) (now (nodes .entry)) (now (ends .entry))
+        (now (gs .entry))) (now (out .entry)) r (now (out .exit)) ⌝ }
+{
+    let totals = lines::totals_line(out, t.count, t.leaves, c.nodes, c.edges, t.splits);
+    let leaves = lines::all::leaf_lines(out, totals, table, order, t.leaves);
+    let joined = lines::all::node_lines(out, leaves, nodes, c.nodes);
+    lines::all::edge_lines(out, joined, ends, gs, c.edges)
 }
 
-// The cell with this id; nothing where the table has no such slot.
-fn print_leaf(table: &[i64], id: u64) -> bool {
-    let i = id as usize;
-    if table.len() / 8 <= i {
-        return false;
-    }
-    let b = i * 8;
-    let mut out = [0u8; ROOM];
-    let n = lines::leaf_line(
-        id,
-        table[b + 7],
-        table[b + 4],
-        table[b],
-        table[b + 1],
-        table[b + 2],
-        table[b + 3],
-        &mut out,
-    );
-    io::write_all(STDOUT_FILENO, &out[..n])
-}
-
-fn print_leaves(table: &[i64], order: &[u64], count: usize) -> bool {
-    let mut v = 0usize;
-    while v < count {
-        if order.len() <= v {
-            return false;
-        }
-        if !print_leaf(table, order[v]) {
-            return false;
-        }
-        v += 1;
-    }
-    true
-}
-
-fn print_node(nodes: &[i64], i: usize) -> bool {
-    if nodes.len() / 4 <= i {
-        return false;
-    }
-    let b = i * 4;
-    let mut out = [0u8; ROOM];
-    let n = lines::node_line(
-        i as u64,
-        nodes[b],
-        nodes[b + 1],
-        nodes[b + 2],
-        nodes[b + 3],
-        &mut out,
-    );
-    io::write_all(STDOUT_FILENO, &out[..n])
-}
-
-fn print_nodes(nodes: &[i64], count: usize) -> bool {
-    let mut i = 0usize;
-    while i < count {
-        if !print_node(nodes, i) {
-            return false;
-        }
-        i += 1;
-    }
-    true
-}
-
-fn print_edge(ends: &[u64], conductances: &[f64], j: usize) -> bool {
-    if conductances.len() <= j {
-        return false;
-    }
-    if ends.len() / 2 <= j {
-        return false;
-    }
-    let b = j * 2;
-    let mut out = [0u8; ROOM];
-    let n = lines::edge_line(ends[b], ends[b + 1], conductances[j], &mut out);
-    io::write_all(STDOUT_FILENO, &out[..n])
-}
-
-fn print_edges(ends: &[u64], conductances: &[f64], count: usize) -> bool {
-    let mut j = 0usize;
-    while j < count {
-        if !print_edge(ends, conductances, j) {
-            return false;
-        }
-        j += 1;
-    }
-    true
-}
-
-// The net of a balanced table, and all lines.
-fn print_mesh(
+// The text of a balanced table: its net is made here.
+fn table_text(
+    out: &mut [u8],
+    t: Totals,
     table: &[i64],
     order: &[u64],
     layers: &[u16],
     components: &[u32],
     sheets: &[f64],
-    t: Totals,
-) {
-    let head = Head {
-        count: t.count,
-        max_level: t.max_level,
-    };
+) -> usize
+    requires { ⌜ TableRows t (now out) (now table) (now order) ⌝ }
+    ensures { λ r. ⌜ r ≤ length (now (out .entry)) ⌝ }
+    ensures { λ r. ⌜ Puts 0 (tableText (t .count) (t .«max_level») (t .splits) (now (table .entry)) (now (order .entry))
+        (polygons (now (layers .entry)) (now (components .entry)) (now (sheets .entry))))
+        (now (out .entry)) r (now (out .exit)) ⌝ }
+{
     let mut nodes = [0i64; 1024];
     let mut ends = [0u64; 1024];
-    let mut conductances = [0f64; 512];
+    let mut gs = [0f64; 512];
     let mut corners = [0u64; 256];
     let mut cells = [0f64; 64];
     let mut work = [0u64; 4096];
     let net = network::network(
         table,
-        head,
+        Head {
+            count: t.count,
+            max_level: t.max_level,
+        },
         layers,
         components,
         sheets,
         &mut nodes,
         &mut ends,
-        &mut conductances,
+        &mut gs,
         &mut corners,
         &mut cells,
         &mut work,
     );
     match net {
-        Netted::Refused(why) => refuse(why),
-        Netted::Done(c) => {
-            if print_totals(t, c) {
-                if print_leaves(table, order, t.leaves) {
-                    if print_nodes(&nodes, c.nodes) {
-                        print_edges(&ends, &conductances, c.edges);
-                    }
-                }
-            }
-        }
+        Netted::Refused(why) => refuse(out, why),
+        Netted::Done(c) => put_lines(out, t, c, table, order, &nodes, &ends, &gs),
     }
 }
 
-// All that is written for a record.
-pub fn print(record: &[u8]) {
+// All that is written for a record, at the front of the row, and how many bytes that is. Behind it the row is as it
+// was.
+pub fn text(bytes: &[u8], out: &mut [u8; TEXT]) -> usize
+    ensures { λ r. ⌜ Fits r (now (out .exit)) ⌝ }
+    ensures { λ r. ⌜ r ≡ length (outputText (now (bytes .entry))) ⌝ }
+    ensures { λ r. ⌜ now (out .exit) ≡ written (outputText (now (bytes .entry))) (now (out .entry)) ⌝ }
+{
+    let row: &mut [u8] = out;
     let mut table = [0i64; 512];
     let mut order = [0u64; 64];
     let mut layers = [0u16; 256];
     let mut components = [0u32; 256];
     let mut sheets = [0f64; 256];
     let answer = mesh::mesh(
-        record,
+        bytes,
         &mut table,
         &mut order,
         &mut layers,
@@ -173,19 +117,19 @@ pub fn print(record: &[u8]) {
         &mut sheets,
     );
     match answer {
-        Meshed::Refused(why) => refuse(why),
+        Meshed::Refused(why) => refuse(row, why),
         Meshed::Done(t) => {
+            let l = t.leaves;
             let p = t.polygons;
-            if p <= 256 {
-                print_mesh(
-                    &table,
-                    &order,
-                    &layers[..p],
-                    &components[..p],
-                    &sheets[..p],
-                    t,
-                );
-            }
+            table_text(
+                row,
+                t,
+                &table,
+                &order[..l],
+                &layers[..p],
+                &components[..p],
+                &sheets[..p],
+            )
         }
     }
 }

@@ -2,12 +2,19 @@
 //
 // `oracle/replay_boards.sh 300 1` made the 300 records in `stdin` (seed 1) and had the original, not this port, write `stdout`.
 use libc::STDIN_FILENO;
+use libc::STDOUT_FILENO;
 
 // Four bytes, the highest first.
 fn number(a: u8, b: u8, c: u8, d: u8) -> usize {
     let high = a as usize * 256 + b as usize;
     let low = c as usize * 256 + d as usize;
     high * 65536 + low
+}
+
+fn print(record: &[u8]) {
+    let mut out = [0u8; printing::TEXT];
+    let n = printing::text(record, &mut out);
+    io::write_all(STDOUT_FILENO, &out[..n]);
 }
 
 // Ends at the last whole record.
@@ -20,7 +27,7 @@ fn replay(bytes: &[u8]) {
             return;
         }
         let to = from + length;
-        printing::print(&bytes[from..to]);
+        print(&bytes[from..to]);
         at = to;
     }
 }

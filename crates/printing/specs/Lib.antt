@@ -1,0 +1,3 @@
+-- The text of a record.
+pub mod Output
+pub mod Lent
