@@ -81,3 +81,12 @@ readSaid (R.Refused x) = refusal x
 abbrev pub says : Out Board → Said
 says (value b at) = accepted (numbers (b .settings) (countsOf b))
 says (stop x) = refusal x
+
+-- a field by its number and place
+abbrev pub fieldSaid : Field → Said
+fieldSaid (F.Value v) = accepted (v ∷ [])
+fieldSaid (F.Refused x) = refusal x
+
+abbrev pub fieldSays : Out ℕ → Said
+fieldSays (value v at) = accepted (v ∷ [])
+fieldSays (stop x) = refusal x

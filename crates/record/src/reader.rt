@@ -5,7 +5,7 @@
 ghost use mathlib.Core.Path.{_≡_};
 ghost use Prim.Native.Nat.{_+_, _≤_};
 ghost use Rattle.record.specs.Fields.{field};
-ghost use Rattle.record.specs.Answers.{told};
+ghost use Rattle.record.specs.Answers.{told, fieldSaid, fieldSays};
 use crate::fields::Field;
 use crate::fields::field_at;
 
@@ -31,7 +31,8 @@ pub fn moved<'a>(r: Reader<'a>, at: usize) -> Reader<'a>
 // The field of `width` bytes where the reader stands, or its refusal and place. Internal: of at most 8.
 pub fn next<'a>(r: Reader<'a>, width: usize) -> Field
     requires { ⌜ width ≤ 8 ⌝ }
-    ensures { λ t. ⌜ told t (r .entry .at + width) ≡ field width (now (r .entry .src)) (r .entry .at) ⌝ }
+    ensures { λ t. ⌜ (told t (r .entry .at + width) ≡ field width (now (r .entry .src)) (r .entry .at))
+        × (fieldSaid t ≡ fieldSays (field width (now (r .entry .src)) (r .entry .at))) ⌝ }
 {
     field_at(r.src, r.at, width)
 }
@@ -39,7 +40,8 @@ pub fn next<'a>(r: Reader<'a>, width: usize) -> Field
 // A field of a record, through a reader. It answers what `field_at` does.
 pub fn read(s: &[u8], at: usize, width: usize) -> Field
     requires { ⌜ width ≤ 8 ⌝ }
-    ensures { λ r. ⌜ told r (at + width) ≡ field width (now (s .entry)) at ⌝ }
+    ensures { λ r. ⌜ (told r (at + width) ≡ field width (now (s .entry)) at)
+        × (fieldSaid r ≡ fieldSays (field width (now (s .entry)) at)) ⌝ }
 {
     next(moved(new(s), at), width)
 }

@@ -18,15 +18,15 @@ enum-told c = search needs
 
 returns : tie.Need-returns
 unfolding ranged
-returns c = rw (← c .before .before .read .ensures, c .enum-told .given .1) refl
+returns c = rw (← c .before .before .read .ensures .0, c .enum-told .given .1) refl
 
 returns-2 : tie.Need-returns-2
 unfolding ranged
-returns-2 c = rw (← c .before .before .before .before .read .ensures, c .before .before .f .given .1, c .if1 .taken) refl
+returns-2 c = rw (← c .before .before .before .before .read .ensures .0, c .before .before .f .given .1, c .if1 .taken) refl
 
 returns-3 : tie.Need-returns-3
 unfolding ranged
-returns-3 c = rw (← c .before .before .before .before .read .ensures, c .before .before .f .given .1, c .if1 .left) refl
+returns-3 c = rw (← c .before .before .before .before .read .ensures .0, c .before .before .f .given .1, c .if1 .left) refl
 
 pub ranged-at-spec : {M : Type 1} → statement M
 ranged-at-spec =

@@ -41,7 +41,8 @@ use denote.Triple.Clauses.{ensured, lasts}
 use Rattle.record.specs.declared.reader.Reader.{Reader}
 use Rattle.record.specs.declared.fields.Field.{Field}
 use Rattle.record.specs.Fields.{field}
-use Rattle.record.specs.Answers.{told}
+use Rattle.record.specs.Answers.{told, fieldSaid, fieldSays}
+use Rattle.record.proofs.Said.{field-said}
 use Rattle.record.proofs.reader.Reader as T
 use Rattle.record.proofs.reader.Reader.Laws as T′
 use Rattle.record.proofs.fields.Field as S
@@ -131,21 +132,21 @@ module _ {M : Type 1} (𝓤 : URA M) (H : Heap 𝓤) (A : Atoms 𝓤) (W : Given
   goes-next r u =
       qed W (‵ (B (κ, tt) .own r (u ∷ [])) ∷ (‵ (flft κ q) ⊛ ‵ ftrue) ∷ []) ∵ nothing ! $ owned ! usize (Is usize) (uint-makes 𝓤 H A W w64) n _ (refl, n-fits) $ fjoin ! $ move ! (1 ∷ 0 ∷ []) $ fjoin ! $ move ! (1 ∷ 0 ∷ []) $ says ! small $ frame ! $ done !
 
-  -- what the clause says of a result, at a reader
+  -- what the clauses say of a result, at a reader
   abbrev Found : Reader → Field → Type 0
-  Found r t = told t (r .at + n) ≡ field n (now (r .src)) (r .at)
+  Found r t = (told t (r .at + n) ≡ field n (now (r .src)) (r .at)) × (fieldSaid t ≡ fieldSays (field n (now (r .src)) (r .at)))
 
   next-said : (r : Reader) (t : Field) → ent 𝓤 (ensured 𝓤 H A over.ended (over.clauses 𝓤 H A mem run) (κ, tt) (r, (n, tt)) tt t) (fact 𝓤 (Found r t))
   next-said r t = exE 𝓤 _ (λ ws. snd∗ 𝓤 (sem 𝓤 H A (lasts over.ended (κ, tt) (r, (n, tt)) ws)) (fact 𝓤 (Found r t)))
 
   -- the reader stands at i of s, so what it found is what is asked
   there : (r : Reader) (t : Field) → r .src ≡ s → r .at ≡ i → Found r t → told t (i + n) ≡ field n (now s) i
-  there r t src place e = sym (ap (λ k. told t (k + n)) place) ∙ (e ∙ (ap (λ (x : RefT (List ℕ)). field n (now x) (r .at)) src ∙ ap (field n (now s)) place))
+  there r t src place e = sym (ap (λ k. told t (k + n)) place) ∙ (e .0 ∙ (ap (λ (x : RefT (List ℕ)). field n (now x) (r .at)) src ∙ ap (field n (now s)) place))
 
   exits : (t : Field) (u : Val) → told t (i + n) ≡ field n (now s) i → ent 𝓤 (⋆ 𝓤 H A (‵ (S.the-row .own t (u ∷ [])) ∷ (‵ (flft κ q) ⊛ ‵ ftrue) ∷ ‵ Own ∷ [])) (Post u)
   exits t u e =
       qed W (‵ (S.the-row .own t (u ∷ [])) ∷ (‵ (flft κ q) ⊛ ‵ ftrue) ∷ ‵ Own ∷ []) ∵
-      suffices ! _ (ends-at 𝓤 H A top.ended stayed (top.clauses 𝓤 H A mem run) W (((κ, tt), (q, tt), tt, (s, (i, (n, tt))), at), tt) u t (tt, (tt, (tt, tt))) (tt, (tt, (tt, tt)))) $ says ! e $
+      suffices ! _ (ends-at 𝓤 H A top.ended stayed (top.clauses 𝓤 H A mem run) W (((κ, tt), (q, tt), tt, (s, (i, (n, tt))), at), tt) u t (tt, (tt, (tt, tt))) (tt, (tt, (tt, tt)))) $ says ! (e, field-said t (i + n) e) $
       move ! (1 ∷ []) $ frame ! $ nothing ! $ owned ! usize (Is usize) (uint-makes 𝓤 H A W w64) n _ (refl, n-fits) $ fjoin ! $ owned ! usize (Is usize) (uint-makes 𝓤 H A W w64) i _ (refl, i-fits) $ fjoin ! $
       move ! (2 ∷ 0 ∷ []) $ fjoin ! $ frame ! $ done !
 
