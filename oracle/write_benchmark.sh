@@ -9,12 +9,14 @@ set -eu
 cd "$(dirname "$0")"
 
 said=$(mktemp)
-trap 'rm -f "$said"' EXIT
+page=$(mktemp)
+trap 'rm -f "$said" "$page"' EXIT
 ./compare.sh bench >"$said"
 # The port has just been made.
 export LEAFMESH_LIBRARY="${LEAFMESH_LIBRARY:-$(cd .. && pwd)/target/staticlib}" LEAFMESH_PROGRAM=unused
 ./compare.sh heap >>"$said"
 ./p4est.sh >>"$said"
 
-awk -f benchmark.awk "$said" benchmark_text.md >../docs/BENCHMARK.md
+awk -f benchmark.awk "$said" benchmark_text.md >"$page"
+cp "$page" ../docs/BENCHMARK.md
 cat ../docs/BENCHMARK.md
