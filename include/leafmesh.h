@@ -12,6 +12,9 @@
  * Units. Coordinates are whole ticks; one tick is 2^-38 m, so a coordinate lies within a quarter of a metre. Sheet
  * resistance is in ohms a square, potential in volts, power in watts, conductance in siemens.
  *
+ * Fractions. The calls expect the floating-point state that a thread begins with: rounding to nearest, no flush to
+ * zero. With another rounding the last bit of an answer can differ, with flush to zero a subnormal power is lost.
+ *
  * Rows. A row is a pointer and, behind it, its length: the number of entries of the pointer's own type. So the
  * length of points counts points and that of nodes counts numbers, four a node; each call says it again. Where the
  * length is 0 the pointer may be null. Rows of one call must not overlap where one of them is written.

@@ -10,7 +10,8 @@ set -eu
 cd "$(dirname "$0")"
 
 said=$(mktemp)
-trap 'rm -f "$said"' EXIT
+page=$(mktemp)
+trap 'rm -f "$said" "$page"' EXIT
 ./compare.sh bench >"$said"
 # The port has just been made.
 LEAFMESH_LIBRARY=${LEAFMESH_LIBRARY:-$(cd .. && pwd)/target/staticlib}
@@ -20,5 +21,6 @@ export LEAFMESH_LIBRARY LEAFMESH_PROGRAM
 ./stack.sh >>"$said"
 ./p4est.sh >>"$said"
 
-awk -f benchmark.awk "$said" benchmark_text.md >../docs/BENCHMARK.md
+awk -f benchmark.awk "$said" benchmark_text.md >"$page"
+cp "$page" ../docs/BENCHMARK.md
 cat ../docs/BENCHMARK.md

@@ -74,12 +74,14 @@ static void print_row(const char *name)
 
 /* What the calls are given, and what they leave. */
 enum { SLOTS = LEAFMESH_SLOTS, RECTS = 1 << 18, WORK = LEAFMESH_WORK_A_LEAF * SLOTS };
-static int64_t points[LEAFMESH_RING_POINTS + 1][2], rects[RECTS][4];
+static leafmesh_point points[LEAFMESH_RING_POINTS + 1];
+static leafmesh_rect rects[RECTS];
 static size_t point_count, rect_room = RECTS;
 static uint16_t layers[LEAFMESH_POLYGONS];
 static uint32_t components[LEAFMESH_POLYGONS];
 static double sheets[LEAFMESH_POLYGONS];
-static uint64_t counts[LEAFMESH_POLYGONS], polygons[LEAFMESH_POLYGONS][3], splits[1];
+static uint64_t counts[LEAFMESH_POLYGONS], splits[1];
+static leafmesh_polygon polygons[LEAFMESH_POLYGONS];
 static size_t polygon_count;
 static uint64_t max_level, target;
 static int64_t table[LEAFMESH_SLOT * SLOTS], kept[LEAFMESH_SLOT * SLOTS];
@@ -98,7 +100,7 @@ static leafmesh_read_outcome record;
 
 static void contact(void)
 {
-    outcome = CALL(leafmesh_contact)(0, 0, 8, 8, 8, 0, points[0][0], 8);
+    outcome = CALL(leafmesh_contact)(0, 0, 8, 8, 8, 0, points[0].x, 8);
 }
 
 static void strips(void)
@@ -220,9 +222,9 @@ static void one_polygon(size_t n)
     components[0] = 0;
     sheets[0] = 1.5;
     counts[0] = n;
-    polygons[0][0] = 1;
-    polygons[0][1] = 0;
-    polygons[0][2] = n;
+    polygons[0].layer = 1;
+    polygons[0].component = 0;
+    polygons[0].points = n;
 }
 
 /* A skyline of n points: houses side by side, each as wide as a unit, of some heights in turn. An odd n gives the last
@@ -230,16 +232,16 @@ static void one_polygon(size_t n)
 static void skyline(size_t n, int64_t unit, size_t heights)
 {
     size_t houses = (n - 2) / 2;
-    points[0][0] = points[0][1] = points[1][1] = 0;
-    points[1][0] = unit * (int64_t)houses;
+    points[0].x = points[0].y = points[1].y = 0;
+    points[1].x = unit * (int64_t)houses;
     for (size_t i = 0; i < houses; i++) {
         int64_t height = unit * (int64_t)(1 + i * 37 % heights);
-        points[2 + 2 * i][0] = unit * (int64_t)(houses - i);
-        points[3 + 2 * i][0] = unit * (int64_t)(houses - i - 1);
-        points[2 + 2 * i][1] = points[3 + 2 * i][1] = height;
+        points[2 + 2 * i].x = unit * (int64_t)(houses - i);
+        points[3 + 2 * i].x = unit * (int64_t)(houses - i - 1);
+        points[2 + 2 * i].y = points[3 + 2 * i].y = height;
     }
     if (n % 2 == 1) {
-        memcpy(points[n - 1], points[n - 2], sizeof points[0]);
+        points[n - 1] = points[n - 2];
     }
     one_polygon(n);
 }
@@ -252,8 +254,8 @@ static void many_squares(int64_t side)
     polygon_count = LEAFMESH_POLYGONS;
     for (size_t i = 0; i < LEAFMESH_POLYGONS; i++) {
         int64_t x = 2 * side * (int64_t)(i % 16), y = 2 * side * (int64_t)(i / 16);
-        int64_t ring[4][2] = {{x, y}, {x + side, y}, {x + side, y + side}, {x, y + side}};
-        memcpy(points[4 * i], ring, sizeof ring);
+        leafmesh_point ring[4] = {{x, y}, {x + side, y}, {x + side, y + side}, {x, y + side}};
+        memcpy(&points[4 * i], ring, sizeof ring);
         layers[i] = layers[0];
         components[i] = components[0];
         sheets[i] = sheets[0];
@@ -265,7 +267,7 @@ static void many_squares(int64_t side)
 static void square_board(int64_t cells, uint64_t levels)
 {
     int64_t side = 2 << levels, end = cells * side;
-    int64_t ring[4][2] = {{0, 0}, {end, 0}, {end, end}, {0, end}};
+    leafmesh_point ring[4] = {{0, 0}, {end, 0}, {end, end}, {0, end}};
     memcpy(points, ring, sizeof ring);
     one_polygon(4);
     max_level = levels;
@@ -312,9 +314,9 @@ static void board_with_net(int64_t cells, uint64_t levels)
 
 static void measure_contact(void)
 {
-    points[0][0] = 16;
+    points[0].x = 16;
     MEASURE(leafmesh_contact, contact);
-    points[0][0] = LEAFMESH_COORDINATE + 1;
+    points[0].x = LEAFMESH_COORDINATE + 1;
     MEASURE(leafmesh_contact, contact);
     print_row("contact");
 }
@@ -326,9 +328,9 @@ static void measure_strips(size_t n, const char *name)
     rect_room = 0;
     MEASURE(leafmesh_strips, strips);
     rect_room = RECTS;
-    points[n - 1][0] += 1;
+    points[n - 1].x += 1;
     MEASURE(leafmesh_strips, strips);
-    points[n - 1][0] = LEAFMESH_COORDINATE + 1;
+    points[n - 1].x = LEAFMESH_COORDINATE + 1;
     MEASURE(leafmesh_strips, strips);
     print_row(name);
 }
@@ -340,8 +342,8 @@ static void measure_boards(void)
     MEASURE(leafmesh_build, build);
     room = 1;
     MEASURE(leafmesh_build, build);
-    points[0][0] -= 1;
-    points[point_count - 1][0] -= 1;
+    points[0].x -= 1;
+    points[point_count - 1].x -= 1;
     room = SLOTS;
     MEASURE(leafmesh_build, build);
 }

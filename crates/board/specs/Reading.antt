@@ -1,27 +1,17 @@
 -- What `read` says and does.
 use Prim.Native.Nat.{ℕ}
-use mathlib.Core.List.{List, [], _∷_}
+use mathlib.Core.List.{List}
 use mathlib.Core.Bool.{Bool, _&&_}
 use lib.Dec.{leb}
 use lib.ListN.{length}
 use Rattle.refusals.specs.declared.Refusal.the-variants.{NoRoom}
-use Rattle.refusals.specs.Said.{Said, accepted, refusal}
-use Rattle.record.specs.declared.Settings.{Settings}
+use Rattle.refusals.specs.Said.{Said}
 use Rattle.record.specs.declared.Counts.{Counts}
-use Rattle.record.specs.declared.check.Read.{Read}
-use Rattle.record.specs.declared.check.Read.the-variants.{Done, Refused}
 use Rattle.record.specs.Fields.{Out, value, stop, _then_, require}
 use Rattle.record.specs.Board.{Board, board}
 use Rattle.record.specs.Answers.{countsOf}
+pub use Rattle.record.specs.Answers.{numbers, readSaid, says}
 use Rattle.board.specs.Rows.{Rows, filled}
-
--- an accepted record in numbers: the settings and the counts
-abbrev pub numbers : Settings → Counts → List ℕ
-numbers g n = g .level ∷ g .cap ∷ g .target ∷ n .layers ∷ n .polygons ∷ n .points ∷ n .splits ∷ []
-
-abbrev pub readSaid : Read → Said
-readSaid (Done g n) = accepted (numbers g n)
-readSaid (Refused x) = refusal x
 
 -- document 01, "too little room", for the reader: "a row shorter than the record's count"
 abbrev pub hasRoom : Rows → Counts → Bool
@@ -32,10 +22,6 @@ hasRoom rows n =
 -- the board of a record that is read to these rows, or the refusal: "1, then 2 and 3 in byte order, .., then 6"
 unfoldable pub reading : List ℕ → Rows → Out Board
 reading s rows = board s then λ b e. require (hasRoom rows (countsOf b)) NoRoom (value b e)
-
-abbrev pub says : Out Board → Said
-says (value b e) = accepted (numbers (b .settings) (countsOf b))
-says (stop x) = refusal x
 
 -- a refused read has written nothing
 abbrev pub leaves : Rows → Out Board → Rows

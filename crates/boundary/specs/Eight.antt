@@ -1,5 +1,5 @@
 -- Document 01's "Boundary cases": what the definitions come to, and what the document says. proofs/Eight.antt holds the two lists together.
--- Rows and rings are in the caller's ticks. P7's strips are as the code holds them, 2^36 more, and to move P5's boxes changes nothing.
+-- Rows, rings and rectangles are in the caller's ticks. P7's strips are as the code holds them, 2^36 more.
 use Prim.Native.Nat.{ℕ, suc, _+_, _*_, _-_}
 use mathlib.Core.Bool.{Bool, true, false, _&&_, cond}
 use mathlib.Core.List.{List, [], _∷_, _++_, map}
@@ -9,7 +9,8 @@ use lib.Ieee.{Float, binary64, toBits}
 use lib.ListN.{replicate}
 use Rattle.refusals.specs.Limits.{coordinate}
 use Rattle.refusals.specs.Said.{Said, accepted, refused, bit}
-use Rattle.cell.specs.Boxes.{Box, sharesEdge}
+use Rattle.contact.specs.declared.Rect.{Rect}
+use Rattle.contact.specs.Contact.{contactSays}
 use Rattle.cell.specs.Cells.{noCell}
 use Rattle.table.specs.Mesh.{Cell, isNone, table}
 use Rattle.table.specs.Refine.{refineRow}
@@ -66,8 +67,8 @@ unfoldable pub splitsFrom : ℕ → List Cell → List ℕ
 splitsFrom i [] = []
 splitsFrom i (c ∷ cs) = cond (isNone (c .kids)) (splitsFrom (suc i) cs) (i ∷ splitsFrom (suc i) cs)
 
-abbrev pub box : ℕ → ℕ → ℕ → ℕ → Box
-box a b c d = record { x0 = a; y0 = b; x1 = c; y1 = d }
+abbrev pub rect : ℕ → ℕ → ℕ → ℕ → Rect
+rect a b c d = record { x0 = pos a; y0 = pos b; x1 = pos c; y1 = pos d }
 
 abbrev pub point : ℕ → ℕ → List ℤ
 point x y = pos x ∷ pos y ∷ []
@@ -91,7 +92,8 @@ computed p2 =
     ∷ balanceSays (p2 13) 10
     ∷ balanceSays (p2 14) 10
     ∷ (untouched (p2 13) 10 ∷ untouched (p2 14) 10 ∷ [])
-    ∷ (bit (sharesEdge (box 0 0 4 4) (box 4 4 8 8)) ∷ bit (sharesEdge (box 0 0 4 4) (box 4 3 8 8)) ∷ [])
+    ∷ answer (contactSays (rect 0 0 4 4) (rect 4 4 8 8))
+    ∷ answer (contactSays (rect 0 0 4 4) (rect 4 3 8 8))
     ∷ (heldAt 256 4 8 ∷ heldAt 256 4 9 ∷ heldAt 1 4 8 ∷ [])
     ∷ corners (stripsOf (point 0 0 ∷ point 8 0 ∷ point 8 4 ∷ point 4 4 ∷ point 4 8 ∷ point 0 8 ∷ []))
     ∷ (toBits binary64 power ∷ [])
@@ -112,6 +114,7 @@ expected =
     ∷ (0 ∷ 1 ∷ 14 ∷ 2 ∷ [])
     ∷ (1 ∷ 0 ∷ [])
     -- P5 "(0,0,4,4) and (4,4,8,8) don't share an edge; with (4,3,8,8) they do."
+    ∷ (0 ∷ 0 ∷ [])
     ∷ (0 ∷ 1 ∷ [])
     -- P6 "w 8, c 4: nx 2; w 9: 3; cap 1: 1."
     ∷ (2 ∷ 3 ∷ 1 ∷ [])

@@ -1,4 +1,5 @@
-// An index of the roots: a box for each 64 ids that holds the roots among them, so that a search passes over most of them at once.
+// An index of the roots: a box for each 64 ids that holds the roots among them, so that a search passes over most of
+// them at once.
 ghost use mathlib.Core.Path.{_≡_};
 ghost use mathlib.Core.Bool.{true};
 ghost use Prim.Native.Nat.{ℕ, _+_, _*_, _/_, _%_, _<_, _≤_};
@@ -71,7 +72,8 @@ fn widen(a: Bounds, b: Bounds) -> Bounds
 fn with_root(t: &[i64], i: usize, b: Bounds) -> Bounds
     requires { ⌜ i * 8 + 8 ≤ length (now t) ⌝ }
     ensures { λ r. ⌜ Within (boundsBox b) (boundsBox r) ⌝ }
-    ensures { λ r. ⌜ (cellAt (now (t .entry)) i .level ≡ 0 → Within (boxOf (cellAt (now (t .entry)) i)) (boundsBox r)) ⌝ }
+    ensures { λ r. ⌜ (cellAt (now (t .entry)) i .level ≡ 0
+        → Within (boxOf (cellAt (now (t .entry)) i)) (boundsBox r)) ⌝ }
 {
     if level_at(t, i) != 0 {
         return b;

@@ -1,5 +1,5 @@
-// The leaves that a leaf is to be compared with, found by descending from the roots: a cell that shares an edge with another meets it,
-// and so does every cell that holds it.
+// The leaves that a leaf is to be compared with, found by descending from the roots: a cell that shares an edge with
+// another meets it, and so does every cell that holds it.
 ghost use mathlib.Core.Path.{_≡_};
 ghost use mathlib.Core.Bool.{true, false};
 ghost use Prim.Native.Nat.{_+_, _*_, _<_, _≤_};
@@ -35,7 +35,8 @@ fn below(t: &[i64], i: usize, j: usize) -> bool
 pub fn meets_at(t: &[i64], a: usize, c: usize) -> bool
     requires { ⌜ (a * 8 + 8 ≤ length (now t)) × (c * 8 + 8 ≤ length (now t)) ⌝ }
     requires { ⌜ (inSlot (now t) a ≡ true) × (inSlot (now t) c ≡ true) ⌝ }
-    ensures { λ r. ⌜ (r ≡ false → meet (boxOf (cellAt (now (t .entry)) a)) (boxOf (cellAt (now (t .entry)) c)) ≡ false) ⌝ }
+    ensures { λ r. ⌜ (r ≡ false
+        → meet (boxOf (cellAt (now (t .entry)) a)) (boxOf (cellAt (now (t .entry)) c)) ≡ false) ⌝ }
 {
     if below(t, c * 8 + 2, a * 8) {
         return false;
@@ -52,11 +53,13 @@ pub fn meets_at(t: &[i64], a: usize, c: usize) -> bool
     true
 }
 
-// False only if the cell c is not, and does not hold, a leaf to be split for a: it does not meet a, or is not coarser by more than k.
+// False only if the cell c is not, and does not hold, a leaf to be split for a: it does not meet a, or is not coarser
+// by more than k.
 fn near(t: &[i64], k: u64, a: usize, c: usize) -> bool
     requires { ⌜ (a * 8 + 8 ≤ length (now t)) × (c * 8 + 8 ≤ length (now t)) ⌝ }
     requires { ⌜ (inSlot (now t) a ≡ true) × (inSlot (now t) c ≡ true) ⌝ }
-    ensures { λ r. ⌜ (r ≡ false → nearCells k (meshCell (cellAt (now (t .entry)) a)) (meshCell (cellAt (now (t .entry)) c)) ≡ false) ⌝ }
+    ensures { λ r. ⌜ (r ≡ false
+        → nearCells k (meshCell (cellAt (now (t .entry)) a)) (meshCell (cellAt (now (t .entry)) c)) ≡ false) ⌝ }
 {
     if !meets_at(t, a, c) {
         return false;
@@ -76,7 +79,8 @@ fn near(t: &[i64], k: u64, a: usize, c: usize) -> bool
 pub fn root_meets(t: &[i64], a: usize, c: usize) -> bool
     requires { ⌜ (a * 8 + 8 ≤ length (now t)) × (c * 8 + 8 ≤ length (now t)) ⌝ }
     requires { ⌜ (inSlot (now t) a ≡ true) × (inSlot (now t) c ≡ true) ⌝ }
-    ensures { λ r. ⌜ (r ≡ false → cellAt (now (t .entry)) c .level ≡ 0 → meet (boxOf (cellAt (now (t .entry)) a)) (boxOf (cellAt (now (t .entry)) c)) ≡ false) ⌝ }
+    ensures { λ r. ⌜ (r ≡ false → cellAt (now (t .entry)) c .level ≡ 0
+        → meet (boxOf (cellAt (now (t .entry)) a)) (boxOf (cellAt (now (t .entry)) c)) ≡ false) ⌝ }
 {
     if level_at(t, c) != 0 {
         return false;
@@ -109,7 +113,8 @@ fn own(t: &[i64], k: u64, n: usize, a: usize, c: usize, from: usize, best: usize
     best
 }
 
-// The least id from `from` below `best` of a leaf in the subtree of c that is to be split for a; best, where there is none.
+// The least id from `from` below `best` of a leaf in the subtree of c that is to be split for a; best, where there is
+// none.
 fn least_under(
     t: &[i64],
     m: u64,
@@ -138,8 +143,8 @@ fn least_under(
     least_under(t, m, k, n, a, f + 3, from, r2)
 }
 
-// An id that every root's is below: one past the last cell of level 0. Roots stand first in a table that was built, so this is how many
-// there are.
+// An id that every root's is below: one past the last cell of level 0. Roots stand first in a table that was built,
+// so this is how many there are.
 pub fn roots_end(t: &[i64], m: u64, n: usize) -> usize
     requires { ⌜ WellFormed (now t) n m ⌝ }
     ensures { λ r. ⌜ (r ≤ n) × RootsBelow (table (now (t .entry)) n) r ⌝ }

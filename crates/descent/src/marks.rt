@@ -57,7 +57,8 @@ fn mark_under(
 )
     requires { ⌜ WellFormed (now t) n m ⌝ }
     requires { ⌜ ((p < n) × (c < n)) × (n ≤ 8 * length (now marks)) ⌝ }
-    ensures { λ _. ⌜ Marked (Under (table (now (t .entry)) n) c) (Wanted (table (now (t .entry)) n) p low high) (now (marks .entry)) (now (marks .exit)) ⌝ }
+    ensures { λ _. ⌜ Marked (Under (table (now (t .entry)) n) c) (Wanted (table (now (t .entry)) n) p low high)
+        (now (marks .entry)) (now (marks .exit)) ⌝ }
 {
     if !meets_at(t, p, c) {
         return;
@@ -93,7 +94,8 @@ pub fn mark_near(
     requires { ⌜ WellFormed (now t) n m ⌝ }
     requires { ⌜ (((p < n) × (top ≤ n)) × (length (now boxes) ≡ 256)) × (n ≤ 8 * length (now marks)) ⌝ }
     requires { ⌜ Indexed top (now boxes) (table (now t) n) ⌝ }
-    ensures { λ _. ⌜ Marked (λ a. a < n) (Wanted (table (now (t .entry)) n) p low high) (now (marks .entry)) (now (marks .exit)) ⌝ }
+    ensures { λ _. ⌜ Marked (λ a. a < n) (Wanted (table (now (t .entry)) n) p low high)
+        (now (marks .entry)) (now (marks .exit)) ⌝ }
 {
     let b = bounds_at(t, p);
     let mut c = next_root(t, m, n, top, boxes, p, b, 0);

@@ -7,3 +7,4 @@ pub mod Descents
 pub mod Watching
 pub mod Passing
 pub mod Demand
+pub mod One

@@ -1,5 +1,5 @@
 -- What balance and conform say, what the row then holds, and demand 3 by names.
-use Prim.Native.Nat.{ℕ, _+_, _*_, _-_, _/_, _<_}
+use Prim.Native.Nat.{ℕ, _+_, _*_, _-_, _/_, _<_, _≤_}
 use mathlib.Core.Path.{_≡_}
 use mathlib.Core.Bool.{cond}
 use mathlib.Core.List.{List, [], _∷_}
@@ -9,7 +9,7 @@ use lib.ListN.{length}
 use Rattle.refusals.specs.Said.{Said, accepted, refused, refusal}
 use Rattle.refusals.specs.declared.Refusal.the-variants.{BadTable, NoRoom}
 use Rattle.table.specs.Mesh.{Cell, table}
-use Rattle.table.specs.Formed.{wellFormed}
+use Rattle.table.specs.Formed.{WellFormed, wellFormed}
 use Rattle.table.specs.Refine.{isAccepted}
 use Rattle.coarsest.specs.Passes.{Engine, evened}
 use Rattle.coarsest.specs.Names.{Evens, Needs}
@@ -39,7 +39,14 @@ evenSays e k t n M =
 unfoldable pub evenRow : Engine → ℕ → List ℤ → ℕ → ℕ → List ℤ
 evenRow e k t n M = cond (isAccepted (evenSays e k t n M)) (rowOf (evenCells e k t n M) (length t)) t
 
--- demand 3, with no word of passes: what was done is the one coarsest splitting, and where there was no room it has more cells than slots
+-- demand 3, with no word of passes. A well-formed table has a coarsest splitting; if that has no more cells than there are slots the call
+-- is accepted with exactly that count, and what was done is that splitting; if it has more, the answer is 6. A table that is not well
+-- formed: 7. Refused, the row is as it was
 pub record DemandThree (k M : ℕ) (t u : List ℤ) (n : ℕ) (said : Said) : Type 0 where
-  pub done : (splits count : ℕ) → said ≡ accepted (splits ∷ count ∷ M ∷ []) → Evens k M (table t n) (table u count) × (count ≡ n + 4 * splits)
-  pub full : said ≡ refused 6 0 → (cells : ℕ) → Needs k M (table t n) cells → length t / 8 < cells
+  pub exists : WellFormed t n M → (cells : ℕ) × Needs k M (table t n) cells
+  pub fits : WellFormed t n M → (cells : ℕ) → Needs k M (table t n) cells → cells ≤ length t / 8
+      → (splits : ℕ) × (said ≡ accepted (splits ∷ cells ∷ M ∷ []))
+  pub done : (splits count : ℕ) → said ≡ accepted (splits ∷ count ∷ M ∷ [])
+      → Evens k M (table t n) (table u count) × (count ≡ n + 4 * splits)
+  pub over : WellFormed t n M → (cells : ℕ) → Needs k M (table t n) cells → length t / 8 < cells → (said ≡ refused 6 0) × (u ≡ t)
+  pub bad : (WellFormed t n M → ⊥) → (said ≡ refused 7 0) × (u ≡ t)

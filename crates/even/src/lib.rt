@@ -1,5 +1,5 @@
-// Balance and conform on a lent table: AdaptiveGrid::balance and ::conform of the Rust, which end in the one coarsest splitting or
-// leave the table as it was.
+// Balance and conform on a lent table: AdaptiveGrid::balance and ::conform of the Rust, which end in the one coarsest
+// splitting or leave the table as it was.
 ghost use mathlib.Core.Path.{_≡_};
 ghost use mathlib.Core.Option.{some};
 ghost use Prim.Native.Nat.{ℕ, _+_, _*_, _<_, _≤_};
@@ -36,8 +36,8 @@ pub enum Evening {
     Refused(Refusal),
 }
 
-// Splits each of the first stop cells that a is too fine for, in the order of their ids; the new count, or more than the slots. Most
-// leaves are too coarse to ask anybody.
+// Splits each of the first stop cells that a is too fine for, in the order of their ids; the new count, or more than
+// the slots. Most leaves are too coarse to ask anybody.
 fn balance_row(
     t: &mut [i64],
     m: u64,
@@ -218,7 +218,8 @@ fn mark_kids(
     requires { ⌜ ((top ≤ n) × (length (now boxes) ≡ 256)) × Indexed top (now boxes) (table (now t) n) ⌝ }
     requires { ⌜ (((p < n) × (k ≤ 64)) × (length (now marks) ≡ 2048)) × (at (table (now t) n) p .kids ≡ some f) ⌝ }
     ensures { λ _. ⌜ Kept (now (marks .entry)) (now (marks .exit)) ⌝ }
-    ensures { λ _. ⌜ ((y : ℕ) → f ≤ y → y < f + 4 → Met (engineOf conforms) k (now (marks .exit)) (table (now (t .entry)) n) n y) ⌝ }
+    ensures { λ _. ⌜ ((y : ℕ) → f ≤ y → y < f + 4
+        → Met (engineOf conforms) k (now (marks .exit)) (table (now (t .entry)) n) n y) ⌝ }
 {
     let s = concerned(conforms, m, k, level_at(t, p) + 1);
     mark_near(t, m, n, top, boxes, p, s.low, s.high, marks);
@@ -266,7 +267,8 @@ fn passes(
 ) -> usize
     requires { ⌜ WellFormed (now t) n m ⌝ }
     requires { ⌜ ((top ≤ n) × (length (now boxes) ≡ 256)) × Indexed top (now boxes) (table (now t) n) ⌝ }
-    requires { ⌜ ((length (now marks) ≡ 2048) × (k ≤ 64)) × Watched (engineOf conforms) k (now marks) (table (now t) n) n ⌝ }
+    requires { ⌜ ((length (now marks) ≡ 2048) × (k ≤ 64))
+        × Watched (engineOf conforms) k (now marks) (table (now t) n) n ⌝ }
     ensures { λ r. ⌜ Evened (engineOf conforms) k m (now (t .entry)) (now (t .exit)) n r ⌝ }
 {
     let slots = t.len() / 8;

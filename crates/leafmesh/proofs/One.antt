@@ -1,5 +1,5 @@
 -- The contracts of the exported calls, and of the calls beneath them, permit one answer each. An export's contract gives the whole answer;
--- of the others, any two answers of which the same is said are one. (Contact, table, power and the checks have this law beside them.)
+-- of the others, any two answers of which the same is said are one. (Contact, table, even, power and the checks have this law beside them.)
 -- Assumes nothing.
 use Prim.Native.Nat.{ℕ}
 use mathlib.Core.Path.{_≡_, refl, sym, _∙_}
@@ -7,9 +7,6 @@ use mathlib.Core.List.{List}
 use lib.ListN.{getD}
 use Rattle.refusals.specs.Said.{Said}
 use Rattle.refusals.proofs.Settled.{settled, answer, answer-refused}
-use Rattle.even.specs.declared.Evening.{Evening}
-use Rattle.even.specs.declared.Evening.the-variants as E
-use Rattle.even.specs.Even.{eveningSaid}
 use Rattle.strips.specs.declared.Stripped.{Stripped}
 use Rattle.strips.specs.declared.Stripped.the-variants as S
 use Rattle.strips.specs.Said.{strippedSaid}
@@ -30,20 +27,10 @@ use Rattle.writing.specs.Written.{writeSaid}
 pub one-exported : {A : Type 0} (what r q : A) → r ≡ what → q ≡ what → r ≡ q
 one-exported what r q p s = p ∙ sym s
 
-abbrev evened : List ℕ → Evening
-evened vs = E.Done (getD vs 0 0) (record { count = getD vs 1 0; «max_level» = getD vs 2 0 })
-
 abbrev readFrom : List ℕ → Read
 readFrom vs =
     R.Done (record { level = getD vs 0 0; cap = getD vs 1 0; target = getD vs 2 0 })
     (record { layers = getD vs 3 0; polygons = getD vs 4 0; points = getD vs 5 0; splits = getD vs 6 0 })
-
-pub one-evening : (what : Said) (r q : Evening) → eveningSaid r ≡ what → eveningSaid q ≡ what → r ≡ q
-one-evening = settled eveningSaid (answer evened E.Refused) back
-  where
-    back : (r : Evening) → answer evened E.Refused (eveningSaid r) ≡ r
-    back (E.Done n h) = refl
-    back (E.Refused x) = answer-refused evened E.Refused x
 
 pub one-strips : (what : Said) (r q : Stripped) → strippedSaid r ≡ what → strippedSaid q ≡ what → r ≡ q
 one-strips = settled strippedSaid (answer (λ vs. S.Done (getD vs 0 0)) S.Refused) back

@@ -1,5 +1,5 @@
-// leafnet: reads a board record from standard input and writes its mesh and net as text. Of longer input than a record may have only one
-// byte more is read, and it is refused.
+// leafnet: reads a board record from standard input and writes its mesh and net as text. Of longer input than a record
+// may have only one byte more is read, and it is refused.
 use libc::STDIN_FILENO;
 use libc::STDOUT_FILENO;
 

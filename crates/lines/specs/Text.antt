@@ -129,7 +129,8 @@ nodeText number layer component x y = line nodeWord (pos number ∷ layer ∷ co
 
 -- the two ends, and the conductance's binary64 bits
 abbrev pub edgeText : ℕ → ℕ → Float → List ℕ
-edgeText from to g = edgeWord ++ (numbers (pos from ∷ pos to ∷ []) ++ (space ∷ hexOf (toBits binary64 g) ++ (newline ∷ [])))
+edgeText from to g =
+    edgeWord ++ (numbers (pos from ∷ pos to ∷ []) ++ (space ∷ hexOf (toBits binary64 g) ++ (newline ∷ [])))
 
 -- number place
 abbrev pub refusedText : ℕ → ℕ → List ℕ

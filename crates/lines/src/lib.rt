@@ -1,5 +1,5 @@
-// The text of `leafnet`, line by line. All of this is internal: each call puts its line into a lent row, asks that there
-// is room, and answers where the line ends.
+// The text of `leafnet`, line by line. All of this is internal: each call puts its line into a lent row, asks that
+// there is room, and answers where the line ends.
 ghost use Prim.Native.Nat.{_+_, _*_, _<_, _≤_};
 ghost use lib.ListN.{length};
 ghost use Rattle.lines.specs.Text.{Puts, totalsText, refusedText};
@@ -61,7 +61,8 @@ pub fn node_line(out: &mut [u8], at: usize, nodes: &[i64], i: usize) -> usize
 pub fn edge_line(out: &mut [u8], at: usize, ends: &[u64], gs: &[f64], j: usize) -> usize
     requires { ⌜ (at + edgeMost ≤ length (now out)) × (2 * j + 2 ≤ length (now ends)) × (j < length (now gs)) ⌝ }
     ensures { λ r. ⌜ r ≤ at + edgeMost ⌝ }
-    ensures { λ r. ⌜ Puts at (edgeLine (now (ends .entry)) (now (gs .entry)) j) (now (out .entry)) r (now (out .exit)) ⌝ }
+    ensures { λ r. ⌜ Puts at (edgeLine (now (ends .entry)) (now (gs .entry)) j)
+        (now (out .entry)) r (now (out .exit)) ⌝ }
 {
     let s = 2 * j;
     let from = ends[s];

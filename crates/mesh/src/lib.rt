@@ -1,5 +1,5 @@
-// From a record's bytes to a balanced table and its leaf order: what `leafnet` does before it makes the network. All of it is internal: the
-// rows are as long as that program lends them.
+// From a record's bytes to a balanced table and its leaf order: what `leafnet` does before it makes the network. All of
+// it is internal: the rows are as long as that program lends them.
 ghost use mathlib.Core.Path.{_≡_};
 ghost use mathlib.Core.Bool.{true};
 ghost use lib.ListN.{length, take};
@@ -33,7 +33,8 @@ pub const SPLITS: usize = 256;
 
 pub const INPUT: usize = 16384;
 
-// What the program goes on with: the table's head, how many polygons and leaves there are, and how many splits balance made.
+// What the program goes on with: the table's head, how many polygons and leaves there are, and how many splits balance
+// made.
 pub struct Totals {
     pub max_level: u64,
     pub count: usize,
@@ -47,7 +48,8 @@ pub enum Meshed {
     Refused(Refusal),
 }
 
-// The balanced table of a board that was read to these rows, with the polygons' layers and components in rows of their own.
+// The balanced table of a board that was read to these rows, with the polygons' layers and components in rows of their
+// own.
 fn grow_board(
     g: Settings,
     n: Counts,
@@ -60,11 +62,17 @@ fn grow_board(
     components: &mut [u32],
     table: &mut [i64],
 ) -> Evening
-    requires { ⌜ Within n (rowsOf (now list) (now polygons) (now sheets) (now points) (now splits)) (length (now layers)) (length (now components)) ⌝ }
-    ensures { λ r. ⌜ eveningSaid r ≡ growSays (rowsGiven g n (rowsOf (now (list .entry)) (now (polygons .entry)) (now (sheets .entry)) (now (points .entry)) (now (splits .entry))) (length (now (table .entry)))) ⌝ }
-    ensures { λ _. ⌜ now (table .exit) ≡ growLeaves (rowsGiven g n (rowsOf (now (list .entry)) (now (polygons .entry)) (now (sheets .entry)) (now (points .entry)) (now (splits .entry))) (length (now (table .entry)))) (now (table .entry)) ⌝ }
-    ensures { λ _. ⌜ now (layers .exit) ≡ sets (now (layers .entry)) 0 (column 0 (take (n .polygons) (now (polygons .entry)))) ⌝ }
-    ensures { λ _. ⌜ now (components .exit) ≡ sets (now (components .entry)) 0 (column 1 (take (n .polygons) (now (polygons .entry)))) ⌝ }
+    requires { ⌜ Within n (rowsOf (now list) (now polygons) (now sheets) (now points) (now splits))
+        (length (now layers)) (length (now components)) ⌝ }
+    ensures { λ r. ⌜ eveningSaid r ≡ growSays (rowsGiven g n (rowsOf (now (list .entry)) (now (polygons .entry))
+        (now (sheets .entry)) (now (points .entry)) (now (splits .entry))) (length (now (table .entry)))) ⌝ }
+    ensures { λ _. ⌜ now (table .exit) ≡ growLeaves (rowsGiven g n (rowsOf (now (list .entry)) (now (polygons .entry))
+        (now (sheets .entry)) (now (points .entry)) (now (splits .entry))) (length (now (table .entry))))
+        (now (table .entry)) ⌝ }
+    ensures { λ _. ⌜ now (layers .exit) ≡ sets (now (layers .entry)) 0
+        (column 0 (take (n .polygons) (now (polygons .entry)))) ⌝ }
+    ensures { λ _. ⌜ now (components .exit) ≡ sets (now (components .entry)) 0
+        (column 1 (take (n .polygons) (now (polygons .entry)))) ⌝ }
 {
     let l = n.layers;
     let p = n.polygons;
@@ -98,8 +106,10 @@ fn order_leaves(
     splits: usize,
     order: &mut [u64],
 ) -> Meshed
-    ensures { λ r. ⌜ meshedSaid r ≡ totalsSay (now (table .entry)) (head .count) (head .«max_level») polygons splits (length (now (order .entry))) ⌝ }
-    ensures { λ _. ⌜ now (order .exit) ≡ listRow (wellFormed (now (table .entry)) (head .count) (head .«max_level»)) (orderIds (now (table .entry)) (head .count)) (now (order .entry)) ⌝ }
+    ensures { λ r. ⌜ meshedSaid r ≡ totalsSay (now (table .entry)) (head .count) (head .«max_level») polygons splits
+        (length (now (order .entry))) ⌝ }
+    ensures { λ _. ⌜ now (order .exit) ≡ listRow (wellFormed (now (table .entry)) (head .count) (head .«max_level»))
+        (orderIds (now (table .entry)) (head .count)) (now (order .entry)) ⌝ }
 {
     let listed = leaf_order(table, head, order);
     match listed {
@@ -114,8 +124,8 @@ fn order_leaves(
     }
 }
 
-// From a record's bytes to the balanced table, its leaf order, and each polygon's layer, component and r_sheet, which the network takes
-// next. A refused call may have written to the rows.
+// From a record's bytes to the balanced table, its leaf order, and each polygon's layer, component and r_sheet, which
+// the network takes next. A refused call may have written to the rows.
 pub fn mesh(
     s: &[u8],
     table: &mut [i64],
@@ -124,9 +134,12 @@ pub fn mesh(
     components: &mut [u32],
     sheets: &mut [f64],
 ) -> Meshed
-    requires { ⌜ Lent (length (now table)) (length (now order)) (length (now layers)) (length (now components)) (length (now sheets)) ⌝ }
+    requires { ⌜ Lent (length (now table)) (length (now order)) (length (now layers)) (length (now components))
+        (length (now sheets)) ⌝ }
     ensures { λ r. ⌜ meshedSaid r ≡ meshSays (now (s .entry)) ⌝ }
-    ensures { λ r. ⌜ (isAccepted (meshedSaid r) ≡ true → Made (now (s .entry)) (now (table .exit)) (now (order .entry)) (now (order .exit)) (now (layers .entry)) (now (layers .exit)) (now (components .entry)) (now (components .exit)) (now (sheets .entry)) (now (sheets .exit))) ⌝ }
+    ensures { λ r. ⌜ (isAccepted (meshedSaid r) ≡ true → Made (now (s .entry)) (now (table .exit)) (now (order .entry))
+        (now (order .exit)) (now (layers .entry)) (now (layers .exit)) (now (components .entry))
+        (now (components .exit)) (now (sheets .entry)) (now (sheets .exit))) ⌝ }
 {
     if INPUT < s.len() {
         return Meshed::Refused(Refusal::NoRoom);

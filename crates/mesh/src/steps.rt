@@ -15,8 +15,10 @@ use table::refine::refine;
 
 // Splits the leaf of each id in order. The first refusal ends it, and what was split before that stays split.
 pub fn refine_all(table: &mut [i64], head: Head, splits: &[u64]) -> Refined
-    ensures { λ r. ⌜ refinedSaid r ≡ refineAllSays (now (table .entry)) (head .count) (head .«max_level») (now (splits .entry)) ⌝ }
-    ensures { λ _. ⌜ now (table .exit) ≡ refineAllRow (now (table .entry)) (head .count) (head .«max_level») (now (splits .entry)) ⌝ }
+    ensures { λ r. ⌜ refinedSaid r ≡ refineAllSays (now (table .entry)) (head .count) (head .«max_level»)
+        (now (splits .entry)) ⌝ }
+    ensures { λ _. ⌜ now (table .exit) ≡ refineAllRow (now (table .entry)) (head .count) (head .«max_level»)
+        (now (splits .entry)) ⌝ }
 {
     let mut latest = head;
     let mut i = 0;
@@ -43,8 +45,12 @@ pub fn grow(
     splits: &[u64],
     table: &mut [i64],
 ) -> Evening
-    ensures { λ r. ⌜ eveningSaid r ≡ growSays (given s (now (list .entry)) (now (layers .entry)) (now (components .entry)) (now (sheets .entry)) (now (counts .entry)) (now (points .entry)) (now (splits .entry)) (length (now (table .entry)))) ⌝ }
-    ensures { λ _. ⌜ now (table .exit) ≡ growLeaves (given s (now (list .entry)) (now (layers .entry)) (now (components .entry)) (now (sheets .entry)) (now (counts .entry)) (now (points .entry)) (now (splits .entry)) (length (now (table .entry)))) (now (table .entry)) ⌝ }
+    ensures { λ r. ⌜ eveningSaid r ≡ growSays (given s (now (list .entry)) (now (layers .entry))
+        (now (components .entry)) (now (sheets .entry)) (now (counts .entry)) (now (points .entry))
+        (now (splits .entry)) (length (now (table .entry)))) ⌝ }
+    ensures { λ _. ⌜ now (table .exit) ≡ growLeaves (given s (now (list .entry)) (now (layers .entry))
+        (now (components .entry)) (now (sheets .entry)) (now (counts .entry)) (now (points .entry))
+        (now (splits .entry)) (length (now (table .entry)))) (now (table .entry)) ⌝ }
 {
     let built = build::build(s, list, layers, components, sheets, counts, points, table);
     match built {

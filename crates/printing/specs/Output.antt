@@ -53,8 +53,9 @@ saidText said = unlessRefused said []
 -- "net room for 64 leaves"
 abbrev pub netRoom : Rows
 netRoom =
-    rows (replicate (16 * leafRoom) (pos 0)) (replicate (16 * leafRoom) 0) (replicate (8 * leafRoom) (ofBits binary64 0))
-    (replicate (4 * leafRoom) 0) (replicate leafRoom (ofBits binary64 0)) (replicate (64 * leafRoom) 0)
+    rows (replicate (16 * leafRoom) (pos 0)) (replicate (16 * leafRoom) 0)
+    (replicate (8 * leafRoom) (ofBits binary64 0)) (replicate (4 * leafRoom) 0)
+    (replicate leafRoom (ofBits binary64 0)) (replicate (64 * leafRoom) 0)
 
 -- the net of a balanced table with n cells and max_level m
 unfoldable pub tableText : ℕ → ℕ → ℕ → List ℤ → List ℕ → Polygons → List ℕ

@@ -1,5 +1,5 @@
-// What `leafnet` writes for a record, as text in a lent row: totals, leaves, nodes, edges; or `refused` with a number and
-// a place. Only reading and writing are left to the program.
+// What `leafnet` writes for a record, as text in a lent row: totals, leaves, nodes, edges; or `refused` with a number
+// and a place. Only reading and writing are left to the program.
 ghost use mathlib.Core.Path.{_≡_};
 ghost use Prim.Native.Nat.{_≤_};
 ghost use lib.ListN.{length};
@@ -42,8 +42,8 @@ fn put_lines(
     requires { ⌜ TableRows t (now out) (now table) (now order) ⌝ }
     requires { ⌜ NetRows c (now nodes) (now ends) (now gs) ⌝ }
     ensures { λ r. ⌜ r ≤ length (now (out .entry)) ⌝ }
-    ensures { λ r. ⌜ Puts 0 (rowsText t c (now (table .entry)) (now (order .entry)) (now (nodes .entry)) (now (ends .entry))
-        (now (gs .entry))) (now (out .entry)) r (now (out .exit)) ⌝ }
+    ensures { λ r. ⌜ Puts 0 (rowsText t c (now (table .entry)) (now (order .entry)) (now (nodes .entry))
+        (now (ends .entry)) (now (gs .entry))) (now (out .entry)) r (now (out .exit)) ⌝ }
 {
     let totals = lines::totals_line(out, t.count, t.leaves, c.nodes, c.edges, t.splits);
     let leaves = lines::all::leaf_lines(out, totals, table, order, t.leaves);

@@ -2,3 +2,4 @@
 pub mod Numbers
 pub mod Walks
 pub mod Items
+pub mod Said

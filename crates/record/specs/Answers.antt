@@ -1,8 +1,10 @@
 -- What the code's answers say of the definitions.
 use Prim.Native.Nat.{ℕ}
+use mathlib.Core.List.{List, [], _∷_}
 use lib.IntN.{ℤ}
 use Rattle.refusals.specs.declared.Refusal.{Refusal}
 use Rattle.refusals.specs.declared.Refusal.the-variants.{WrongLength}
+use Rattle.refusals.specs.Said.{Said, accepted, refusal}
 use Rattle.record.specs.Fields.{Out, value, stop}
 use Rattle.record.specs.declared.fields.Field.{Field}
 use Rattle.record.specs.declared.fields.Field.the-variants as F
@@ -66,3 +68,25 @@ countsOf b =
 abbrev pub checked : Out Board → Read
 checked (value b at) = R.Done (b .settings) (countsOf b)
 checked (stop x) = R.Refused x
+
+-- an accepted record in numbers: the settings and the counts
+abbrev pub numbers : Settings → Counts → List ℕ
+numbers g n = g .level ∷ g .cap ∷ g .target ∷ n .layers ∷ n .polygons ∷ n .points ∷ n .splits ∷ []
+
+-- an answer by its number and place
+abbrev pub readSaid : Read → Said
+readSaid (R.Done g n) = accepted (numbers g n)
+readSaid (R.Refused x) = refusal x
+
+abbrev pub says : Out Board → Said
+says (value b at) = accepted (numbers (b .settings) (countsOf b))
+says (stop x) = refusal x
+
+-- a field by its number and place
+abbrev pub fieldSaid : Field → Said
+fieldSaid (F.Value v) = accepted (v ∷ [])
+fieldSaid (F.Refused x) = refusal x
+
+abbrev pub fieldSays : Out ℕ → Said
+fieldSays (value v at) = accepted (v ∷ [])
+fieldSays (stop x) = refusal x

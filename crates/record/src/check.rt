@@ -4,7 +4,8 @@ ghost use Prim.Native.Nat.{_+_, _≤_};
 ghost use lib.ListN.{length};
 ghost use Rattle.refusals.specs.Limits.{maxPolygons};
 ghost use Rattle.record.specs.Board.{level, settings, entries, coordinate, ring, polygon, shapes, ids, lists, board, pointsIn, pointsOf};
-ghost use Rattle.record.specs.Answers.{told, toldSigned, toldHead, whyHead, whyWalk, went, nothing, checked};
+ghost use Rattle.record.specs.Answers.{told, toldSigned, toldHead, whyHead, whyWalk, went, nothing};
+ghost use Rattle.record.specs.Answers.{checked, readSaid, says};
 use crate::Counts;
 use crate::Settings;
 use crate::fields::Field;
@@ -287,6 +288,7 @@ fn check_lists(s: &[u8], settings: Settings) -> Read
 // A record judged whole, with nothing kept: its settings and what rows it takes, or its first refusal.
 pub fn check(s: &[u8]) -> Read
     ensures { λ r. ⌜ r ≡ checked (board (now (s .entry))) ⌝ }
+    ensures { λ r. ⌜ readSaid r ≡ says (board (now (s .entry))) ⌝ }
 {
     let head = check_head(s);
     let Head::Sound(settings) = head else {

@@ -6,6 +6,7 @@ ghost use mir.Syntax.{w64};
 ghost use mir.Val.{toZ};
 ghost use Rattle.record.specs.Fields.{bigEndian, field, ranged, signed};
 ghost use Rattle.record.specs.Answers.{told, toldSigned, why, whySigned};
+use crate::reader::read;
 use refusals::Refusal;
 
 pub enum Field {
@@ -89,25 +90,25 @@ pub fn field_at(s: &[u8], at: usize, width: usize) -> Field
 pub fn u8_at(s: &[u8], at: usize) -> Field
     ensures { λ r. ⌜ told r (at + 1) ≡ field 1 (now (s .entry)) at ⌝ }
 {
-    field_at(s, at, 1)
+    read(s, at, 1)
 }
 
 pub fn u16_at(s: &[u8], at: usize) -> Field
     ensures { λ r. ⌜ told r (at + 2) ≡ field 2 (now (s .entry)) at ⌝ }
 {
-    field_at(s, at, 2)
+    read(s, at, 2)
 }
 
 pub fn u32_at(s: &[u8], at: usize) -> Field
     ensures { λ r. ⌜ told r (at + 4) ≡ field 4 (now (s .entry)) at ⌝ }
 {
-    field_at(s, at, 4)
+    read(s, at, 4)
 }
 
 pub fn u64_at(s: &[u8], at: usize) -> Field
     ensures { λ r. ⌜ told r (at + 8) ≡ field 8 (now (s .entry)) at ⌝ }
 {
-    field_at(s, at, 8)
+    read(s, at, 8)
 }
 
 pub fn i64_at(s: &[u8], at: usize) -> Signed
@@ -125,7 +126,7 @@ pub fn ranged_at(s: &[u8], at: usize, width: usize, low: u64, high: u64) -> Fiel
     requires { ⌜ width ≤ 8 ⌝ }
     ensures { λ r. ⌜ told r (at + width) ≡ ranged low high width (now (s .entry)) at ⌝ }
 {
-    let f = field_at(s, at, width);
+    let f = read(s, at, width);
     let Field::Value(v) = f else {
         return f;
     };

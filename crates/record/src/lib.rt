@@ -1,6 +1,7 @@
-// The board record of document 01: read by plain offset.
+// The board record of document 01: read by plain offset, and a reader that carries record and offset put over it.
 pub mod check;
 pub mod fields;
+pub mod reader;
 
 // The settings of a board.
 pub struct Settings {

@@ -16,4 +16,5 @@ pub mod Wellformed
 pub mod Walk
 pub mod Splits
 pub mod Refining
+pub mod Counting
 pub mod Times

@@ -18,7 +18,7 @@ use Rattle.board.proofs.read.Tie as tie
 
 -- where the room is there: the board, and where its lists are
 found : (c : tie.Else1) → Plan (c .before .before .before .before .before .before .before .before .before .before .before .before .before .args .s .now) (rowsOf (c .before .before .before .before .before .before .before .before .before .before .before .before .before .args .layers .now) (c .before .before .before .before .before .before .before .before .before .before .before .before .before .args .polygons .now) (c .before .before .before .before .before .before .before .before .before .before .before .before .before .args .sheets .now) (c .before .before .before .before .before .before .before .before .before .before .before .before .before .args .points .now) (c .before .before .before .before .before .before .before .before .before .before .before .before .before .args .splits .now)) (c .before .before .before .before .before .before .before .answer .given .0 .0) (c .before .before .before .before .before .before .before .answer .given .0 .1 .0)
-found c = plan (c .before .before .before .before .before .before .before .before .before .before .before .before .before .args .s .now) (rowsOf (c .before .before .before .before .before .before .before .before .before .before .before .before .before .args .layers .now) (c .before .before .before .before .before .before .before .before .before .before .before .before .before .args .polygons .now) (c .before .before .before .before .before .before .before .before .before .before .before .before .before .args .sheets .now) (c .before .before .before .before .before .before .before .before .before .before .before .before .before .args .points .now) (c .before .before .before .before .before .before .before .before .before .before .before .before .before .args .splits .now)) (sym (c .before .before .before .before .before .before .before .answer .given .1) ∙ c .before .before .before .before .before .before .before .before .before .check .ensures) (not-false _ (c .if1 .left))
+found c = plan (c .before .before .before .before .before .before .before .before .before .before .before .before .before .args .s .now) (rowsOf (c .before .before .before .before .before .before .before .before .before .before .before .before .before .args .layers .now) (c .before .before .before .before .before .before .before .before .before .before .before .before .before .args .polygons .now) (c .before .before .before .before .before .before .before .before .before .before .before .before .before .args .sheets .now) (c .before .before .before .before .before .before .before .before .before .before .before .before .before .args .points .now) (c .before .before .before .before .before .before .before .before .before .before .before .before .before .args .splits .now)) (sym (c .before .before .before .before .before .before .before .answer .given .1) ∙ c .before .before .before .before .before .before .before .before .before .check .ensures .0) (not-false _ (c .if1 .left))
 
 at-first : (c : tie.After-copy-layers) → c .copy-layers .result ≡ found (c .before .before) .first
 at-first c = c .copy-layers .ensures .0 ∙ ap endOf (found (c .before .before) .layers)
@@ -46,12 +46,12 @@ enum-told c = search needs
 returns : tie.Need-returns
 returns c =
     let r = c .enum-told .given .1 in
-    let e = reading-refused (c .before .before .before .before .before .before .args .s .now) (rowsOf (c .before .before .before .before .before .before .args .layers .now) (c .before .before .before .before .before .before .args .polygons .now) (c .before .before .before .before .before .before .args .sheets .now) (c .before .before .before .before .before .before .args .points .now) (c .before .before .before .before .before .before .args .splits .now)) (refused-board (board (c .before .before .before .before .before .before .args .s .now)) (sym r ∙ c .before .before .check .ensures)) in
+    let e = reading-refused (c .before .before .before .before .before .before .args .s .now) (rowsOf (c .before .before .before .before .before .before .args .layers .now) (c .before .before .before .before .before .before .args .polygons .now) (c .before .before .before .before .before .before .args .sheets .now) (c .before .before .before .before .before .before .args .points .now) (c .before .before .before .before .before .before .args .splits .now)) (refused-board (board (c .before .before .before .before .before .before .args .s .now)) (sym r ∙ c .before .before .check .ensures .0)) in
     (ap readSaid r ∙ sym (ap says e), rw e refl)
 
 returns-2 : tie.Need-returns-2
 returns-2 c =
-    let a = accepted-board (board (c .before .before .before .before .before .before .before .before .before .before .before .before .before .args .s .now)) (sym (c .before .before .before .before .before .before .before .answer .given .1) ∙ c .before .before .before .before .before .before .before .before .before .check .ensures) in
+    let a = accepted-board (board (c .before .before .before .before .before .before .before .before .before .before .before .before .before .args .s .now)) (sym (c .before .before .before .before .before .before .before .answer .given .1) ∙ c .before .before .before .before .before .before .before .before .before .check .ensures .0) in
     let e = reading-no-room (c .before .before .before .before .before .before .before .before .before .before .before .before .before .args .s .now) (rowsOf (c .before .before .before .before .before .before .before .before .before .before .before .before .before .args .layers .now) (c .before .before .before .before .before .before .before .before .before .before .before .before .before .args .polygons .now) (c .before .before .before .before .before .before .before .before .before .before .before .before .before .args .sheets .now) (c .before .before .before .before .before .before .before .before .before .before .before .before .before .args .points .now) (c .before .before .before .before .before .before .before .before .before .before .before .before .before .args .splits .now)) a.2 (ap (hasRoom (rowsOf (c .before .before .before .before .before .before .before .before .before .before .before .before .before .args .layers .now) (c .before .before .before .before .before .before .before .before .before .before .before .before .before .args .polygons .now) (c .before .before .before .before .before .before .before .before .before .before .before .before .before .args .sheets .now) (c .before .before .before .before .before .before .before .before .before .before .before .before .before .args .points .now) (c .before .before .before .before .before .before .before .before .before .before .before .before .before .args .splits .now))) (sym a.4) ∙ not-true _ (c .if1 .taken)) in
     (rw e refl, rw e refl)
 

@@ -1,7 +1,7 @@
 -- `even::even_table` meets its contract. Assumes nothing.
 use Prim.Native.Nat.{_-_, _/_}
 use mathlib.Core.Path.{_≡_, sym, ap, ap₂, _∙_}
-use mathlib.Core.Bool.{true, false}
+use mathlib.Core.Bool.{true, false, true≢false}
 use mathlib.Core.List.{[], _∷_}
 use native.Mathlib.Omega.{arith}
 use lib.ListN.{length}
@@ -10,7 +10,7 @@ use Rattle.refusals.specs.Said.{accepted, refused}
 use Rattle.table.specs.Mesh.{table}
 use Rattle.table.specs.Formed.{wellFormed, WellFormed}
 use Rattle.table.proofs.Cells.{length-table}
-use Rattle.table.proofs.Wellformed.{formed-facts}
+use Rattle.table.proofs.Wellformed.{formed-facts, facts-formed}
 use Rattle.coarsest.specs.Passes.{evened}
 use Rattle.coarsest.proofs.Evened.{evened-grown}
 use Rattle.even.specs.Rows.{rowOf}
@@ -30,12 +30,14 @@ formed c = sym (c .before .well-formed .ensures) ∙ not-false (c .before .well-
 facts : (c : tie.Else1) → WellFormed (c .before .before .before .args .t .now) (c .before .before .before .args .head .count) (c .before .before .before .args .head .«max_level»)
 facts c = formed-facts _ _ _ (formed c)
 
+-- where it refuses, it is not
+unformed : (c : tie.Then1) → wellFormed (c .before .before .before .args .t .now) (c .before .before .before .args .head .count) (c .before .before .before .args .head .«max_level») ≡ false
+unformed c = sym (c .before .well-formed .ensures) ∙ not-true (c .before .well-formed .result) (c .if1 .taken)
+
 -- what is said at each way out
 says-7 : (c : tie.Then1) → evenSays (engineOf (c .before .before .before .args .conforms)) (c .before .before .before .args .k) (c .before .before .before .args .t .now) (c .before .before .before .args .head .count) (c .before .before .before .args .head .«max_level») ≡ refused 7 0
 unfolding evenSays
-says-7 c =
-    let e : wellFormed (c .before .before .before .args .t .now) (c .before .before .before .args .head .count) (c .before .before .before .args .head .«max_level») ≡ false = sym (c .before .well-formed .ensures) ∙ not-true (c .before .well-formed .result) (c .if1 .taken) in
-    rw e
+says-7 c = rw (unformed c)
 
 says-6 : (c : tie.Then2) → evenSays (engineOf (c .before .before .before .before .before .before .before .args .conforms)) (c .before .before .before .before .before .before .before .args .k) (c .before .before .before .before .before .before .before .args .t .now) (c .before .before .before .before .before .before .before .args .head .count) (c .before .before .before .before .before .before .before .args .head .«max_level») ≡ refused 6 0
 unfolding evenSays
@@ -57,7 +59,7 @@ same-length c = search needs
 
 returns : tie.Need-returns
 unfolding evenRow
-returns c = (sym (says-7 c), (rw (says-7 c), demand-bad _ _ _ _ _))
+returns c = (sym (says-7 c), (rw (says-7 c), demand-bad _ _ _ _ (λ w. true≢false (sym (facts-formed _ _ _ w) ∙ unformed c))))
 
 even-out-requires : tie.Need-even-out-requires
 even-out-requires c κs = (facts (c .before), c .before .before .before .before .pre)
@@ -74,11 +76,12 @@ returns-2 c =
     let s = c .before .before .before .before .before .before .before .before .before .before .args in
     let x = c .before .before .before in
     let g = c .before .before .before .before .before .even-out .ensures in
-    let w = facts (c .before .before .before .before .before .before .before) in (
+    let w = facts (c .before .before .before .before .before .before .before) in
+    let same = c .before .undo .ensures ∙ g .back (s .head .count) (omega arith) ∙ undone-formed _ _ _ w in (
       sym (says-6 x),
       (
-        rw (says-6 x) (c .before .undo .ensures ∙ g .back (s .head .count) (omega arith) ∙ undone-formed _ _ _ w),
-        demand-full (engineOf (s .conforms)) (s .k) (s .head .«max_level») (s .t .now) _ (s .head .count) w (g .full (x .if2 .taken)),
+        rw (says-6 x) same,
+        demand-full (engineOf (s .conforms)) (s .k) (s .head .«max_level») (s .t .now) _ (s .head .count) w (g .full (x .if2 .taken)) same,
       ),
     )
 
@@ -100,7 +103,7 @@ returns-3 c =
       sym (says-done c),
       (
         rw (says-done c) (row-is _ _ _ (g .formed (c .if2 .left)) ∙ ap₂ rowOf (g .cells (c .if2 .left)) (g .size)),
-        demand-done (engineOf (s .conforms)) (s .k) (s .head .«max_level») (s .t .now) _ (s .head .count) w _ (g .cells (c .if2 .left)),
+        demand-done (engineOf (s .conforms)) (s .k) (s .head .«max_level») (s .t .now) _ (s .head .count) w _ (g .cells (c .if2 .left)) (c .if2 .left),
       ),
     )
 

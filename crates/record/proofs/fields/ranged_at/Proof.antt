@@ -6,10 +6,9 @@ use Rattle.record.proofs.fields.ranged_at.Statement.{statement}
 use Rattle.record.proofs.fields.ranged_at.Tie as tie
 use Rattle.record.proofs.fields.ranged_at.Reads as reads
 use Rattle.record.proofs.fields.ranged_at.Lts as lts
-use Rattle.record.proofs.fields.field_at.Reads as field-at-reads
 
-field-at-requires : tie.Need-field-at-requires
-field-at-requires c κs = search needs
+read-requires : tie.Need-read-requires
+read-requires c κs = search needs
 
 enum-known-f : tie.Need-enum-known-f
 enum-known-f c = search needs
@@ -19,16 +18,16 @@ enum-told c = search needs
 
 returns : tie.Need-returns
 unfolding ranged
-returns c = rw (← c .before .before .field-at .ensures, c .enum-told .given .1) refl
+returns c = rw (← c .before .before .read .ensures .0, c .enum-told .given .1) refl
 
 returns-2 : tie.Need-returns-2
 unfolding ranged
-returns-2 c = rw (← c .before .before .before .before .field-at .ensures, c .before .before .f .given .1, c .if1 .taken) refl
+returns-2 c = rw (← c .before .before .before .before .read .ensures .0, c .before .before .f .given .1, c .if1 .taken) refl
 
 returns-3 : tie.Need-returns-3
 unfolding ranged
-returns-3 c = rw (← c .before .before .before .before .field-at .ensures, c .before .before .f .given .1, c .if1 .left) refl
+returns-3 c = rw (← c .before .before .before .before .read .ensures .0, c .before .before .f .given .1, c .if1 .left) refl
 
 pub ranged-at-spec : {M : Type 1} → statement M
 ranged-at-spec =
-    tie.close (tie.spec field-at-requires enum-known-f enum-told returns returns-2 returns-3)
+    tie.close (tie.spec read-requires enum-known-f enum-told returns returns-2 returns-3)

@@ -1,2 +1,0 @@
--- What a reader finds where it stands.
-pub mod Standing
