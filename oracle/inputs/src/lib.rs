@@ -3,6 +3,7 @@
 pub mod boards;
 pub mod damage;
 pub mod large_meshes;
+pub mod limit_records;
 pub mod long_rings;
 pub mod mesh_faults;
 pub mod meshes;
