@@ -1,10 +1,11 @@
-// Runs stored cases of power and of the two checks of a net, and prints every answer with the row that was lent. `stdin` has the
+// Runs stored cases of power, of the two checks of a net and of network, and prints every answer with the row that was lent. `stdin` has the
 // cases and `stdout` what the original answered. Both were written by
 //
 //   oracle/replays.sh
 use cases::load;
 use cases::print;
 use conforming::Checked;
+use network::Netted;
 use power::Power;
 use table::Head;
 
@@ -31,6 +32,8 @@ const STREAM: usize = 262144;
 const POWER: u64 = 1;
 
 const NETWORK_CONFORMING: u64 = 2;
+
+const NETWORK: u64 = 4;
 
 fn print_power(answer: Power) {
     match answer {
@@ -266,6 +269,158 @@ fn run_check(
     }
 }
 
+fn print_netted(answer: Netted) {
+    match answer {
+        Netted::Done(counts) => {
+            print::natural(counts.nodes as u64);
+            print::natural(counts.edges as u64);
+            print::natural(counts.cells as u64);
+            print::end();
+        }
+        Netted::Refused(why) => print::refused(why),
+    }
+}
+
+fn make_net(
+    t: &[i64],
+    head: Head,
+    layers: &[u16],
+    components: &[u32],
+    sheets: &[f64],
+    nodes: &mut [i64],
+    ends: &mut [u64],
+    conductances: &mut [f64],
+    corners: &mut [u64],
+    cells: &mut [f64],
+    work: &mut [u64],
+) {
+    print::text(b"network");
+    print_netted(network::network(
+        t,
+        head,
+        layers,
+        components,
+        sheets,
+        nodes,
+        ends,
+        conductances,
+        corners,
+        cells,
+        work,
+    ));
+    print::signed_row(nodes);
+    print::natural_row(ends);
+    print::fraction_row(conductances);
+    print::natural_row(corners);
+    print::fraction_row(cells);
+    print::work_row(work);
+}
+
+// Conductances, corners, cells and the work room stand next.
+fn run_weights(
+    s: &[u8],
+    start: usize,
+    t: &[i64],
+    head: Head,
+    layers: &[u16],
+    components: &[u32],
+    sheets: &[f64],
+    nodes: &mut [i64],
+    ends: &mut [u64],
+) -> usize {
+    let mut conductances = [0.0f64; EDGES];
+    let a = load::fractions_part(s, start, &mut conductances);
+    let n = a.length;
+    let mut corners = [0u64; CORNERS];
+    let b = load::natural_part(s, a.next, &mut corners);
+    let m = b.length;
+    let mut cells = [0.0f64; CELLS];
+    let c = load::fractions_part(s, b.next, &mut cells);
+    let k = c.length;
+    let mut work = [0u64; WORK];
+    let d = load::natural_part(s, c.next, &mut work);
+    let l = d.length;
+    make_net(
+        t,
+        head,
+        layers,
+        components,
+        sheets,
+        nodes,
+        ends,
+        &mut conductances[..n],
+        &mut corners[..m],
+        &mut cells[..k],
+        &mut work[..l],
+    );
+    d.next
+}
+
+// The rows for the net stand next, in two parts: a proof about one function with all six is found no more.
+fn run_rooms(
+    s: &[u8],
+    start: usize,
+    t: &[i64],
+    head: Head,
+    layers: &[u16],
+    components: &[u32],
+    sheets: &[f64],
+) -> usize {
+    let mut nodes = [0i64; NODES];
+    let a = load::signed_part(s, start, &mut nodes);
+    let n = a.length;
+    let mut ends = [0u64; ENDS];
+    let b = load::natural_part(s, a.next, &mut ends);
+    let m = b.length;
+    run_weights(
+        s,
+        b.next,
+        t,
+        head,
+        layers,
+        components,
+        sheets,
+        &mut nodes[..n],
+        &mut ends[..m],
+    )
+}
+
+// The polygons' rows stand next.
+fn run_polygons(s: &[u8], start: usize, t: &[i64], head: Head) -> usize {
+    let mut layers = [0u16; POLYGONS];
+    let a = load::layers_part(s, start, &mut layers);
+    let n = a.length;
+    let mut components = [0u32; POLYGONS];
+    let b = load::components_part(s, a.next, &mut components);
+    let m = b.length;
+    let mut sheets = [0.0f64; POLYGONS];
+    let c = load::fractions_part(s, b.next, &mut sheets);
+    let k = c.length;
+    run_rooms(
+        s,
+        c.next,
+        t,
+        head,
+        &layers[..n],
+        &components[..m],
+        &sheets[..k],
+    )
+}
+
+// A table stands next, its count and level in front.
+fn run_network(s: &[u8], start: usize) -> usize {
+    let count = cases::word(s, start);
+    let level = cases::word(s, count.next);
+    let mut table = [0i64; TABLE];
+    let a = load::signed_part(s, level.next, &mut table);
+    let n = a.length;
+    let head = Head {
+        count: count.value as usize,
+        max_level: level.value,
+    };
+    run_polygons(s, a.next, &table[..n], head)
+}
+
 // The call of this kind on a net.
 fn run_on(
     s: &[u8],
@@ -284,11 +439,10 @@ fn run_on(
     }
 }
 
-// A kind, then the five rows of a net.
-fn run(s: &[u8], start: usize) -> usize {
-    let kind = cases::word(s, start);
+// The five rows of a net stand next.
+fn run_net(s: &[u8], start: usize, kind: u64) -> usize {
     let mut nodes = [0i64; NODES];
-    let a = load::signed_part(s, kind.next, &mut nodes);
+    let a = load::signed_part(s, start, &mut nodes);
     let n = a.length;
     let mut ends = [0u64; ENDS];
     let b = load::natural_part(s, a.next, &mut ends);
@@ -305,13 +459,22 @@ fn run(s: &[u8], start: usize) -> usize {
     run_on(
         s,
         f.next,
-        kind.value,
+        kind,
         &nodes[..n],
         &ends[..m],
         &conductances[..e],
         &corners[..k],
         &sheets[..l],
     )
+}
+
+fn run(s: &[u8], start: usize) -> usize {
+    let kind = cases::word(s, start);
+    if kind.value == NETWORK {
+        run_network(s, kind.next)
+    } else {
+        run_net(s, kind.next, kind.value)
+    }
 }
 
 // As many cases as the stream says.

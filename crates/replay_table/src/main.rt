@@ -15,6 +15,8 @@ use table::refine::Refined;
 const TABLE: usize = 520;
 
 const ANSWERS: usize = 80;
+// One slot more than a table may have.
+const ZEROS: usize = 131080;
 // The longest stream.
 const STREAM: usize = 262144;
 
@@ -29,6 +31,10 @@ const REFINE: u64 = 5;
 const BALANCE: u64 = 6;
 
 const CONFORM: u64 = 7;
+
+const LEAF_COUNT_OF_ZEROS: u64 = 8;
+
+const LEAF_COUNT_OF_PART: u64 = 9;
 
 fn print_head(head: Head) {
     print::natural(head.count as u64);
@@ -177,10 +183,52 @@ fn run_table(s: &[u8], start: usize, kind: u64) -> usize {
     run_on(s, a.next, kind, &mut t[..n], head)
 }
 
+// Lends so many numbers of a row, if it has them.
+fn run_front(t: &[i64], n: usize, head: Head) {
+    if n > t.len() {
+        return;
+    }
+    run_leaf_count(&t[..n], head);
+}
+
+// A row of zeros, which may be longer than a stream: count, level and length stand next.
+fn run_zeros(s: &[u8], start: usize) -> usize {
+    let count = cases::word(s, start);
+    let level = cases::word(s, count.next);
+    let length = cases::word(s, level.next);
+    let head = Head {
+        count: count.value as usize,
+        max_level: level.value,
+    };
+    let zeros = [0i64; ZEROS];
+    run_front(&zeros, length.value as usize, head);
+    length.next
+}
+
+// Count, level and length stand next, then a table of which no more than that is lent: what stands behind could pass for
+// a part of it.
+fn run_part(s: &[u8], start: usize) -> usize {
+    let count = cases::word(s, start);
+    let level = cases::word(s, count.next);
+    let length = cases::word(s, level.next);
+    let head = Head {
+        count: count.value as usize,
+        max_level: level.value,
+    };
+    let mut t = [0i64; TABLE];
+    let a = load::signed_part(s, length.next, &mut t);
+    run_front(&t, length.value as usize, head);
+    a.next
+}
+
 fn run(s: &[u8], start: usize) -> usize {
     let kind = cases::word(s, start);
     if kind.value == CONTACT {
         run_contact(s, kind.next)
+    } else if kind.value == LEAF_COUNT_OF_ZEROS {
+        run_zeros(s, kind.next)
+    } else if kind.value == LEAF_COUNT_OF_PART {
+        run_part(s, kind.next)
     } else {
         run_table(s, kind.next, kind.value)
     }

@@ -1,12 +1,14 @@
-//! Power and the two checks, on nets of at most 64 nodes or so.
+//! Power, the two checks and network, on nets of at most 64 nodes or so.
 
 use crate::replay::{class, Case, Replay};
 use calls::checks::{check_by_layer, check_network_conforming, Hanging};
 use calls::net::Net;
+use calls::network::{network_in_rows, NetLengths};
 use calls::power::cell_power;
 use calls::sheets::Sheets;
 use calls::Answer;
 use inputs::damage::damage;
+use inputs::limit_nets::{limit_nets, NetCase};
 use inputs::mesh_faults::{add_too_many, drop_polygons, spoil_rows};
 use inputs::meshes::{any_mesh, boundary_meshes, Mesh};
 use inputs::net_changes::change_net;
@@ -16,6 +18,7 @@ use inputs::Random;
 const POWER: u64 = 1;
 const NETWORK_CONFORMING: u64 = 2;
 const BY_LAYER: u64 = 3;
+const NETWORK: u64 = 4;
 
 /// The longest rows of the program.
 const NODES: usize = 272;
@@ -38,6 +41,11 @@ const WORK_AN_EDGE: usize = 3;
 
 pub fn replay(count: u64, random: &mut Random) -> Replay {
     let mut replay = Replay::new("replay_net", count);
+    for case in limit_nets() {
+        replay.name(&case.name);
+        run_network(&case, &mut replay);
+    }
+    replay.name("a mesh that shows one thing");
     for mesh in boundary_meshes() {
         let net = mesh.net().expect("a sound mesh has a net");
         run_power(&net, random, &mut replay);
@@ -52,6 +60,56 @@ pub fn replay(count: u64, random: &mut Random) -> Replay {
         run_mesh(any_mesh(random), random, &mut replay);
     }
     replay
+}
+
+/// Each row holds its own number at each place; an accepted call writes the front and zeroes the
+/// work room.
+fn run_network(lent: &NetCase, replay: &mut Replay) {
+    let NetCase { mesh, lengths, .. } = lent;
+    assert!(lengths.nodes <= NODES && lengths.ends <= ENDS && lengths.corners <= CORNERS);
+    let table = &mesh.table;
+    let mut rows = unused(lengths);
+    let mut work: Vec<u64> = (0..lengths.work as u64).map(|place| SENTINEL + place).collect();
+
+    let mut case = Case::of_kind(NETWORK);
+    lend_table(&mut case, mesh);
+    lend_polygons(&mut case, mesh);
+    case.fraction_row(&mesh.sheets);
+    lend_net(&mut case, &rows);
+    case.row(&work);
+    let answer =
+        network_in_rows(&table.row, table.count, table.max_level, &mesh.polygons(), lengths);
+    if let Ok(net) = &answer {
+        rows.nodes[..net.nodes.len()].copy_from_slice(&net.nodes);
+        rows.ends[..net.ends.len()].copy_from_slice(&net.ends);
+        rows.conductance[..net.conductance.len()].copy_from_slice(&net.conductance);
+        rows.corners[..net.corners.len()].copy_from_slice(&net.corners);
+        rows.r_sheet[..net.r_sheet.len()].copy_from_slice(&net.r_sheet);
+        work.fill(0);
+    }
+    let counts = |net: Net| {
+        [net.nodes.len() / 4, net.conductance.len(), net.r_sheet.len()].map(|n| n as u64).to_vec()
+    };
+    let number = answer.as_ref().err().map_or(0, |why| why.number);
+    case.answer("network", answer.map(counts));
+    case.print(&rows.nodes);
+    case.print(&rows.ends);
+    case.print_fractions(&rows.conductance);
+    case.print(&rows.corners);
+    case.print_fractions(&rows.r_sheet);
+    case.print_filled(&work);
+    replay.offer(("network", number, 0), case);
+}
+
+fn unused(lengths: &NetLengths) -> Net {
+    let place = |at: usize| SENTINEL + at as u64;
+    Net {
+        nodes: (0..lengths.nodes).map(|at| place(at) as i64).collect(),
+        ends: (0..lengths.ends).map(place).collect(),
+        conductance: (0..lengths.conductances).map(|at| place(at) as f64).collect(),
+        corners: (0..lengths.corners).map(place).collect(),
+        r_sheet: (0..lengths.sheets).map(|at| place(at) as f64).collect(),
+    }
 }
 
 /// Few numbers, but for one in so many.
@@ -74,12 +132,21 @@ fn fits(net: &Net) -> bool {
 
 fn lent(kind: u64, net: &Net) -> Case {
     let mut case = Case::of_kind(kind);
+    lend_net(&mut case, net);
+    case
+}
+
+fn lend_net(case: &mut Case, net: &Net) {
     case.signed_row(&net.nodes);
     case.row(&net.ends);
     case.fraction_row(&net.conductance);
     case.row(&net.corners);
     case.fraction_row(&net.r_sheet);
-    case
+}
+
+fn lend_polygons(case: &mut Case, mesh: &Mesh) {
+    case.row(&mesh.layers.iter().map(|&layer| u64::from(layer)).collect::<Vec<_>>());
+    case.row(&mesh.components.iter().map(|&number| u64::from(number)).collect::<Vec<_>>());
 }
 
 /// Sound, with a damaged net, with bad potentials, in too little room; what was done to it is part
@@ -144,8 +211,7 @@ fn run_checks(mesh: &Mesh, net: &Net, random: &mut Random, replay: &mut Replay) 
 
     let mut case = lent(BY_LAYER, net);
     lend_table(&mut case, mesh);
-    case.row(&mesh.layers.iter().map(|&layer| u64::from(layer)).collect::<Vec<_>>());
-    case.row(&mesh.components.iter().map(|&number| u64::from(number)).collect::<Vec<_>>());
+    lend_polygons(&mut case, mesh);
     let r_sheet = vec![1.0; mesh.layers.len()];
     let sheets = Sheets { layer: &mesh.layers, component: &mesh.components, r_sheet: &r_sheet };
     let answer = check_by_layer(&table.row, table.count, table.max_level, &sheets, &rows);

@@ -33,9 +33,11 @@ const SOME_ROOM: usize = 2;
 
 pub fn replay(count: u64, random: &mut Random) -> Replay {
     let mut replay = Replay::new("replay_outline", count);
+    replay.name("a ring that shows one thing");
     for ring in boundary_rings(random) {
         run_strips(&ring, random, &mut replay);
     }
+    replay.name("a board that shows one thing");
     for (plan, length) in boundary_boards(random) {
         run_build(&plan, length, &mut replay);
     }

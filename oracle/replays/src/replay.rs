@@ -7,6 +7,9 @@ use std::fmt::Write;
 use std::fs;
 use std::path::Path;
 
+/// Where the names of named cases are written, each with its line of `stdout`; seen from oracle/.
+const NAMES: &str = "names";
+
 /// The longest stream that a program reads.
 const STREAM: usize = 262_144;
 
@@ -98,6 +101,7 @@ pub struct Replay {
     drawing: bool,
     bytes: Vec<u8>,
     text: String,
+    names: String,
 }
 
 impl Replay {
@@ -110,11 +114,19 @@ impl Replay {
             drawing: false,
             bytes: Vec::new(),
             text: String::new(),
+            names: String::new(),
         }
+    }
+
+    /// The next case has this name.
+    pub fn name(&mut self, name: &str) {
+        let line = self.text.lines().count() + 1;
+        writeln!(self.names, "{line} {name}").expect("a string takes text");
     }
 
     /// From here on a case is kept only if its class isn't full.
     pub fn draw(&mut self) {
+        self.name("a drawn case");
         self.drawing = true;
     }
 
@@ -132,7 +144,7 @@ impl Replay {
         self.text += &case.text;
     }
 
-    /// Writes stdin and stdout, and says what they hold.
+    /// Writes stdin, stdout and the names, and says what they hold.
     pub fn write(&self, crates: &Path) {
         let cases: u64 = self.boundary + self.kept.values().sum::<u64>();
         let mut stream = Case::default();
@@ -143,6 +155,8 @@ impl Replay {
         let folder = crates.join(self.name);
         fs::write(folder.join("stdin"), &stream.bytes).expect("stdin can be written");
         fs::write(folder.join("stdout"), &self.text).expect("stdout can be written");
+        fs::create_dir_all(NAMES).expect("a folder can be made");
+        fs::write(Path::new(NAMES).join(self.name), &self.names).expect("names can be written");
         let (bytes, text) = (stream.bytes.len(), self.text.len());
         println!("{}: {cases} cases, {bytes} bytes, {text} bytes of text", self.name);
         println!("  boundary cases: {}", self.boundary);

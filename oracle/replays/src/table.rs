@@ -5,6 +5,7 @@ use calls::contact::contact;
 use calls::even::{even, Allowed};
 use calls::table::{leaf_count, leaf_order, leaves, refine, Slot, WIDTH};
 use inputs::damage::damage;
+use inputs::limit_tables::{limit_parts, limit_tables, limit_zero_rows, ZeroRow};
 use inputs::rectangles::{random_pair, Pair};
 use inputs::tables::{random_roomy_table, random_table, random_unbalanced_table, Table};
 use inputs::Random;
@@ -16,6 +17,8 @@ const LEAF_ORDER: u64 = 4;
 const REFINE: u64 = 5;
 const BALANCE: u64 = 6;
 const CONFORM: u64 = 7;
+const LEAF_COUNT_OF_ZEROS: u64 = 8;
+const LEAF_COUNT_OF_PART: u64 = 9;
 
 /// The longest table and the longest answer row of the program.
 const LONGEST: usize = 520;
@@ -28,6 +31,20 @@ const SENTINEL: u64 = 900;
 
 pub fn replay(count: u64, random: &mut Random) -> Replay {
     let mut replay = Replay::new("replay_table", count);
+    for (name, row) in limit_zero_rows() {
+        replay.name(&name);
+        run_zeros(row, &mut replay);
+    }
+    for (name, table, slots) in limit_parts() {
+        replay.name(&name);
+        run_part(&table, slots, &mut replay);
+    }
+    for (name, table) in limit_tables() {
+        assert!(table.row.len() <= LONGEST, "the program reads no more");
+        replay.name(&name);
+        run_leaf_count(&table, &mut replay);
+    }
+    replay.name("a pair or table that shows one thing");
     for pair in boundary_pairs() {
         run_contact(pair, &mut replay);
     }
@@ -106,13 +123,38 @@ fn lent(kind: u64, table: &Table) -> Case {
     case
 }
 
-/// Each call once.
-fn run_table(table: &Table, random: &mut Random, replay: &mut Replay) {
+/// The row is made of zeros by the program.
+fn run_zeros((count, max_level, length): ZeroRow, replay: &mut Replay) {
+    let found = leaf_count(&vec![0; length], count, max_level);
+    let mut case = Case::of_kind(LEAF_COUNT_OF_ZEROS);
+    case.numbers([count as u64, max_level, length as u64]);
+    case.answer("leaf_count", found.map(|leaves| vec![leaves]));
+    replay.offer(class("leaf_count", &found, |_| 0), case);
+}
+
+/// The whole row is in the stream, and its first slots are lent.
+fn run_part(table: &Table, slots: usize, replay: &mut Replay) {
+    let length = slots * WIDTH;
+    let found = leaf_count(&table.row[..length], table.count, table.max_level);
+    let mut case = Case::of_kind(LEAF_COUNT_OF_PART);
+    case.numbers([table.count as u64, table.max_level, length as u64]);
+    case.signed_row(&table.row);
+    case.answer("leaf_count", found.map(|leaves| vec![leaves]));
+    replay.offer(class("leaf_count", &found, |_| 0), case);
+}
+
+/// The count, where there is one.
+fn run_leaf_count(table: &Table, replay: &mut Replay) -> Option<u64> {
     let found = leaf_count(&table.row, table.count, table.max_level);
     let mut case = lent(LEAF_COUNT, table);
     case.answer("leaf_count", found.map(|leaves| vec![leaves]));
     replay.offer(class("leaf_count", &found, |_| 0), case);
+    found.ok()
+}
 
+/// Each call once.
+fn run_table(table: &Table, random: &mut Random, replay: &mut Replay) {
+    let found = run_leaf_count(table, replay);
     let exact = found.unwrap_or(random.below(12)) as usize;
     let rooms = [exact, exact, exact.saturating_sub(1), exact + 3, 0];
     run_leaves(table, random.pick(&rooms).min(ANSWERS), replay);
