@@ -22,6 +22,7 @@ ROOT = os.path.dirname(ORACLE)
 
 TABLE, NET, BOARDS = "replay_table", "replay_net", "replay_boards"
 FORMED = "table/src/formed.rt"
+SLOTS = "table/src/slots.rt"
 LIMITS = "refusals/src/limits.rt"
 CHECK = "record/src/check.rt"
 JUDGE = "network/src/judge.rt"
@@ -56,6 +57,12 @@ FAULTS = [
     ("root of no width", TABLE, FORMED, "if a < b {", "if a <= b {"),
     ("step 2^m in a table", TABLE, FORMED, "let mut p: u64 = 2;", "let mut p: u64 = 1;"),
     ("root's numbers of any range", TABLE, FORMED, "if !in_slot(t, i) {", "if n < i {"),
+    ("root's x0 of any range", TABLE, SLOTS, "in_range_at(t, b)\n        & ", ""),
+    ("root's y0 of any range", TABLE, SLOTS, "\n        & in_range_at(t, b + 1)", ""),
+    ("root's x1 of any range", TABLE, SLOTS, "\n        & in_range_at(t, b + 2)", ""),
+    ("root's y1 of any range", TABLE, SLOTS, "\n        & in_range_at(t, b + 3)", ""),
+    ("negative level", TABLE, SLOTS, "\n        & natural_at(t, b + 4)", ""),
+    ("negative polygon", TABLE, SLOTS, "\n        & natural_at(t, b + 7)", ""),
     ("polygon of any number", TABLE, FORMED, "(c.poly < limits::POLYGONS as u64) & root_ok", "root_ok"),
     ("polygon 256", TABLE, FORMED, "c.poly < limits", "c.poly <= limits"),
     ("level past the table's", TABLE, FORMED, "if m <= c.level {", "if m < c.level {"),

@@ -97,10 +97,10 @@ fn roots() -> Vec<Named> {
     let (low, high) = (-COORDINATE, COORDINATE);
     let mut list = vec![
         named("a root over the whole field", root([low, low, high, high])),
-        named("x0 past the range", root([low - SIDE, 0, low, SIDE])),
-        named("y0 past the range", root([0, low - SIDE, SIDE, low])),
-        named("x1 past the range", root([high, 0, high + SIDE, SIDE])),
-        named("y1 past the range", root([0, high, SIDE, high + SIDE])),
+        named("x0 past the range", root([low - SIDE, 0, low + SIDE, SIDE])),
+        named("y0 past the range", root([0, low - SIDE, SIDE, low + SIDE])),
+        named("x1 past the range", root([high - SIDE, 0, high + SIDE, SIDE])),
+        named("y1 past the range", root([0, high - SIDE, SIDE, high + SIDE])),
         named("a root of no width", root([0, 0, 0, SIDE])),
         named("a root of no height", root([0, 0, SIDE, 0])),
         named("a root turned in x", root([SIDE, 0, 0, SIDE])),
