@@ -3,6 +3,8 @@
 // Rows: a layer entry is [layer, cell]; a polygon is [layer, component, point count] with its r_sheet beside it; a point is [x, y],
 // those of all polygons one after another; a split is a cell's id. A row of small arrays can't hold a part of an item, its length is
 // the count of its items, and one store fills one item.
+#![tactic(auto)]
+
 ghost use Rattle.std.specs.Prelude.{◌≡◌};
 ghost use Rattle.board.specs.Rows.{rows_of};
 ghost use Rattle.board.specs.Reading.{readSaid, readSays, readLeaves};

@@ -8,7 +8,7 @@ ghost use Rattle.strips.specs.Walk.{Sound};
 use strips::walk::Strip;
 
 // Into how many cells a strip is cut each way.
-#[derive(Drop)]
+#[derive(Clone, Copy)]
 pub struct Cut {
     pub nx: u64,
     pub ny: u64,

@@ -8,7 +8,7 @@ use refusals::{Refusal, limits};
 use strips::ring;
 
 // Nothing against the polygons, or the first refusal.
-#[derive(Drop)]
+#[derive(Clone, Copy)]
 pub enum Judged {
     Sound,
     Faulty(Refusal),

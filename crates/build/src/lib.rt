@@ -1,4 +1,6 @@
 // From polygons to roots: from_polygons of the Rust, in whole ticks and into a lent table.
+#![tactic(auto)]
+
 ghost use Rattle.std.specs.Prelude.{◌≡◌, ◌/◌, length};
 ghost use Rattle.strips.specs.Said.{ifAccepted};
 ghost use Rattle.build.specs.Board.{board, rootsOf};
@@ -17,7 +19,7 @@ pub mod ranges;
 pub mod survey;
 
 // How the roots are cut.
-#[derive(Drop)]
+#[derive(Clone, Copy)]
 pub struct Settings {
     pub max_level: u64,
     pub cap: u64,
@@ -26,7 +28,7 @@ pub struct Settings {
 }
 
 // How many roots there are, or why there is no answer.
-#[derive(Drop)]
+#[derive(Clone, Copy)]
 pub enum Built {
     Done(usize),
     Refused(Refusal),

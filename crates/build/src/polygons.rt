@@ -7,7 +7,7 @@ use crate::survey::Tally;
 use crate::{Settings, grid, put, survey};
 
 // How many roots there are, as far as one more than the slots; or the first polygon with an uneven side.
-#[derive(Drop)]
+#[derive(Clone, Copy)]
 pub enum Survey {
     Roots(u64),
     Uneven(usize),

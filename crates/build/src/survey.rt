@@ -10,7 +10,7 @@ use crate::grid::Cut;
 use strips::walk;
 
 // The roots so far, or an uneven side.
-#[derive(Drop)]
+#[derive(Clone, Copy)]
 pub enum Tally {
     Even(u64),
     Uneven,

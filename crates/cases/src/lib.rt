@@ -2,6 +2,8 @@
 //
 // A number is a byte, how many bytes follow, and these: at most 8, the highest first. A signed number is in two's complement, a
 // fraction is its bits. A row is its length and its numbers. Past the end every number is 0.
+#![tactic(auto)]
+
 pub mod load;
 pub mod print;
 
@@ -9,7 +11,7 @@ use record::fields;
 use record::fields::Field;
 
 // A number and where the next begins.
-#[derive(Drop)]
+#[derive(Clone, Copy)]
 pub struct Number {
     pub value: u64,
     pub next: usize,

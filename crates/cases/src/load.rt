@@ -140,7 +140,7 @@ pub fn rectangles(s: &[u8], start: usize, row: &mut [[i64; 4]]) -> usize {
 }
 
 // How much of a row a case fills, and where the next number begins.
-#[derive(Drop)]
+#[derive(Clone, Copy)]
 pub struct Part {
     pub length: usize,
     pub next: usize,

@@ -1,6 +1,8 @@
 // A cell of the quadtree, by value: QuadCell of the Rust, in whole ticks.
 //
 // A cell's coordinates are offset by 2^36, so that the range of document 01 is 0 to 2^37 and no coordinate is negative.
+#![tactic(auto)]
+
 ghost use Rattle.std.specs.Prelude.{◌≡◌, ◌+◌, ◌/◌, ◌<◌};
 ghost use Rattle.refusals.specs.Limits.{maxLevel};
 ghost use Rattle.cell.specs.Boxes.{overlaps, sharesEdge, quadAt};
@@ -8,7 +10,7 @@ ghost use Rattle.cell.specs.Cells.{boxOf, rootOf, cut_to, centre, childOf};
 
 pub mod ticks;
 
-#[derive(Drop)]
+#[derive(Clone, Copy)]
 pub struct Cell {
     pub x0: u64,
     pub y0: u64,

@@ -2,6 +2,8 @@
 //
 // The row of work room, for n nodes and e edges: three blocks of nodes and one of edges, 3 * n and 3 * e long. Where the room is too short,
 // or the nodes are too many for the keys, the walk is the plain one.
+#![tactic(auto)]
+
 ghost use Rattle.std.specs.Prelude.{◌≡◌, true, ◌&&◌, ℕ, ◌+◌, ◌*◌, ◌/◌, ◌<◌, ◌≤◌, length, get_or, pos};
 ghost use Rattle.cell.specs.Ticks.{off};
 ghost use Rattle.table.specs.Slots.{cell_at, counted};

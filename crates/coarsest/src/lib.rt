@@ -1,4 +1,6 @@
 // Balance and conform: what they end in, as definitions and laws; and the test of one pair of cells that the engines make.
+#![tactic(auto)]
+
 ghost use Rattle.std.specs.Prelude.{◌≡◌};
 ghost use Rattle.table.specs.Mesh.{meshCell};
 ghost use Rattle.coarsest.specs.Passes.{dueCells};

@@ -1,6 +1,8 @@
 // Whether a net has both halves of every leaf edge with a node at its middle: check_network_conforming of the Rust, and the same by layer.
 //
 // The walk is the plain one: no work room is lent, and each place is looked for among all nodes.
+#![tactic(auto)]
+
 ghost use Rattle.std.specs.Prelude.{◌≡◌, ℕ, ◌+◌, ◌*◌, ◌/◌, ◌<◌, ◌≤◌, length, ltb};
 ghost use Rattle.refusals.specs.Said.{accepted};
 ghost use Rattle.table.specs.Slots.{cell_at};
@@ -13,27 +15,27 @@ use refusals::Refusal;
 use table::Head;
 
 // Which nodes are looked for: those of a layer and component, or, where `own` is false, all.
-#[derive(Drop)]
+#[derive(Clone, Copy)]
 pub struct Whose {
     pub own: bool,
     pub layer: i64,
     pub component: i64,
 }
 
-#[derive(Drop)]
+#[derive(Clone, Copy)]
 pub enum Place {
     Node(usize),
     Nowhere,
 }
 
 // A node that lacks a half, and the two ends of the leaf edge.
-#[derive(Drop)]
+#[derive(Clone, Copy)]
 pub enum Fault {
     Clear,
     Hanging(usize, usize, usize),
 }
 
-#[derive(Drop)]
+#[derive(Clone, Copy)]
 pub enum Checked {
     Conforms,
     Broken(usize, usize, usize),

@@ -1,4 +1,6 @@
 // Whether two rectangles share an edge, for a caller with signed coordinates.
+#![tactic(auto)]
+
 ghost use Rattle.std.specs.Prelude.{◌≡◌};
 ghost use Rattle.cell.specs.Cells.{rootOf};
 ghost use Rattle.cell.specs.Ticks.{off};
@@ -7,7 +9,7 @@ ghost use Rattle.contact.specs.Contact.{soundRect, contactSaid, contactSays};
 use cell::Cell;
 use refusals::Refusal;
 
-#[derive(Drop)]
+#[derive(Clone, Copy)]
 pub struct Rect {
     pub x0: i64,
     pub y0: i64,
@@ -15,7 +17,7 @@ pub struct Rect {
     pub y1: i64,
 }
 
-#[derive(Drop)]
+#[derive(Clone, Copy)]
 pub enum Contact {
     Shares(bool),
     Refused(Refusal),

@@ -14,7 +14,7 @@ use table::slots::{cell_at, level_at};
 // One box for each 64 ids of the most slots that a table can have.
 pub const BLOCKS: usize = 256;
 
-#[derive(Drop)]
+#[derive(Clone, Copy)]
 pub struct Bounds {
     pub x0: u64,
     pub y0: u64,

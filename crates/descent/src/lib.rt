@@ -1,5 +1,7 @@
 // The leaves that a leaf is to be compared with, found by descending from the roots: a cell that shares an edge with
 // another meets it, and so does every cell that holds it.
+#![tactic(auto)]
+
 ghost use Rattle.std.specs.Prelude.{◌≡◌, true, false, ◌+◌, ◌*◌, ◌<◌, ◌≤◌, pos, length, get_or};
 ghost use Rattle.std.specs.Int.Signed.{lt_z};
 ghost use Rattle.cell.specs.Cells.{boxOf};

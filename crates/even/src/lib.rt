@@ -1,5 +1,7 @@
 // Balance and conform on a lent table: AdaptiveGrid::balance and ::conform of the Rust, which end in the one coarsest
 // splitting or leave the table as it was.
+#![tactic(auto)]
+
 ghost use Rattle.std.specs.Prelude.{◌≡◌, ℕ, ◌+◌, ◌*◌, ◌<◌, ◌≤◌, length};
 ghost use Rattle.std.proofs.Math.Option.{some};
 ghost use Rattle.table.specs.Mesh.{at, table};
@@ -21,7 +23,7 @@ use table::formed::well_formed;
 use table::refine::split_cell;
 use table::slots::{cell_at, first_at, level_at};
 
-#[derive(Drop)]
+#[derive(Clone, Copy)]
 pub enum Evening {
     // The number of splits, and the table's new head.
     Done(usize, Head),
@@ -169,7 +171,7 @@ fn even_pass(
 }
 
 // The levels of the leaves whose rows a new leaf of level l can concern.
-#[derive(Drop)]
+#[derive(Clone, Copy)]
 struct Levels {
     low: u64,
     high: u64,

@@ -1,4 +1,6 @@
 // Fractions in binary64: the ranges of document 01.
+#![tactic(auto)]
+
 ghost use Rattle.std.specs.Prelude.{◌≡◌};
 ghost use Rattle.floats.specs.Fractions.{inSheet, inPotential};
 

@@ -2,6 +2,8 @@
 //
 // In front of the work room, for n nodes, stands a block of three parts of n numbers: keys, their order, and the first of equal key. The
 // gaps stand behind it.
+#![tactic(auto)]
+
 ghost use Rattle.std.specs.Prelude.{◌≡◌, ◌+◌, ◌*◌, ◌<◌, ◌≤◌, length};
 ghost use Rattle.refusals.specs.Limits.{maxSlots};
 ghost use Rattle.rows.specs.Parts.{part, put, tab};

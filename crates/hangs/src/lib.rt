@@ -1,6 +1,8 @@
 // What the cells ask for nodes at the middles of their sides: the second half of the extents. The Rust looks each middle up in a map from
 // places to nodes; here the middles, four to a cell, and behind them the nodes are sorted together by place, and the last of a place is
 // the node that the map would have.
+#![tactic(auto)]
+
 ghost use Rattle.std.specs.Prelude.{◌≡◌, List, ◌+◌, ◌*◌, ◌-◌, ◌%◌, ◌<◌, ◌≤◌, max, length, Float};
 ghost use Rattle.rows.specs.Order.{first_of, last_of};
 ghost use Rattle.rows.specs.Parts.{part, put, tab};

@@ -19,7 +19,7 @@ use writing::Written;
 
 // What a read answers: number and place as in an Outcome, then the settings and how many rows the board takes.
 #[repr(C)]
-#[derive(Drop)]
+#[derive(Clone, Copy)]
 pub struct ReadOutcome {
     pub number: u64,
     pub place: u64,

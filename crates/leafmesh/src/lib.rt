@@ -1,6 +1,8 @@
 // The public calls for programs in other languages: the C names of the static library, and nothing else.
 //
 // A slice is passed as a pointer and a length. Every call answers an Outcome by value.
+#![tactic(auto)]
+
 ghost use Rattle.std.specs.Prelude.{◌≡◌, [], ◌∷◌};
 ghost use Rattle.refusals.specs.Said.{accepted, refusal, bit};
 ghost use Rattle.contact.specs.Contact.{contactSaid, contactSays};
@@ -24,7 +26,7 @@ use table::refine::Refined;
 // number is 0 where the call was accepted, and value then its answer; otherwise the refusal's number, with its place.
 // In every answer of this library a field that does not apply is 0.
 #[repr(C)]
-#[derive(Drop)]
+#[derive(Clone, Copy)]
 pub struct Outcome {
     pub number: u64,
     pub place: u64,

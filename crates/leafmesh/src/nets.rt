@@ -19,7 +19,7 @@ use table::Head;
 
 // How many nodes, edges and cells a net has; number and place as in an Outcome.
 #[repr(C)]
-#[derive(Drop)]
+#[derive(Clone, Copy)]
 pub struct NetOutcome {
     pub number: u64,
     pub place: u64,
@@ -30,7 +30,7 @@ pub struct NetOutcome {
 
 // What a check found: broken is 1 where the node lacks a half of the leaf edge between the two ends, 0 where none does.
 #[repr(C)]
-#[derive(Drop)]
+#[derive(Clone, Copy)]
 pub struct CheckOutcome {
     pub number: u64,
     pub place: u64,

@@ -1,5 +1,7 @@
 // leafnet: reads a board record from standard input and writes its mesh and net as text. Of longer input than a record
 // may have only one byte more is read, and it is refused.
+#![tactic(auto)]
+
 use libc::{STDIN_FILENO, STDOUT_FILENO};
 
 fn main() {

@@ -1,4 +1,6 @@
 // The leaves of a table as rows: the polygon and the box of each, in the order in which the net goes over them.
+#![tactic(auto)]
+
 ghost use Rattle.std.specs.Prelude.{◌≡◌, ◌+◌, ◌*◌, ◌<◌, ◌≤◌, length, get_or, set};
 ghost use Rattle.rows.specs.Parts.{put};
 ghost use Rattle.table.specs.Slots.{cell_at};

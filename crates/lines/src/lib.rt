@@ -1,5 +1,7 @@
 // The text of `leafnet`, line by line. All of this is internal: each call puts its line into a lent row, asks that
 // there is room, and answers where the line ends.
+#![tactic(auto)]
+
 ghost use Rattle.std.specs.Prelude.{◌+◌, ◌*◌, ◌<◌, ◌≤◌, length};
 ghost use Rattle.lines.specs.Text.{Puts, totalsText, refusedText};
 ghost use Rattle.lines.specs.Text.{totalsMost, leafMost, nodeMost, edgeMost, refusedMost};

@@ -1,5 +1,7 @@
 // From a record's bytes to a balanced table and its leaf order: what `leafnet` does before it makes the network. All of
 // it is internal: the rows are as long as that program lends them.
+#![tactic(auto)]
+
 ghost use Rattle.std.specs.Prelude.{◌≡◌, true, length, take};
 ghost use Rattle.std.proofs.lemmas.List.Edits.{sets};
 ghost use Rattle.table.specs.Formed.{wellFormed};
@@ -31,7 +33,7 @@ pub const INPUT: usize = 16384;
 
 // What the program goes on with: the table's head, how many polygons and leaves there are, and how many splits balance
 // made.
-#[derive(Drop)]
+#[derive(Clone, Copy)]
 pub struct Totals {
     pub max_level: u64,
     pub count: usize,
@@ -40,7 +42,7 @@ pub struct Totals {
     pub leaves: usize,
 }
 
-#[derive(Drop)]
+#[derive(Clone, Copy)]
 pub enum Meshed {
     Done(Totals),
     Refused(Refusal),

@@ -40,7 +40,7 @@ pub fn rows_fit(
 }
 
 // The first polygon whose sheet resistance is out of range.
-#[derive(Drop)]
+#[derive(Clone, Copy)]
 pub enum Sheet {
     Fine,
     Bad(usize),

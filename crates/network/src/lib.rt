@@ -2,6 +2,8 @@
 //
 // nodes: four numbers a node: layer, component, x, y. ends: two numbers an edge. conductances: one an edge. corners: four numbers a cell:
 // its nodes SW, SE, NE, NW. cells: one a cell, its sheet resistance.
+#![tactic(auto)]
+
 ghost use Rattle.std.specs.Prelude.{◌≡◌, length};
 ghost use Rattle.table.specs.Leaves.{leafIds};
 ghost use Rattle.leafrows.specs.Rows.{Given};
@@ -13,7 +15,7 @@ use refusals::{Refusal, limits};
 use table::Head;
 use unweighted::Counts;
 
-#[derive(Drop)]
+#[derive(Clone, Copy)]
 pub enum Netted {
     Done(Counts),
     Refused(Refusal),

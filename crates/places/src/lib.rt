@@ -2,6 +2,8 @@
 // every map.
 //
 // The rows of work room, for l leaves: the polygon of each leaf, its class, and blocks of places and of parts of edges.
+#![tactic(auto)]
+
 ghost use Rattle.std.specs.Prelude.{◌≡◌, [], ◌∷◌, ◌+◌, ◌*◌, ◌<◌, ◌≤◌, length, get_or};
 ghost use Rattle.refusals.specs.Limits.{maxSlots, maxPolygons};
 ghost use Rattle.rows.specs.Parts.{part, put, tab};

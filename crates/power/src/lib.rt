@@ -1,6 +1,8 @@
 // The power of a net's cells from the potentials of its nodes: cell_grad and cell_power of the Rust.
 //
 // The rows of a net are those of `sound_net`. Lengths are in metres.
+#![tactic(auto)]
+
 ghost use Rattle.std.specs.Prelude.{◌≡◌, ℕ, ◌+◌, ◌*◌, ◌^◌, ◌<◌, ◌≤◌, pos, nat_abs, ◌-ℤ◌, length, get_or};
 ghost use Rattle.cell.specs.Ticks.{metresOf};
 ghost use Rattle.floats.specs.Fractions.{inSheet, inPotential};
@@ -12,7 +14,7 @@ ghost use Rattle.power.specs.Powers.{value_at, valuesAt, powered, inRanges, powe
 use refusals::Refusal;
 
 // What a cell's slope is worked out from: the potentials at SW, SE, NE, NW and the sides in ticks.
-#[derive(Drop)]
+#[derive(Clone, Copy)]
 pub struct Values {
     pub u0: f64,
     pub u1: f64,
@@ -23,7 +25,7 @@ pub struct Values {
 }
 
 // A cell's slope and extents.
-#[derive(Drop)]
+#[derive(Clone, Copy)]
 pub struct Slope {
     pub gx: f64,
     pub gy: f64,
@@ -31,7 +33,7 @@ pub struct Slope {
     pub dy: f64,
 }
 
-#[derive(Drop)]
+#[derive(Clone, Copy)]
 pub enum Power {
     Done,
     Refused(Refusal),

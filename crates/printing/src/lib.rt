@@ -1,5 +1,7 @@
 // What `leafnet` writes for a record, as text in a lent row: totals, leaves, nodes, edges; or `refused` with a number
 // and a place. Only reading and writing are left to the program.
+#![tactic(auto)]
+
 ghost use Rattle.std.specs.Prelude.{◌≡◌, ◌≤◌, length};
 ghost use Rattle.io.specs.Counts.{IsPrefixLen as Fits};
 ghost use Rattle.refusals.specs.Said.{refusal};

@@ -14,14 +14,14 @@ use refusals::limits::{
 };
 
 // The first fields, which end at byte 16.
-#[derive(Drop)]
+#[derive(Clone, Copy)]
 pub enum Head {
     Sound(Settings),
     Refused(Refusal),
 }
 
 // How far a walk came, and how many points it passed.
-#[derive(Drop)]
+#[derive(Clone, Copy)]
 pub enum Walk {
     To(usize, usize),
     Refused(Refusal),
@@ -50,7 +50,7 @@ impl Walk {
 }
 
 // What reading a record answers.
-#[derive(Drop)]
+#[derive(Clone, Copy)]
 pub enum Read {
     Done(Settings, Counts),
     Refused(Refusal),

@@ -8,13 +8,13 @@ ghost use Rattle.record.specs.Answers.{told, toldSigned, why, whySigned};
 use crate::reader::read;
 use refusals::Refusal;
 
-#[derive(Drop)]
+#[derive(Clone, Copy)]
 pub enum Field {
     Value(u64),
     Refused(Refusal),
 }
 
-#[derive(Drop)]
+#[derive(Clone, Copy)]
 pub enum Signed {
     Value(i64),
     Refused(Refusal),

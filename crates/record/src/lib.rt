@@ -1,10 +1,12 @@
 // The board record of document 01: read by plain offset, and a reader that carries record and offset put over it.
+#![tactic(auto)]
+
 pub mod check;
 pub mod fields;
 pub mod reader;
 
 // The settings of a board.
-#[derive(Drop)]
+#[derive(Clone, Copy)]
 pub struct Settings {
     pub level: u64,
     pub cap: u64,
@@ -12,7 +14,7 @@ pub struct Settings {
 }
 
 // How many rows a board takes: layer entries, polygons, points of all polygons, splits.
-#[derive(Drop)]
+#[derive(Clone, Copy)]
 pub struct Counts {
     pub layers: usize,
     pub polygons: usize,

@@ -8,7 +8,7 @@ ghost use Rattle.record.specs.Answers.{told, fieldSaid, fieldSays};
 
 use crate::fields::{Field, field_at};
 
-#[derive(Drop)]
+#[derive(Clone, Copy)]
 pub struct Reader<'a> {
     pub src: &'a [u8],
     pub at: usize,

@@ -1,11 +1,13 @@
 // Why a call is refused, and the ranges that its values must keep: once, for every crate.
+#![tactic(auto)]
+
 ghost use Rattle.std.specs.Prelude.{◌≡◌, ◌<◌};
 ghost use Rattle.refusals.specs.Said.{refused, refusal};
 
 pub mod limits;
 
 // The ten refusals. A case holds its place where document 01 gives it one other than 0.
-#[derive(Drop)]
+#[derive(Clone, Copy)]
 pub enum Refusal {
     WrongVersion,
     WrongLength(usize),
@@ -20,7 +22,7 @@ pub enum Refusal {
 }
 
 // A refusal as document 01 numbers it.
-#[derive(Drop)]
+#[derive(Clone, Copy)]
 pub struct Code {
     pub number: u64,
     pub place: usize,

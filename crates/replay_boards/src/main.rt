@@ -3,6 +3,8 @@
 //
 // `oracle/replay_boards.sh` made the records in `stdin`, those at the limits first, and had the original, not this port,
 // write `stdout`.
+#![tactic(auto)]
+
 use libc::{STDIN_FILENO, STDOUT_FILENO};
 
 // Four bytes, the highest first.

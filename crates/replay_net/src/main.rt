@@ -2,6 +2,8 @@
 // cases and `stdout` what the original answered. Both were written by
 //
 //   oracle/replays.sh
+#![tactic(auto)]
+
 use cases::{load, print};
 use conforming::Checked;
 use network::Netted;

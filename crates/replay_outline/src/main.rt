@@ -2,6 +2,8 @@
 // what the original answered. Both were written by
 //
 //   oracle/replays.sh
+#![tactic(auto)]
+
 use build::{Built, Settings};
 use cases::{load, print};
 use strips::Stripped;

@@ -2,6 +2,8 @@
 // row that was lent. `stdin` has the cases and `stdout` what the original answered. Both were written by
 //
 //   oracle/replays.sh
+#![tactic(auto)]
+
 use cases::{load, print};
 use contact::{Contact, Rect};
 use even::Evening;

@@ -2,6 +2,8 @@
 //
 // nodes: four numbers a node: layer, component, x, y. ends: two numbers an edge. conductances: one an edge.
 // corners: four numbers a cell: its nodes SW, SE, NE, NW. sheets: one a cell.
+#![tactic(auto)]
+
 ghost use Rattle.std.specs.Prelude.{◌≡◌, ◌+◌, ◌*◌, ◌/◌, ◌^◌, ◌<◌, ◌≤◌, ◌&&◌, length, pos, int_lt, nat_lt, slice_index, slice_index_or};
 ghost use Rattle.cell.specs.Ticks.{in_range};
 ghost use Rattle.sound_net.specs.Nets.{netOf, all_below, nodeCount, xAt, yAt, eqZ, soundNode, known, soundCell, soundNet};

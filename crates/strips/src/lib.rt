@@ -1,4 +1,6 @@
 // Strips of one ring: polygon_minus_polygon of the Rust with an empty second ring, in whole ticks.
+#![tactic(auto)]
+
 ghost use Rattle.std.specs.Prelude.{◌≡◌, ◌≤◌, length};
 ghost use Rattle.refusals.specs.Limits.{maxPoints};
 ghost use Rattle.strips.specs.Said.{strippedSaid, stripsSays, stripsLeave, laid, counted, ifAccepted};
@@ -16,7 +18,7 @@ pub mod tally;
 pub mod walk;
 
 // How many strips there are, or why there is no answer.
-#[derive(Drop)]
+#[derive(Clone, Copy)]
 pub enum Stripped {
     Done(usize),
     Refused(Refusal),

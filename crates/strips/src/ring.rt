@@ -7,7 +7,7 @@ use cell::ticks;
 use refusals::limits::RING_POINTS;
 
 // From one point of a ring to the next.
-#[derive(Drop)]
+#[derive(Clone, Copy)]
 pub struct Edge {
     pub x0: u64,
     pub y0: u64,

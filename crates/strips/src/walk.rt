@@ -12,7 +12,7 @@ use refusals::limits::RING_POINTS;
 // The highest offset coordinate.
 pub const COORDINATES: u64 = 137438953472;
 
-#[derive(Drop)]
+#[derive(Clone, Copy)]
 pub struct Strip {
     pub x0: u64,
     pub y0: u64,
@@ -21,7 +21,7 @@ pub struct Strip {
 }
 
 // The next strip with the band and the edge to go on from, or the end.
-#[derive(Drop)]
+#[derive(Clone, Copy)]
 pub enum Ahead {
     Found(Strip, usize, usize),
     End,

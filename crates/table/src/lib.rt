@@ -1,13 +1,15 @@
 // The lent table of cells: AdaptiveGrid of the Rust over a row that the caller lends.
 //
 // A slot has eight numbers: x0, y0, x1, y1, level, parent, first child, polygon.
+#![tactic(auto)]
+
 pub mod formed;
 pub mod leaves;
 pub mod refine;
 pub mod slots;
 
 // What a table has beside its row. A call that changes the count answers the head anew.
-#[derive(Drop)]
+#[derive(Clone, Copy)]
 pub struct Head {
     pub count: usize,
     pub max_level: u64,

@@ -10,7 +10,7 @@ use crate::slots::{cell_at, put_cell, put_first};
 use cell::Cell;
 use refusals::Refusal;
 
-#[derive(Drop)]
+#[derive(Clone, Copy)]
 pub enum Refined {
     Done(Head),
     Refused(Refusal),

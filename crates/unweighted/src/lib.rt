@@ -1,4 +1,6 @@
 // The net before the weights, whole: places and nodes, then edges, then cells. build_network of the Rust, as far as the weights.
+#![tactic(auto)]
+
 ghost use Rattle.std.specs.Prelude.{◌≡◌, List, ◌*◌, ◌≤◌, length, get_or, take};
 ghost use Rattle.std.specs.Float.{nan};
 ghost use Rattle.refusals.specs.Limits.{maxPolygons};
@@ -11,7 +13,7 @@ ghost use Rattle.bare.proofs.Bridge.{Board};
 ghost use Rattle.unweighted.specs.Netted.{Placed, Edged, Ready, Counted, Netted};
 
 // How many rows of each kind the net takes.
-#[derive(Drop)]
+#[derive(Clone, Copy)]
 pub struct Counts {
     pub nodes: usize,
     pub edges: usize,

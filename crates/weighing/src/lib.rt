@@ -1,4 +1,6 @@
 // The weights of a net's edges, from the rows of the net to its row of conductances. apply_fv_weights of the Rust.
+#![tactic(auto)]
+
 ghost use Rattle.std.specs.Prelude.{◌≡◌, ◌*◌, ◌≤◌, length, replicate};
 ghost use Rattle.rows.specs.Parts.{put, tab};
 ghost use Rattle.weights.specs.Weigh.{weightIn, NetRows};

@@ -1,4 +1,6 @@
 // A board's rows written as a record, for people and tests: what `board::read` reads back.
+#![tactic(auto)]
+
 ghost use Rattle.std.specs.Prelude.{◌≡◌, length};
 ghost use Rattle.board.specs.Rows.{rows_of};
 ghost use Rattle.writing.specs.Written.{writeSaid, writeSays, writeLeaves};
@@ -9,7 +11,7 @@ use refusals::limits::{LAYERS, POLYGONS, RING_POINTS};
 
 mod put;
 
-#[derive(Drop)]
+#[derive(Clone, Copy)]
 pub enum Written {
     // How many bytes the record took.
     Done(usize),

@@ -1,0 +1,16 @@
+use Prim.Native.Nat.{◌<◌, ◌^◌}
+use mathlib.Core.Path.{sym}
+use native.Mathlib.Omega.{arith}
+use mir.Syntax.{w64}
+use mir.Facts.{to_z_pos, to_z-of_z}
+use Rattle.cell.proofs.Offsets.{on-is, on-top, on_fits}
+use Rattle.cell.proofs.ticks.ticks.Goals as goal
+
+pub returns-then-n-gt137438953472 : goal.returns-then-n-gt137438953472
+returns-then-n-gt137438953472 c = sym (on-top c.args.n c.if-n-gt137438953472.true)
+
+pub returns : goal.returns
+returns c =
+    let n = c.args.n in
+    let h : n < 2 ^ 63 = omega arith in
+    rw (to_z_pos w64 h, on-is n c.if-n-gt137438953472.false, to_z-of_z (on_fits n))
