@@ -11,7 +11,7 @@ use lib.ListN.{length, get_or, length-append, get_or-append, get_or-eq_default}
 use lib.Seq.{get_or_at}
 use Rattle.cell.specs.declared.Cell as Held
 use Rattle.table.specs.Slots.{cell_at, putCell}
-use Rattle.table.specs.Mesh.{Cell, past, at, meshCell, table}
+use Rattle.table.specs.Mesh.{past, at, meshCell, table}
 use Rattle.table.proofs.Stores.{same-cell, put_other}
 
 module _ (t : List ℤ) where

@@ -13,6 +13,7 @@ pub mod Exact
 pub mod Cells
 pub mod Meshes
 pub mod Wellformed
+pub mod Zeros
 pub mod Walk
 pub mod Splits
 pub mod Refining

@@ -1,5 +1,5 @@
 -- The cells that a table holds, as document 01 speaks of them: no parent and no child are `none`, and there is no limit on room.
-use Rattle.std.specs.Prelude.{ℕ, zero, suc, ◌+◌, Bool, true, false, List, [], ◌∷◌, ◌++◌, eqb, ℤ, length, get_or, set}
+use Rattle.std.specs.Prelude.{ℕ, zero, suc, Bool, true, false, List, [], ◌∷◌, ◌++◌, eqb, ℤ, length, get_or, set}
 use Rattle.std.proofs.Math.Option.{Option, none, some}
 use Rattle.cell.specs.Boxes.{Box, Quad, sw, se, nw, ne, quadrant}
 use Rattle.cell.specs.declared.Cell as Held

@@ -26,6 +26,7 @@ fn step_of(m: u64) -> u64
 }
 
 // The step is a power of two, so a side's remainder is its low bits, and no division is needed.
+#[tactic(auto, unfolding(crate::specs::Formed::sideOk))]
 fn side_ok(step: u64, a: u64, b: u64) -> bool
     requires { Power step }
     ensures { result ≡ sideOk step a b }
@@ -36,6 +37,7 @@ fn side_ok(step: u64, a: u64, b: u64) -> bool
     false
 }
 
+#[tactic(auto, unfolding(crate::specs::Formed::rootOk))]
 fn root_ok(step: u64, c: Cell) -> bool
     requires { Power step }
     ensures { result ≡ rootOk step c }
@@ -45,6 +47,7 @@ fn root_ok(step: u64, c: Cell) -> bool
 
 // Whether slot j holds child k of the cell c in slot p. Its numbers are compared as they stand in the row, so they need
 // no test of their own.
+#[tactic(auto, unfolding(crate::specs::Walk::kidAt))]
 fn kid_ok(t: &[i64], p: usize, c: Cell, j: usize, k: u64) -> bool
     requires { (p * 8 + 8 ≤ length t.now) × (j * 8 + 8 ≤ length t.now) × (c.level < maxLevel) }
     ensures { result ≡ kidAt t.now p c j k }
@@ -62,6 +65,7 @@ fn kid_ok(t: &[i64], p: usize, c: Cell, j: usize, k: u64) -> bool
 }
 
 // Whether the four slots from f on hold the children of cell p.
+#[tactic(auto, unfolding(crate::specs::Walk::kidsAt))]
 fn kids_ok(t: &[i64], m: u64, p: usize, f: usize) -> bool
     requires { (p < f) × ((f + 4) * 8 ≤ length t.now) × (m ≤ maxLevel) }
     ensures { result ≡ kidsAt t.now m p f }
@@ -87,6 +91,7 @@ fn slot_or(f: u64, n: usize, i: usize) -> usize
 
 // Whether cell i names no child, or one past it that names it as its parent. No branch: which cells are split can't be
 // foretold.
+#[tactic(auto, unfolding(crate::specs::Walk::ledAt))]
 fn led(t: &[i64], n: usize, i: usize) -> bool
     requires { (n * 8 ≤ length t.now) × (i < n) }
     ensures { result ≡ ledAt t.now n i }
@@ -97,6 +102,7 @@ fn led(t: &[i64], n: usize, i: usize) -> bool
 }
 
 // Whether a root stands in slot i.
+#[tactic(auto, unfolding(crate::specs::Walk::rootAt))]
 fn root_here(t: &[i64], n: usize, step: u64, i: usize) -> bool
     requires n_in_bounds { (n * 8 ≤ length t.now) × (i < n) }
     requires power { Power step }
@@ -116,6 +122,7 @@ fn root_here(t: &[i64], n: usize, step: u64, i: usize) -> bool
 }
 
 // Whether the four children of cell p stand in the slots from i on.
+#[tactic(auto, unfolding(crate::specs::Walk::fourAt))]
 fn four_here(t: &[i64], n: usize, m: u64, i: usize, p: u64) -> bool
     requires { (n * 8 ≤ length t.now) × (i < n) × (m ≤ maxLevel) }
     ensures { result ≡ fourAt t.now n m i p }
@@ -134,6 +141,7 @@ fn four_here(t: &[i64], n: usize, m: u64, i: usize, p: u64) -> bool
 }
 
 // The slot past the root or the four children that stand from slot i on; 0 where neither does.
+#[tactic(auto, unfolding(crate::specs::Walk::past_at))]
 fn past(t: &[i64], n: usize, m: u64, step: u64, i: usize) -> usize
     requires n_in_bounds { (n * 8 ≤ length t.now) × (i < n) × (m ≤ maxLevel) }
     requires power { Power step }
@@ -185,6 +193,7 @@ fn slot_zero(t: &[i64], j: usize) -> bool
 }
 
 // All slots at or past the count are zero.
+#[tactic(auto, unfolding(crate::specs::Formed::restZero))]
 fn rest_zero(t: &[i64], n: usize) -> bool
     requires { (n * 8 ≤ length t.now) × (length t.now % 8 ≡ 0) }
     ensures { result ≡ restZero t.now n }
@@ -200,6 +209,7 @@ fn rest_zero(t: &[i64], n: usize) -> bool
     true
 }
 
+#[tactic(auto, unfolding(crate::specs::Formed::shapeOk))]
 fn shape_ok(size: usize, n: usize, m: u64) -> bool
     ensures { result ≡ shapeOk size n m }
 {
@@ -207,6 +217,7 @@ fn shape_ok(size: usize, n: usize, m: u64) -> bool
 }
 
 // Whether the row holds a well-formed table.
+#[tactic(auto, unfolding(crate::specs::Formed::wellFormed))]
 pub fn well_formed(t: &[i64], head: Head) -> bool
     ensures { result ≡ wellFormed t.now head.count head.max_level }
 {

@@ -17,6 +17,7 @@ pub enum Refined {
 }
 
 // Child k of cell i goes to slot n + k.
+#[tactic(auto, unfolding(crate::specs::Refine::putKid))]
 fn put_kid(t: &mut [i64], n: usize, i: usize, c: Cell, k: u64)
     requires { (k < 4) × ((n + 4) * 8 ≤ length t.old) × (c.level < maxLevel) }
     ensures { t.new ≡ putKid t.old n i c k }
@@ -25,6 +26,7 @@ fn put_kid(t: &mut [i64], n: usize, i: usize, c: Cell, k: u64)
 }
 
 // Cell i gets four children in the slots from n on. Internal: the slots are in the row and the cell is above the widest level.
+#[tactic(auto, unfolding(crate::specs::Refine::splitRow))]
 pub fn split_cell(t: &mut [i64], n: usize, i: usize)
     requires { (i < n) × ((n + 4) * 8 ≤ length t.old) × ((cell_at t.old i).level < maxLevel) }
     ensures { t.new ≡ splitRow t.old n i }
@@ -38,6 +40,7 @@ pub fn split_cell(t: &mut [i64], n: usize, i: usize)
 }
 
 // Splits the leaf with this id; the head has the new count.
+#[tactic(auto, unfolding(crate::specs::Refine::refineSays, crate::specs::Refine::refineRow))]
 pub fn refine(t: &mut [i64], head: Head, id: usize) -> Refined
     ensures result_value { refinedSaid result ≡ refineSays t.old head.count head.max_level id }
     ensures t_after { t.new ≡ refineRow t.old head.count head.max_level id }

@@ -45,6 +45,7 @@ fn put_number(t: &mut [i64], j: usize, n: u64)
 }
 
 // The cell in slot i. Internal: the slot is in the row.
+#[tactic(auto, unfolding(crate::specs::Slots::cell_at))]
 pub fn cell_at(t: &[i64], i: usize) -> Cell
     requires { i * 8 + 8 ≤ length t.now }
     ensures { result ≡ cell_at t.now i }
@@ -63,6 +64,7 @@ pub fn cell_at(t: &[i64], i: usize) -> Cell
 }
 
 // One number of the cell in slot i, where the rest is not wanted. Internal: the slot is in the row.
+#[tactic(auto, unfolding(crate::specs::Slots::cell_at))]
 pub fn level_at(t: &[i64], i: usize) -> u64
     requires { i * 8 + 8 ≤ length t.now }
     ensures { result ≡ (cell_at t.now i).level }
@@ -70,6 +72,7 @@ pub fn level_at(t: &[i64], i: usize) -> u64
     number_at(t, i * 8 + 4)
 }
 
+#[tactic(auto, unfolding(crate::specs::Slots::cell_at))]
 pub fn parent_at(t: &[i64], i: usize) -> u64
     requires { i * 8 + 8 ≤ length t.now }
     ensures { result ≡ (cell_at t.now i).parent }
@@ -77,6 +80,7 @@ pub fn parent_at(t: &[i64], i: usize) -> u64
     number_at(t, i * 8 + 5)
 }
 
+#[tactic(auto, unfolding(crate::specs::Slots::cell_at))]
 pub fn first_at(t: &[i64], i: usize) -> u64
     requires { i * 8 + 8 ≤ length t.now }
     ensures { result ≡ (cell_at t.now i).first }
@@ -84,6 +88,7 @@ pub fn first_at(t: &[i64], i: usize) -> u64
     number_at(t, i * 8 + 6)
 }
 
+#[tactic(auto, unfolding(crate::specs::Slots::cell_at))]
 pub fn poly_at(t: &[i64], i: usize) -> u64
     requires { i * 8 + 8 ≤ length t.now }
     ensures { result ≡ (cell_at t.now i).poly }
@@ -101,6 +106,7 @@ pub fn is_at(t: &[i64], j: usize, z: i64) -> bool
 }
 
 // Internal: the slot is in the row.
+#[tactic(auto, unfolding(crate::specs::Slots::putCell))]
 pub fn put_cell(t: &mut [i64], i: usize, c: Cell)
     requires { i * 8 + 8 ≤ length t.old }
     ensures { t.new ≡ putCell t.old i c }
@@ -117,6 +123,7 @@ pub fn put_cell(t: &mut [i64], i: usize, c: Cell)
 }
 
 // Names the first child of the cell in slot i. Internal: the slot is in the row.
+#[tactic(auto, unfolding(crate::specs::Slots::putFirst))]
 pub fn put_first(t: &mut [i64], i: usize, first: u64)
     requires { i * 8 + 8 ≤ length t.old }
     ensures { t.new ≡ putFirst t.old i first }
@@ -141,6 +148,7 @@ fn natural_at(t: &[i64], j: usize) -> bool
 }
 
 // Whether slot i holds the numbers of a cell. Internal: the slot is in the row.
+#[tactic(auto, unfolding(crate::specs::Slots::in_slot))]
 pub fn in_slot(t: &[i64], i: usize) -> bool
     requires { i * 8 + 8 ≤ length t.now }
     ensures { result ≡ in_slot t.now i }
