@@ -1,42 +1,62 @@
-// What the replays share: numbers read from a stream of stored cases, and answers printed as text.
-//
-// A number is a byte, how many bytes follow, and these: at most 8, the highest first. A signed number is in two's complement, a
-// fraction is its bits. A row is its length and its numbers. Past the end every number is 0.
+//! What the replays share: numbers and rows read from a stream of stored cases, and answers printed as text.
+//!
+//! A number is a byte, how many bytes follow, and these: at most 8, the highest first. A signed number is in two's
+//! complement, a fraction is its bits. A row is its length and its numbers. Past the end every number is 0.
 #![tactic(auto)]
 
-pub mod load;
+use std::alloc::{AllocError, Global};
+use std::io;
+use std::io::Read;
+
 pub mod print;
+pub mod stored;
 
-use record::fields;
-use record::fields::Field;
+use stored::Stored;
 
-// A number and where the next begins.
-#[derive(Clone, Copy)]
-pub struct Number {
-    pub value: u64,
-    pub next: usize,
+#[derive(Drop)]
+pub struct Cases {
+    bytes: Vec<u8>,
+    // Where the next number begins.
+    at: usize,
 }
 
-// No stream is longer.
-const FAR: usize = 1099511627776;
+impl Cases {
+    // All of standard input.
+    pub fn read<R: Input + AllocGlobal>(rt: &R) -> io::Result<Cases> {
+        let mut bytes = Vec::new(rt.alloc());
+        rt.reader().read_to_end(&mut bytes)?;
+        Ok(Cases { bytes, at: 0 })
+    }
 
-fn or_zero(f: Field) -> u64 {
-    match f {
-        Field::Value(n) => n,
-        Field::Refused(_) => 0,
+    fn byte(&mut self) -> u8 {
+        match self.bytes.get(self.at) {
+            Some(b) => {
+                let b = *b;
+                self.at += 1;
+                b
+            }
+            None => 0,
+        }
     }
-}
 
-pub fn word(s: &[u8], at: usize) -> Number {
-    if at >= FAR {
-        return Number { value: 0, next: at };
+    pub fn word(&mut self) -> u64 {
+        let mut n = 0u64;
+        for _ in 0..self.byte().min(8) {
+            n = n.wrapping_mul(256).wrapping_add(u64::from(self.byte()));
+        }
+        n
     }
-    let width = or_zero(fields::u8_at(s, at)) as usize;
-    if width > 8 {
-        return Number { value: 0, next: at };
+
+    // A number that is an index or a count.
+    pub fn index(&mut self) -> usize {
+        self.word() as usize
     }
-    Number {
-        value: or_zero(fields::field_at(s, at + 1, width)),
-        next: at + 1 + width,
+
+    pub fn row<T: Stored + Drop>(&mut self, alloc: Global) -> Result<Vec<T>, AllocError> {
+        let mut row = Vec::new(alloc);
+        for _ in 0..self.word() {
+            row.push(T::stored(self))?;
+        }
+        Ok(row)
     }
 }

@@ -1,13 +1,17 @@
-// leafnet: reads a board record from standard input and writes its mesh and net as text. Of longer input than a record
-// may have only one byte more is read, and it is refused.
+//! leafnet: reads a board record from standard input and writes its mesh and net as text. Of longer input than a record
+//! may have only one byte more is read, and it is refused.
 #![tactic(auto)]
 
-use libc::{STDIN_FILENO, STDOUT_FILENO};
+use std::io;
+use std::io::{Read, Write};
 
-fn main() {
-    let mut bytes = [0u8; 16385];
-    let n = io::read_full(STDIN_FILENO, &mut bytes);
-    let mut out = [0u8; printing::TEXT];
-    let m = printing::text(&bytes[..n], &mut out);
-    io::write_all(STDOUT_FILENO, &out[..m]);
+// One byte more than the program takes.
+const LIMIT: u64 = mesh::INPUT as u64 + 1;
+
+fn main(rt: HostRuntime) -> io::Result<()> {
+    let mut record = Vec::new(rt.alloc());
+    rt.reader().take(LIMIT).read_to_end(&mut record)?;
+    let mut text = [0u8; printing::TEXT];
+    let n = printing::text(&record, &mut text);
+    io::writer(&rt).write_all(&text[..n])
 }
