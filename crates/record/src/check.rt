@@ -56,6 +56,7 @@ pub enum Read {
     Refused(Refusal),
 }
 
+#[tactic(auto, unfolding(crate::specs::Board::level))]
 fn level_at(s: &[u8], at: usize) -> Field
     ensures { told result (at + 1) ≡ level s.now at }
 {

@@ -75,6 +75,7 @@ pub fn ticks(n: u64) -> i64
 }
 
 // A field of `width` bytes. Internal: of at most 8.
+#[tactic(auto, unfolding(crate::specs::Fields::field))]
 pub fn field_at(s: &[u8], at: usize, width: usize) -> Field
     requires { width ≤ 8 }
     ensures { told result (at + width) ≡ field width s.now at }
@@ -123,6 +124,7 @@ pub fn i64_at(s: &[u8], at: usize) -> Signed
 }
 
 // A field of `width` bytes whose value lies from `low` to `high`. Internal: of at most 8 bytes.
+#[tactic(auto, unfolding(crate::specs::Fields::ranged))]
 pub fn ranged_at(s: &[u8], at: usize, width: usize, low: u64, high: u64) -> Field
     requires { width ≤ 8 }
     ensures { told result (at + width) ≡ ranged low high width s.now at }
