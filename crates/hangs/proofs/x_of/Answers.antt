@@ -1,0 +1,17 @@
+use mathlib.Core.Path.{ap, ap₂, ◌∙◌}
+use Prim.Native.Nat.{ℕ, ◌%◌}
+use Rattle.node_rows.specs.Rows.{nodeIn}
+use Rattle.hangs.specs.Items.{middle_of}
+use Rattle.hangs.proofs.Items.{item-x}
+use Rattle.hangs.proofs.x_of.Goals as goal
+
+pub returns : goal.returns
+returns c =
+    let a = c.args in
+    let at = λ (z : ℕ). (nodeIn a.nodes.now z).x in (
+      c.middle.ensures.0
+          ∙ (ap₂ (λ (u w : ℕ). middle_of u w (a.i % 4)) (c.x_at-a.ensures.0 ∙ ap at c.corner_of.ensures.0)
+          (c.x_at-b.ensures.0 ∙ ap at c.corner_of-2.ensures.0)
+          ∙ item-x a.nodes.now a.corners.now a.l a.i),
+      c.middle.ensures.1,
+    )
