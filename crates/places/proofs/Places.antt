@@ -1,53 +1,24 @@
 -- The places of a leaf, and the rows of classes and keys. Assumes nothing.
-use mathlib.Core.Path.{◌≡◌, refl, sym, ap₂, ◌∙◌}
+use mathlib.Core.Path.{◌≡◌, refl, sym, ap, ap₂, ◌∙◌}
 use mathlib.Core.Bool.{true, false, ◌&&◌}
-use mathlib.Core.Logic.{◌⊎◌, ⊎_elim}
+use mathlib.Core.Logic.{⊎_elim}
 use mathlib.Core.List.{List}
-use Prim.Native.Nat.{ℕ, zero, suc, ◌+◌, ◌*◌, ◌-◌, ◌^◌, ◌<◌, ◌≤◌}
+use Prim.Native.Nat.{ℕ, zero, suc, ◌+◌, ◌*◌, ◌^◌, ◌<◌, ◌≤◌}
 use native.Mathlib.Omega.{arith}
+use native.Mathlib.Nat.{zero-add}
 use lib.Dec.{eqb}
 use lib.ListN.{length, get_or}
 use borrow.Author.Tests.{lt-ltb, le-ltb, eq-eqb}
-use Rattle.cell.specs.Boxes.{Box, mid}
-use Rattle.rows.specs.Parts.{tab}
+use Rattle.cell.specs.Boxes.{Box}
+use Rattle.rows.specs.Parts.{part, tab}
 use Rattle.rows.specs.Contract.{Small}
+use Rattle.rows.proofs.Parts.{length_part, part_at}
 use Rattle.rows.proofs.Fill.{length-tab, tab-at}
 use Rattle.net.specs.First.{key, first_of}
 use Rattle.net.specs.Flat.{placeX, placeY}
 use Rattle.net.proofs.Find.{order, find-is}
 use Rattle.net.proofs.Keys.{packed, both_of}
 use Rattle.places.specs.Places.{wide, polyKeys, classOf, boxAt, leafOf, side_of, xOf, yOf, keyY, keysX, placeKeys}
-
--- the last answers of `place_x` and `place_y`
-pub x-last : (r : Box) (s : ℕ) → (s ≡ 0 → ⊥) → (s ≡ 3 → ⊥) → (s ≡ 6 → ⊥) → (s ≡ 4 → ⊥) → (s ≡ 5 → ⊥) → r.x1 ≡ placeX r s
-x-last r zero a b c d e = absurd (a refl)
-x-last r (suc zero) a b c d e = refl
-x-last r (suc (suc zero)) a b c d e = refl
-x-last r (suc (suc (suc zero))) a b c d e = absurd (b refl)
-x-last r (suc (suc (suc (suc zero)))) a b c d e = absurd (d refl)
-x-last r (suc (suc (suc (suc (suc zero))))) a b c d e = absurd (e refl)
-x-last r (suc (suc (suc (suc (suc (suc zero)))))) a b c d e = absurd (c refl)
-x-last r (suc (suc (suc (suc (suc (suc (suc s))))))) a b c d e = refl
-
-pub y-high : (r : Box) (s : ℕ) → 6 < s → mid r.y0 r.y1 ≡ placeY r s
-y-high r zero h = absurd (omega arith)
-y-high r (suc zero) h = absurd (omega arith)
-y-high r (suc (suc zero)) h = absurd (omega arith)
-y-high r (suc (suc (suc zero))) h = absurd (omega arith)
-y-high r (suc (suc (suc (suc zero)))) h = absurd (omega arith)
-y-high r (suc (suc (suc (suc (suc zero))))) h = absurd (omega arith)
-y-high r (suc (suc (suc (suc (suc (suc zero)))))) h = absurd (omega arith)
-y-high r (suc (suc (suc (suc (suc (suc (suc s))))))) h = refl
-
-pub y-last : (r : Box) (s : ℕ) → (s ≡ 0 → ⊥) → (s ≡ 1 → ⊥) → (s ≡ 4 → ⊥) → (s ≡ 6 → ⊥) → s ≤ 6 → r.y1 ≡ placeY r s
-y-last r zero a b c d h = absurd (a refl)
-y-last r (suc zero) a b c d h = absurd (b refl)
-y-last r (suc (suc zero)) a b c d h = refl
-y-last r (suc (suc (suc zero))) a b c d h = refl
-y-last r (suc (suc (suc (suc zero)))) a b c d h = absurd (c refl)
-y-last r (suc (suc (suc (suc (suc zero))))) a b c d h = refl
-y-last r (suc (suc (suc (suc (suc (suc zero)))))) a b c d h = absurd (d refl)
-y-last r (suc (suc (suc (suc (suc (suc (suc s))))))) a b c d h = absurd (omega arith)
 
 -- the first polygon of a class
 pub poly-long : (ls cs : List ℕ) → length (polyKeys ls cs) ≡ length ls
@@ -116,3 +87,17 @@ module _ (bs : List ℕ) (l i : ℕ) (n : length bs ≡ 4 * l) (low : Small wide
 pub keys-long : (ls cs ps bs : List ℕ) (l : ℕ) → length (placeKeys ls cs ps bs l) ≡ 8 * l
 unfolding placeKeys
 keys-long ls cs ps bs l = length-tab (keyY (tab (first_of (keysX ls cs ps bs l)) (8 * l)) bs (4 * l)) (8 * l)
+
+-- the entries of a part of small numbers, where they stand in the row
+pub part_low : (w : List ℕ) (a l n v : ℕ) → a + l ≤ length w → Small n (part w a l) → v < l → get_or w (a + v) 0 < n
+part_low w a l n v r s h = let k = length_part w a l r in let e = part_at w a l v 0 h in let b = s v (omega arith) in omega arith
+
+pub front_at : (w : List ℕ) (l v : ℕ) → v < l → get_or (part w 0 l) v 0 ≡ get_or w v 0
+front_at w l v h = part_at w 0 l v 0 h ∙ ap (λ (n : ℕ). get_or w n 0) (zero-add v)
+
+pub front_low : (w : List ℕ) (l n v : ℕ) → l ≤ length w → Small n (part w 0 l) → v < l → get_or w v 0 < n
+front_low w l n v r s h =
+    let k = length_part w 0 l (omega arith) in
+    let e = front_at w l v h in
+    let b = s v (omega arith) in
+    omega arith
