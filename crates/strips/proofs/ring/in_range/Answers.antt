@@ -1,0 +1,28 @@
+use Rattle.std.proofs.Common.{◌≡◌, length, refl}
+use mathlib.Core.Bool.{and-true, and_assoc}
+use mathlib.Core.Path.{sym, ◌∙◌}
+use native.Mathlib.Omega.{arith}
+use lib.Dec.{leb}
+use Rattle.refusals.specs.Limits.{maxPoints}
+use Rattle.strips.specs.Rings.{all_below, pointInRange, ringInRange}
+use Rattle.strips.proofs.Picking.{all_more}
+use Rattle.strips.proofs.ring.in_range.Goals as goal
+
+pub loop-i-init : goal.loop-i-init
+unfolding all_below
+loop-i-init c = (omega arith, sym (and-true _))
+
+pub loop-i-preserved : goal.loop-i-preserved
+loop-i-preserved c =
+    let i = c.loop-i.i in
+    let ps = c.args.points.now in (
+      omega arith,
+      rw (c.loop-i.invariant.1, c.point_in_range-ok.ensures, all_more)
+          (and_assoc (leb (length ps) maxPoints) (all_below (pointInRange ps) i) (pointInRange ps i)),
+    )
+
+pub returns : goal.returns
+unfolding ringInRange
+returns c =
+    let e : c.loop-i.i ≡ length c.args.points.now = omega arith in
+    c.loop-i.invariant.1 ∙ rw e refl

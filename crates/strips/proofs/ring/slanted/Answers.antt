@@ -1,0 +1,19 @@
+use Rattle.std.proofs.Common.{◌≡◌, length, refl}
+use mathlib.Core.Path.{◌∙◌}
+use native.Mathlib.Omega.{arith}
+use Rattle.strips.specs.Rings.{someBelow, ringSlants}
+use Rattle.strips.proofs.Picking.{some_more}
+use Rattle.strips.proofs.ring.slanted.Goals as goal
+
+pub loop-i-init : goal.loop-i-init
+unfolding someBelow
+loop-i-init c = (omega arith, refl)
+
+pub loop-i-preserved : goal.loop-i-preserved
+loop-i-preserved c = (omega arith, rw (c.loop-i.invariant.1, c.slants_at-found.ensures, some_more) refl)
+
+pub returns : goal.returns
+unfolding ringSlants
+returns c =
+    let e : c.loop-i.i ≡ length c.args.points.now = omega arith in
+    c.loop-i.invariant.1 ∙ rw e refl

@@ -1,0 +1,52 @@
+use Rattle.std.proofs.Common.{get_or, ◌%◌, refl}
+use mathlib.Core.Path.{sym, ◌∙◌}
+use mir.Facts.{to_z-of_z}
+use native.Mathlib.Omega.{arith}
+use Rattle.cell.proofs.Offsets.{on_fits}
+use Rattle.refusals.specs.Limits.{maxPoints}
+use Rattle.strips.proofs.Levels.{spans-is}
+use Rattle.strips.proofs.Walks.{crossed-end, from_end, crossed-yes, crossed-no}
+use Rattle.strips.proofs.walk.find.Goals as goal
+
+pub loop-k-init : goal.loop-k-init
+loop-k-init c = (omega arith, refl)
+
+pub returns-then-spans : goal.returns-then-spans
+returns-then-spans c =
+    let a = c.args in
+    let s = c.loop-k in
+    let e = simp (c.ticks-low.ensures, c.ticks-high.ensures, to_z-of_z (on_fits a.lo), to_z-of_z (on_fits a.hi))
+    at c.spans.ensures in
+    let t = e ∙ spans-is a.points.now (get_or a.edges.now s.k 0 % maxPoints) a.lo a.hi c.requires.0 c.requires.1 in
+    record {
+      low = omega arith;
+      high = omega arith;
+      same =
+          sym s.invariant.1
+          ∙ crossed-yes a.points.now a.lo a.hi a.edges.now s.k c.loop-k-test.true c.requires.0
+          (sym t ∙ c.if-spans.true);
+    }
+
+pub loop-k-preserved : goal.loop-k-preserved
+loop-k-preserved c =
+    let a = c.args in
+    let s = c.loop-k in
+    let e = simp (c.ticks-low.ensures, c.ticks-high.ensures, to_z-of_z (on_fits a.lo), to_z-of_z (on_fits a.hi))
+    at c.spans.ensures in
+    let t = e ∙ spans-is a.points.now (get_or a.edges.now s.k 0 % maxPoints) a.lo a.hi c.requires.0 c.requires.1 in (
+      omega arith,
+      crossed-no a.points.now a.lo a.hi a.edges.now s.k c.loop-k-test.true c.requires.0 (sym t ∙ c.if-spans.false)
+          ∙ s.invariant.1,
+    )
+
+pub returns : goal.returns
+returns c =
+    let a = c.args in
+    record {
+      low = omega arith;
+      high = omega arith;
+      same =
+          sym c.loop-k.invariant.1
+          ∙ crossed-end a.points.now a.lo a.hi a.edges.now c.loop-k.k c.loop-k-test.false
+          ∙ sym (from_end a.points.now a.lo a.hi a.edges.now);
+    }
