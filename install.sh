@@ -13,7 +13,7 @@ case $1 in
 esac
 root=$(cd "$(dirname "$0")" && pwd)
 [ -n "${LEAFMESH_LIBRARY:-}" ] || "$root/bindings/library.sh"
-archive=${LEAFMESH_LIBRARY:-$root/target/staticlib}/libleafmesh.a
+archive=${LEAFMESH_LIBRARY:-$root/crates/leafmesh/out}/libleafmesh.a
 version=$(sed -n 's/^#define LEAFMESH_VERSION "\(.*\)"$/\1/p' "$root/include/leafmesh.h")
 to=${DESTDIR:-}$prefix
 mkdir -p "$to/include" "$to/lib/pkgconfig"

@@ -62,7 +62,7 @@ mkdir -p "$folder/around/leafmesh/bindings"
 cp -r rust "$folder/around/leafmesh/bindings/"
 rm -rf "$folder/around/leafmesh/bindings/rust/target"
 sed -i "s|path = \".*\"|path = \"../leafmesh/bindings/rust\"|" "$folder/around/user/Cargo.toml"
-library=${LEAFMESH_LIBRARY:-$root/target/staticlib}
+library=${LEAFMESH_LIBRARY:-$root/crates/leafmesh/out}
 (cd "$folder/around" && LEAFMESH_LIBRARY=$library CARGO_TARGET_DIR=$folder/built cargo run --offline --quiet -p user)
 
 say "a missing library is told by name"
@@ -70,13 +70,13 @@ without() { (cd "$folder/around" && LEAFMESH_LIBRARY=$folder CARGO_TARGET_DIR=$f
 if without 2>"$folder/said"; then
     fail "built without a library"
 fi
-grep -q 'rt staticlib leafmesh' "$folder/said" || fail "a missing library isn't told: $(cat "$folder/said")"
+grep -q 'bindings/library.sh' "$folder/said" || fail "a missing library isn't told: $(cat "$folder/said")"
 
 say "leafnet's text of the sample boards, by the program and by the bindings"
 (cd rust && cargo build --offline --release --quiet --bins)
 bin=${CARGO_TARGET_DIR:-$root/bindings/rust/target}/release
 for record in ../boards/*.record; do
-    "$root/target/bin/leafnet" <"$record" >"$folder/leafnet.txt"
+    "$root/crates/leafnet/out/leafnet" <"$record" >"$folder/leafnet.txt"
     "$bin/board" net <"$record" >"$folder/board.txt"
     case $record in
     */deep.record | */shunt.record)

@@ -1,6 +1,6 @@
 /* leafmesh: a quadtree mesh of copper outlines, and its net of conductances.
  *
- * Link with the static library that `rt staticlib leafmesh` writes (target/staticlib/libleafmesh.a); `install.sh
+ * Link with the static library that `bindings/library.sh` makes (crates/leafmesh/out/libleafmesh.a); `install.sh
  * PREFIX` puts header, library and a file for pkg-config where compilers look. C11 and C++17; the library is for
  * x86-64 Linux.
  *

@@ -15,8 +15,8 @@ if [ "$(uname -m)" != x86_64 ] || ! mpicc -c "$folder/there.c" -o "$folder/there
     echo "p4est left out: it needs x86-64 and Debian's libp4est-dev and libopenmpi-dev"
     exit 0
 fi
-[ -n "${LEAFMESH_LIBRARY:-}" ] || (cd .. && rt staticlib leafmesh >&2)
-library=$(cd ../bindings/rust && cd "${LEAFMESH_LIBRARY:-../../target/staticlib}" && pwd)
+[ -n "${LEAFMESH_LIBRARY:-}" ] || ../bindings/library.sh
+library=$(cd ../bindings/rust && cd "${LEAFMESH_LIBRARY:-../../crates/leafmesh/out}" && pwd)
 mpicc -std=c11 -O2 -Wall -Wextra -Werror -I ../include p4est/driver.c "$library/libleafmesh.a" -lp4est -lsc \
     -o "$folder/driver"
 "$folder/driver"

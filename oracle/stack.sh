@@ -8,10 +8,10 @@ set -eu
 
 cd "$(dirname "$0")"
 . ./setup.sh
-[ -n "${LEAFMESH_LIBRARY:-}" ] || (cd .. && rt staticlib leafmesh >&2)
-[ -n "${LEAFMESH_PROGRAM:-}" ] || (cd .. && rt check leafnet >&2)
-library=$(cd ../bindings/rust && cd "${LEAFMESH_LIBRARY:-../../target/staticlib}" && pwd)
-program=${LEAFMESH_PROGRAM:-../target/bin/leafnet}
+[ -n "${LEAFMESH_LIBRARY:-}" ] || ../bindings/library.sh
+[ -n "${LEAFMESH_PROGRAM:-}" ] || ../bindings/library.sh leafnet
+library=$(cd ../bindings/rust && cd "${LEAFMESH_LIBRARY:-../../crates/leafmesh/out}" && pwd)
+program=${LEAFMESH_PROGRAM:-../crates/leafnet/out/leafnet}
 
 folder=$(mktemp -d)
 trap 'rm -rf "$folder"' EXIT

@@ -14,8 +14,8 @@ page=$(mktemp)
 trap 'rm -f "$said" "$page"' EXIT
 ./compare.sh bench >"$said"
 # The port has just been made.
-LEAFMESH_LIBRARY=${LEAFMESH_LIBRARY:-$(cd .. && pwd)/target/staticlib}
-LEAFMESH_PROGRAM=${LEAFMESH_PROGRAM:-$(cd .. && pwd)/target/bin/leafnet}
+LEAFMESH_LIBRARY=${LEAFMESH_LIBRARY:-$(cd .. && pwd)/crates/leafmesh/out}
+LEAFMESH_PROGRAM=${LEAFMESH_PROGRAM:-$(cd .. && pwd)/crates/leafnet/out/leafnet}
 export LEAFMESH_LIBRARY LEAFMESH_PROGRAM
 ./compare.sh heap >>"$said"
 ./stack.sh >>"$said"

@@ -1,4 +1,4 @@
-//! Links the proved library, which `rt staticlib leafmesh` leaves under the repository's root. Crates that
+//! Links the proved library, which `bindings/library.sh` makes in crates/leafmesh/out. Crates that
 //! depend on this one get it from here.
 
 use std::env;
@@ -6,7 +6,7 @@ use std::path::{Path, PathBuf};
 use std::process::exit;
 
 /// `LEAFMESH_LIBRARY` names another folder. Either is seen from this crate unless it is absolute.
-const DEFAULT_FOLDER: &str = "../../target/staticlib";
+const DEFAULT_FOLDER: &str = "../../crates/leafmesh/out";
 
 fn main() {
     println!("cargo:rerun-if-env-changed=LEAFMESH_LIBRARY");
@@ -18,7 +18,7 @@ fn main() {
     );
     if !folder.join("libleafmesh.a").is_file() {
         eprintln!(
-            "no libleafmesh.a in {}: make it with `rt staticlib leafmesh` at the repository's root, or name its \
+            "no libleafmesh.a in {}: make it with bindings/library.sh, or name its \
              folder in LEAFMESH_LIBRARY",
             folder.display()
         );

@@ -16,8 +16,8 @@
 //!
 //! [`Mesh`] holds a table, its polygons and the calls in one; the functions of this page are the library's own.
 //!
-//! The build links `libleafmesh.a` from target/staticlib under the repository's root, where `rt staticlib
-//! leafmesh` leaves it, or from the folder that `LEAFMESH_LIBRARY` names.
+//! The build links `libleafmesh.a` from crates/leafmesh/out under the repository's root, where
+//! bindings/library.sh leaves it, or from the folder that `LEAFMESH_LIBRARY` names.
 //!
 //! ```
 //! use leafmesh::{balance, build, network, refine, Head, NetRows, Outlines, Settings};

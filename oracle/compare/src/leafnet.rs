@@ -11,7 +11,7 @@ use std::path::PathBuf;
 use std::process::{Command, Output, Stdio};
 
 /// Seen from this crate. `LEAFMESH_PROGRAM` names another file.
-const DEFAULT_PROGRAM: &str = "../../target/bin/leafnet";
+const DEFAULT_PROGRAM: &str = "../../crates/leafnet/out/leafnet";
 
 /// What was run, and how many of the accepted boards have hanging nodes or were split by balance.
 struct Tally {
