@@ -1,0 +1,79 @@
+-- The leaves, the net without weights, the weights.
+use mathlib.Core.Path.{◌∙◌, ap}
+use native.Mathlib.Omega.{arith}
+use lib.ListN.{replicate}
+use Rattle.network.proofs.Whole as Whole
+use Rattle.network.proofs.fill.Goals as goal
+
+pub fill_leaves-requires-clause-n_in_bounds : goal.fill_leaves-requires-clause-n_in_bounds
+fill_leaves-requires-clause-n_in_bounds c =
+    let r = c.requires in
+    let low = c.type_inv.layers in (
+      Whole.slots-fit _ _ _ _ _ _ r.given r.l_value.1 (λ j h. (low j).fits) _ r.l_value.0 _ r.roomy,
+      (Whole.leaves-require _ _ _ _ _ _ r.given r.l_value.1 (λ j h. (low j).fits) _ r.l_value.0 _ r.roomy).0,
+    )
+
+pub write_net-c-requires-clause-ready : goal.write_net-c-requires-clause-ready
+write_net-c-requires-clause-ready c =
+    let r = c.requires in
+    let low = c.type_inv.layers in
+    let f = c.fill_leaves in
+    Whole.net-requires _ _ _ _ _ _ r.given r.l_value.1 (λ j h. (low j).fits) _ r.l_value.0 _ r.roomy _ _
+    f.ensures.boxes_after f.ensures.work_after f.auto.boxes f.auto.work
+
+pub apply_weights-requires-clause-net_rows : goal.apply_weights-requires-clause-net_rows
+apply_weights-requires-clause-net_rows c =
+    let r = c.requires in
+    let low = c.type_inv.layers in
+    let f = c.fill_leaves in
+    let d =
+    c.write_net-c.ensures.counted _
+    (Whole.net-given _ _ _ _ _ _ r.given r.l_value.1 (λ j h. (low j).fits) _ r.l_value.0 _ r.roomy _ _
+    f.ensures.boxes_after f.ensures.work_after f.auto.boxes f.auto.work) in
+    Whole.weights-require _ _ _ _ _ _ r.given r.l_value.1 (λ j h. (low j).fits) _ r.l_value.0 _ r.roomy _ _
+    f.ensures.boxes_after f.ensures.work_after f.auto.boxes f.auto.work d.0 d.1
+
+pub apply_weights-requires-clause-l_in_bounds : goal.apply_weights-requires-clause-l_in_bounds
+apply_weights-requires-clause-l_in_bounds c =
+    let r = c.requires in
+    let low = c.type_inv.layers in
+    let f = c.fill_leaves in
+    let w = c.write_net-c in
+    let d =
+    w.ensures.counted _
+    (Whole.net-given _ _ _ _ _ _ r.given r.l_value.1 (λ j h. (low j).fits) _ r.l_value.0 _ r.roomy _ _
+    f.ensures.boxes_after f.ensures.work_after f.auto.boxes f.auto.work) in
+    let z =
+    Whole.weights-room _ _ _ _ _ _ r.given r.l_value.1 (λ j h. (low j).fits) _ r.l_value.0 _ r.roomy _ _
+    f.ensures.boxes_after f.ensures.work_after f.auto.boxes f.auto.work d.0 d.1 f.auto.work w.auto.conductances in
+    (omega (arith, z.0, w.ensures.work_len_unchanged), z.1)
+
+pub returns-clause-result_value : goal.returns-clause-result_value
+returns-clause-result_value c =
+    let r = c.requires in
+    let low = c.type_inv.layers in
+    let f = c.fill_leaves in
+    let w = c.write_net-c in
+    let d =
+    w.ensures.counted _
+    (Whole.net-given _ _ _ _ _ _ r.given r.l_value.1 (λ j h. (low j).fits) _ r.l_value.0 _ r.roomy _ _
+    f.ensures.boxes_after f.ensures.work_after f.auto.boxes f.auto.work) in
+    let a = c.apply_weights.ensures in
+    let z = a.work_after ∙ ap (λ k. replicate k 0) (w.ensures.work_len_unchanged ∙ f.auto.work) in
+    Whole.counts _ _ _ _ _ _ r.given r.l_value.1 (λ j h. (low j).fits) _ r.l_value.0 _ r.roomy _ _
+    f.ensures.boxes_after f.ensures.work_after f.auto.boxes f.auto.work d.0 d.1 a.g_after z
+
+pub returns-clause-work_after : goal.returns-clause-work_after
+returns-clause-work_after c =
+    let r = c.requires in
+    let low = c.type_inv.layers in
+    let f = c.fill_leaves in
+    let w = c.write_net-c in
+    let d =
+    w.ensures.counted _
+    (Whole.net-given _ _ _ _ _ _ r.given r.l_value.1 (λ j h. (low j).fits) _ r.l_value.0 _ r.roomy _ _
+    f.ensures.boxes_after f.ensures.work_after f.auto.boxes f.auto.work) in
+    let a = c.apply_weights.ensures in
+    let z = a.work_after ∙ ap (λ k. replicate k 0) (w.ensures.work_len_unchanged ∙ f.auto.work) in
+    Whole.whole _ _ _ _ _ _ r.given r.l_value.1 (λ j h. (low j).fits) _ r.l_value.0 _ r.roomy _ _
+    f.ensures.boxes_after f.ensures.work_after f.auto.boxes f.auto.work d.0 d.1 a.g_after z
