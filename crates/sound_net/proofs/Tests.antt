@@ -1,5 +1,5 @@
 -- Laws of the tests: a walk over indices, `&&`, and equality of signed numbers. Assumes nothing.
-use Rattle.std.proofs.Common.{◌≡◌, ℕ, zero, suc, ◌+◌, ◌<◌, ◌≤◌, Bool, true, false, ◌&&◌, T, eqb, ◌⊎◌, ℤ, pos, negsuc, sym, refl, ap, ◌∙◌, subst, ⊎_elim, eq-or-lt_of_le, add-one, arith, to_z-of_z, w64, SFits, to_z, of_z}
+use Rattle.std.proofs.Common.{◌≡◌, ℕ, zero, suc, ◌+◌, ◌<◌, ◌≤◌, Bool, true, false, ◌&&◌, T, eqb, ℤ, pos, negsuc, sym, refl, ap, ◌∙◌, subst, ⊎_elim, eq-or-lt_of_le, add-one, arith, to_z-of_z, w64, SFits, to_z, of_z}
 use lib.Dec.{eqb_refl}
 use lib.Ieee.Fits.{and_l, and_r, and_i}
 use Rattle.sound_net.specs.Nets.{all_below, eqZ}

@@ -1,0 +1,27 @@
+-- The pairs, and the last of an odd number.
+use Rattle.std.proofs.Common.{◌≡◌, ◌+◌, ◌-◌, ◌*◌, ◌/◌, Bool, true, false, ◌&&◌, sym, ap, ◌∙◌, arith}
+use Rattle.sound_net.specs.Nets.{all_below, nodeCount, soundNode}
+use Rattle.sound_net.proofs.Tests.{all_more, all-fewer}
+use Rattle.sound_net.proofs.nodes_are_sound.Goals as goal
+
+pub returns-then-not-pairs_are_sound : goal.returns-then-not-pairs_are_sound
+returns-then-not-pairs_are_sound c =
+    let nodes = c.args.nodes.now in
+    let n = nodeCount nodes in
+    let e : all_below (soundNode nodes) (n / 2 * 2) ≡ false =
+    sym c.pairs_are_sound.ensures ∙ c.if-not-pairs_are_sound.true in
+    sym (all-fewer (soundNode nodes) (n / 2 * 2) n (omega arith) e)
+
+pub returns : goal.returns
+returns c =
+    let nodes = c.args.nodes.now in
+    let n = nodeCount nodes in
+    let e : all_below (soundNode nodes) (n / 2 * 2) ≡ true =
+    sym c.pairs_are_sound.ensures ∙ c.if-not-pairs_are_sound.false in
+    let h = c.if-count-eq0.false in
+    let k : n / 2 * 2 ≡ n - 1 = omega (arith, h) in
+    let m : n - 1 + 1 ≡ n = omega (arith, h) in
+    c.node_is_sound.ensures
+    ∙ ap (λ (b : Bool). b && soundNode nodes (n - 1)) (sym e ∙ ap (all_below (soundNode nodes)) k)
+    ∙ sym (all_more (soundNode nodes) (n - 1))
+    ∙ ap (all_below (soundNode nodes)) m
