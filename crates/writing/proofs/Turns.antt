@@ -20,7 +20,7 @@ use Rattle.board.proofs.RoundTrip.{bytes-length}
 use Rattle.writing.specs.Boards.{entriesOf, ringOf, sheetBits, count_of, polygonsOf, addUp}
 use Rattle.writing.proofs.Stores.{sets_then}
 
-and_both : (a b : Bool) → (a && b) ≡ true → (a ≡ true) × (b ≡ true)
+pub and_both : (a b : Bool) → (a && b) ≡ true → (a ≡ true) × (b ≡ true)
 and_both true b p = (refl, p)
 and_both false b p = absurd (false≢true p)
 
