@@ -1,7 +1,7 @@
 -- Boxes that hold others, and the index of the roots: it is kept by every split, and a block that lies apart holds no root that meets.
 -- Assumes nothing.
 use Prim.Native.Nat.{ℕ, ◌+◌, ◌*◌, ◌/◌, ◌%◌, ◌<◌, ◌≤◌}
-use mathlib.Core.Path.{◌≡◌, refl, sym, ap, subst, ◌∙◌}
+use mathlib.Core.Path.{◌≡◌, sym, ap, subst, ◌∙◌}
 use mathlib.Core.Bool.{false}
 use mathlib.Core.Logic.{by_cases}
 use mathlib.Core.Option.{none}

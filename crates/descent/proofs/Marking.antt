@@ -2,7 +2,7 @@
 use Prim.Native.Nat.{ℕ, ◌+◌, ◌*◌, ◌/◌, ◌<◌, ◌≤◌}
 use mathlib.Core.Path.{◌≡◌, refl, sym, ap, subst, ◌∙◌}
 use mathlib.Core.Bool.{Bool, true, false, true≢false}
-use mathlib.Core.Logic.{◌⊎◌, inl, inr, ⊎_elim, by_cases}
+use mathlib.Core.Logic.{◌⊎◌, ⊎_elim, by_cases}
 use mathlib.Core.Option.{none, some}
 use mathlib.Core.List.{List}
 use native.Mathlib.Omega.{arith}
@@ -14,7 +14,7 @@ use Rattle.table.specs.Mesh.{Cell, at}
 use Rattle.table.specs.Formed.{Formed}
 use Rattle.table.proofs.Meshes.{num-below, kids-in}
 use Rattle.descent.specs.Search.{meet, Under}
-use Rattle.descent.specs.Marks.{markAt, Wanted, Marked}
+use Rattle.descent.specs.Marks.{Wanted, Marked}
 use Rattle.descent.proofs.Meeting.{Meet, Above, under-above, meet-is, of-meet, shares-meet, quadrant-meet, straight}
 use Rattle.descent.proofs.Least.{Kids, under-leaf, under-kid}
 use Rattle.descent.proofs.Roots.{Aside}

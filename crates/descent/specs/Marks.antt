@@ -1,5 +1,5 @@
 -- Marks on ids, one mark for each eight of them: which leaves a search marked.
-use Rattle.std.specs.Prelude.{ℕ, ◌/◌, ◌<◌, ◌≤◌, ◌≡◌, Bool, true, false, List, length, get_or}
+use Rattle.std.specs.Prelude.{ℕ, ◌/◌, ◌≤◌, ◌≡◌, Bool, true, false, List, length, get_or}
 use Rattle.std.proofs.Math.Option.{none}
 use Rattle.table.specs.Mesh.{Cell, at}
 use Rattle.descent.specs.Search.{meet}

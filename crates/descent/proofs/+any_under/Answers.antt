@@ -1,0 +1,97 @@
+-- A cell that does not meet a holds nothing that asks for it, and the four children's subtrees hold all leaves of a
+-- split cell's.
+use Rattle.std.proofs.Common.{ℕ, ◌-◌, ◌+◌, ◌≡◌, ◌<◌}
+use mathlib.Core.Path.{sym, ap, subst, ◌∙◌}
+use mathlib.Core.Option.{some}
+use native.Mathlib.Omega.{arith}
+use Rattle.cell.specs.Boxes.{sw, se, nw, ne}
+use Rattle.table.specs.Slots.{cell_at}
+use Rattle.table.specs.Mesh.{table}
+use Rattle.coarsest.specs.Passes.{due}
+use Rattle.descent.specs.Search.{Under}
+use Rattle.descent.proofs.Least.{under-leaf}
+use Rattle.descent.proofs.Found.{found_none, found_as, found-kids}
+use Rattle.descent.proofs.Slots.{apart_none, leaf-slot, split-slot, kid-slot}
+use Rattle.descent.proofs.+any_under.Goals as goal
+
+pub returns-then-not-meets_at : goal.returns-then-not-meets_at
+returns-then-not-meets_at t c =
+    let T = table c.args.t.now c.args.n in
+    found_none (λ (b : ℕ). due c.args.k T b c.args.a) c.args.stop (Under T c.args.c)
+    (λ b u f d. apart_none c.args.t.now c.args.n c.args.k c.args.m c.args.a c.args.c c.requires.well_formed
+    c.requires.a_lt_n.0 c.requires.a_lt_n.1 (c.meets_at.ensures c.if-not-meets_at.true) b u d)
+
+pub returns-then-first-eq-NO_CELL : goal.returns-then-first-eq-NO_CELL
+returns-then-first-eq-NO_CELL t c =
+    let T = table c.args.t.now c.args.n in
+    found_as (λ (b : ℕ). due c.args.k T b c.args.a) c.args.stop (λ (b : ℕ). c.args.c ≡ b) (Under T c.args.c)
+    c.own_asks.result c.own_asks.ensures
+    (λ b u d. under-leaf T c.args.c (leaf-slot c.args.t.now c.args.n c.args.c c.requires.a_lt_n.1
+    (sym c.first_at-first.ensures ∙ c.if-first-eq-NO_CELL.true)) b u)
+
+pub any_under-requires : goal.any_under-requires
+any_under-requires t c =
+    let f = c.first_at-first.result in
+    let k = kid-slot c.args.t.now c.args.n c.args.m c.args.c f c.requires.well_formed c.requires.a_lt_n.1
+    c.first_at-first.ensures c.if-first-eq-NO_CELL.false sw f (omega arith) in (
+      subst (λ (x : ℕ). c.args.m - (cell_at c.args.t.now f).level < x) c.decreases k.falls,
+      (c.requires.well_formed, (c.requires.a_lt_n.0, k.inside)),
+    )
+
+pub overflow_add-f : goal.overflow_add-f
+overflow_add-f t c =
+    let f = c.first_at-first.result in
+    let k = kid-slot c.args.t.now c.args.n c.args.m c.args.c f c.requires.well_formed c.requires.a_lt_n.1
+    c.first_at-first.ensures c.if-first-eq-NO_CELL.false se (f + 1) (omega arith) in
+    omega (arith, k.inside, c.requires.well_formed.slots, c.requires.well_formed.count)
+
+pub any_under-requires-2 : goal.any_under-requires-2
+any_under-requires-2 t c =
+    let f = c.first_at-first.result in
+    let k = kid-slot c.args.t.now c.args.n c.args.m c.args.c f c.requires.well_formed c.requires.a_lt_n.1
+    c.first_at-first.ensures c.if-first-eq-NO_CELL.false se (f + 1) (omega arith) in (
+      subst (λ (x : ℕ). c.args.m - (cell_at c.args.t.now (f + 1)).level < x) c.decreases k.falls,
+      (c.requires.well_formed, (c.requires.a_lt_n.0, k.inside)),
+    )
+
+pub overflow_add-f-2 : goal.overflow_add-f-2
+overflow_add-f-2 t c =
+    let f = c.first_at-first.result in
+    let k = kid-slot c.args.t.now c.args.n c.args.m c.args.c f c.requires.well_formed c.requires.a_lt_n.1
+    c.first_at-first.ensures c.if-first-eq-NO_CELL.false nw (f + 2) (omega arith) in
+    omega (arith, k.inside, c.requires.well_formed.slots, c.requires.well_formed.count)
+
+pub any_under-requires-3 : goal.any_under-requires-3
+any_under-requires-3 t c =
+    let f = c.first_at-first.result in
+    let k = kid-slot c.args.t.now c.args.n c.args.m c.args.c f c.requires.well_formed c.requires.a_lt_n.1
+    c.first_at-first.ensures c.if-first-eq-NO_CELL.false nw (f + 2) (omega arith) in (
+      subst (λ (x : ℕ). c.args.m - (cell_at c.args.t.now (f + 2)).level < x) c.decreases k.falls,
+      (c.requires.well_formed, (c.requires.a_lt_n.0, k.inside)),
+    )
+
+pub overflow_add-f-3 : goal.overflow_add-f-3
+overflow_add-f-3 t c =
+    let f = c.first_at-first.result in
+    let k = kid-slot c.args.t.now c.args.n c.args.m c.args.c f c.requires.well_formed c.requires.a_lt_n.1
+    c.first_at-first.ensures c.if-first-eq-NO_CELL.false ne (f + 3) (omega arith) in
+    omega (arith, k.inside, c.requires.well_formed.slots, c.requires.well_formed.count)
+
+pub any_under-requires-4 : goal.any_under-requires-4
+any_under-requires-4 t c =
+    let f = c.first_at-first.result in
+    let k = kid-slot c.args.t.now c.args.n c.args.m c.args.c f c.requires.well_formed c.requires.a_lt_n.1
+    c.first_at-first.ensures c.if-first-eq-NO_CELL.false ne (f + 3) (omega arith) in (
+      subst (λ (x : ℕ). c.args.m - (cell_at c.args.t.now (f + 3)).level < x) c.decreases k.falls,
+      (c.requires.well_formed, (c.requires.a_lt_n.0, k.inside)),
+    )
+
+pub returns : goal.returns
+returns t c =
+    let g = c.first_at-first in
+    found-kids (table c.args.t.now c.args.n) c.args.c g.result
+    (split-slot c.args.t.now c.args.n c.args.c c.requires.a_lt_n.1 (λ z. c.if-first-eq-NO_CELL.false (g.ensures ∙ z))
+    ∙ ap some (sym g.ensures))
+    c.args.k c.args.a c.args.stop c.any_under.result c.any_under-2.result c.any_under-3.result c.any_under-4.result
+    c.if-any_under.false c.if-any_under-2.false c.if-any_under-3.false
+    c.any_under.ensures c.any_under-2.ensures c.any_under-3.ensures c.any_under-4.ensures
