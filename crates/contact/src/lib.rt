@@ -24,6 +24,7 @@ pub enum Contact {
 }
 
 // All four coordinates are in range and both sides positive.
+#[tactic(auto, unfolding(crate::specs::Contact::soundRect))]
 fn is_sound(r: Rect) -> bool
     ensures { result ≡ soundRect r }
 {
@@ -49,6 +50,7 @@ fn as_cell(r: Rect) -> Cell
 }
 
 // Contact of document 01: refusal 3 for a coordinate out of range or a side that isn't positive, else whether they share an edge.
+#[tactic(auto, unfolding(crate::specs::Contact::contactSays))]
 pub fn between(a: Rect, b: Rect) -> Contact
     ensures { contactSaid result ≡ contactSays a b }
 {
