@@ -1,5 +1,5 @@
 -- A row by the searches: what lies before the least id that is due is not due, and no split makes a root. Assumes nothing.
-use Prim.Native.Nat.{ℕ, zero, suc, ◌+◌, ◌-◌, ◌<◌, ◌≤◌}
+use Prim.Native.Nat.{ℕ, zero, suc, ◌+◌, ◌-◌, ◌/◌, ◌<◌, ◌≤◌}
 use mathlib.Core.Path.{◌≡◌, sym, ap, subst, ◌∙◌}
 use mathlib.Core.Bool.{true, false}
 use mathlib.Core.Logic.{by_cases}
@@ -18,7 +18,10 @@ use Rattle.coarsest.proofs.Passes.{pass-keeps}
 use Rattle.descent.specs.Search.{Least, Indexed}
 use Rattle.descent.proofs.Boxes.{indexed-keeps}
 use Rattle.even.proofs.Pairs.{no_true}
-use Rattle.even.proofs.Turns.{On, on-as}
+use Rattle.table.specs.Slots.{cell_at}
+use Rattle.table.specs.Refine.{splitRow}
+use Rattle.even.specs.Parts.{Grew}
+use Rattle.even.proofs.Turns.{On, on-as, on_grew, ready, finer-row, turn-split, turn-full}
 
 row-to : (k : ℕ) (T : List Cell) (a b d : ℕ) → ((j : ℕ) → b ≤ j → j < b + d → due k (row balancing k T a b) a j ≡ false)
     → row balancing k T a (b + d) ≡ row balancing k T a b
@@ -48,6 +51,26 @@ module _ (k M : ℕ) (T : List Cell) (t u : List ℤ) (n r a b stop c : ℕ) (o 
 
   pub row-asks : c < stop → dueOf balancing k (row balancing k T a c) a c ≡ true
   row-asks h = ap (λ (y : List Cell). due k y a c) (sym row_next.cells) ∙ (x.found h).1
+
+  -- the end of the row, where none is due
+  pub row-ended : stop ≤ c → Grew M (row balancing k T a stop) t u n r
+  row-ended h =
+      let m = x.most in
+      let e : c ≡ stop = omega arith in
+      on_grew _ _ _ _ _ _ (on-as _ _ _ _ _ _ _ (ap (row balancing k T a) e) row_next)
+
+  -- the split of the one that is due, or no room for it
+  module _ (h : c < stop) (ha : a < stop) where
+    pub row-finer : (cell_at u c).level < M
+    row-finer =
+        let y = ready balancing k M T t u n r a c row_next (omega arith) (omega arith) (row-asks h) in
+        finer-row _ _ _ _ _ _ row_next c (omega arith) y.0 y.1
+
+    pub row-split : r + 4 ≤ length t / 8 → On M (row balancing k T a (c + 1)) t (splitRow u r c) n (r + 4)
+    row-split = turn-split balancing k M T t u n r a c row_next (omega arith) (omega arith) (row-asks h)
+
+    pub row-full : stop ≤ length T → length t / 8 < r + 4 → Grew M (row balancing k T a stop) t u n (length t / 8 + 1)
+    row-full l = turn-full balancing k M T t u n r a c row_next (omega arith) (omega arith) stop ha h l (row-asks h)
 
 -- the index of the roots in a row's table, in that of the rows of a pass, and in that of the pass
 module _ (e : Engine) (k M top n : ℕ) (boxes : List (List ℕ)) (T : List Cell) (t u : List ℤ) (p r a : ℕ) (hn : n ≤ length T) (x : Indexed top boxes T) where

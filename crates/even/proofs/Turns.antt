@@ -25,7 +25,7 @@ use Rattle.table.proofs.Meshes.{length-split}
 use Rattle.coarsest.proofs.Sweep.{dueOf}
 use Rattle.coarsest.proofs.Loops.{coarser, row-due, row-most}
 use Rattle.even.specs.Undo.{undone}
-use Rattle.even.specs.Parts.{Grew}
+use Rattle.even.specs.Parts.{Grew, Rowed}
 use Rattle.even.proofs.Undoing.{undone-split}
 
 -- the row u of r cells holds the cells `what`, and came from the row t of n cells by splits
@@ -56,6 +56,11 @@ on-full M what goal t u n r o h =
 -- other names for the same cells
 pub on-as : (M : ℕ) (what other : List Cell) (t u : List ℤ) (n r : ℕ) → what ≡ other → On M what t u n r → On M other t u n r
 on-as M what other t u n r e o = record { formed = o.formed; cells = o.cells ∙ e; size = o.size; more = o.more; back = o.back }
+
+-- a row of pairs that splits nothing
+pub still : (e : Engine) (k M : ℕ) (t : List ℤ) (n a stop : ℕ) → WellFormed t n M → row e k (table t n) a stop ≡ table t n
+    → Rowed e k M t t n a stop n
+still e k M t n a stop w same = on_grew _ _ _ _ _ _ (on-as _ _ _ _ _ _ _ (sym same) (on-start _ _ _ w))
 
 -- what grew from a row that grew
 pub on_then : (M : ℕ) (mid goal : List Cell) (t u v : List ℤ) (n r s : ℕ) → On M mid t u n r → On M goal u v r s → On M goal t v n s

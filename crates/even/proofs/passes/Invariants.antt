@@ -1,0 +1,20 @@
+-- The row came from the first one by splits, and has the same end of all passes; its rows with a pair that is due
+-- are marked.
+use Rattle.std.proofs.Common.{◌≡◌}
+use Rattle.table.specs.Mesh.{table}
+use Rattle.coarsest.specs.Passes.{evened, splitsLeft}
+use Rattle.descent.specs.Search.{Indexed}
+use Rattle.even.specs.Parts.{engineOf}
+use Rattle.even.specs.Watch.{Watched}
+use Rattle.even.proofs.Turns.{On}
+use Rattle.even.proofs.passes.Given as goal
+
+abbrev pub invariant-loop-conforms : goal.invariant-loop-conforms
+invariant-loop-conforms l =
+    let T = table l.t l.count in
+    let E = engineOf l.conforms in
+    On l.m T l.initial.t l.t l.n l.count × (evened E l.k l.m T ≡ evened E l.k l.m (table l.initial.t l.n))
+    × Indexed l.top l.boxes T × Watched E l.k l.marks T l.count
+
+abbrev pub decreases-loop-conforms : goal.decreases-loop-conforms
+decreases-loop-conforms l = splitsLeft l.m (table l.t l.count)
