@@ -72,6 +72,7 @@ fn gap(nodes: &[i64], i: usize, j: usize) -> u64
 }
 
 // The values of cell c. Internal: the cell is one of a sound net, with a potential for each node.
+#[tactic(auto, unfolding(crate::specs::Powers::valuesAt))]
 fn cell_values(nodes: &[i64], corners: &[u64], potentials: &[f64], c: usize) -> Values
     requires { Sloped nodes.now corners.now potentials.now c }
     ensures { result ≡ valuesAt nodes.now corners.now potentials.now c }
@@ -140,6 +141,7 @@ fn fill(nodes: &[i64], corners: &[u64], sheets: &[f64], potentials: &[f64], answ
 }
 
 // Whether each value is one that document 01 allows, and there is a potential for each node.
+#[tactic(auto, unfolding(crate::specs::Powers::inRanges))]
 fn in_ranges(nodes: &[i64], sheets: &[f64], potentials: &[f64]) -> bool
     ensures { result ≡ inRanges nodes.now sheets.now potentials.now }
 {
