@@ -4,9 +4,10 @@
 use Prim.Native.Nat.{ℕ, zero, suc}
 use mathlib.Core.Path.{◌≡◌, refl, sym, ap, ◌∙◌}
 use mathlib.Core.List.{List}
+use Rattle.std.specs.Prelude.{Result, Ok, Err}
 use Rattle.refusals.specs.declared.Refusal.{Refusal}
 use Rattle.refusals.specs.declared.Refusal.TheVariants.{WrongVersion, WrongLength, OutOfRange, Slanted, UnevenCell, NoRoom, BadTable, NoSuchCell, AlreadySplit, FinestLevel}
-use Rattle.refusals.specs.Said.{Said, accepted, refused, refusal}
+use Rattle.refusals.specs.Said.{Said, accepted, refused, refusal, said}
 
 -- two answers of which the same is said are one, where `told` takes an answer back out of what is said of it
 pub settled : {A B : Type 0} (say : A → B) (told : B → A) → ((a : A) → told (say a) ≡ a) → (what : B) (a b : A) → say a ≡ what → say b ≡ what → a ≡ b
@@ -55,3 +56,14 @@ as-refused BadTable = (7, 0, refl)
 as-refused (NoSuchCell p) = (8, p, refl)
 as-refused (AlreadySplit p) = (9, p, refl)
 as-refused (FinestLevel p) = (10, p, refl)
+
+-- an answer is told from what is said of it, if its values tell it
+told-back : {A : Type 0} (values : A → List ℕ) (back : List ℕ → A) → ((a : A) → back (values a) ≡ a) → (r : Result A Refusal)
+    → answer (λ vs. Ok (back vs)) Err (said values r) ≡ r
+told-back values back same (Ok a) = ap Ok (same a)
+told-back values back same (Err why) = answer-refused (λ vs. Ok (back vs)) Err why
+
+-- so a promise on what is said of an answer permits one answer
+pub one-said : {A : Type 0} (values : A → List ℕ) (back : List ℕ → A) → ((a : A) → back (values a) ≡ a) → (what : Said) (a b : Result A Refusal)
+    → said values a ≡ what → said values b ≡ what → a ≡ b
+one-said values back same = settled (said values) (answer (λ vs. Ok (back vs)) Err) (told-back values back same)

@@ -1,5 +1,5 @@
 -- What a call says, in document 01's terms: accepted, with its values, or refused, with a number and a place.
-use Rattle.std.specs.Prelude.{ℕ, Bool, true, false, List}
+use Rattle.std.specs.Prelude.{ℕ, Bool, true, false, List, Result, Ok, Err}
 use Rattle.refusals.specs.declared.Refusal.{Refusal}
 use Rattle.refusals.specs.declared.Refusal.TheVariants.{WrongVersion, WrongLength, OutOfRange, Slanted, UnevenCell, NoRoom, BadTable, NoSuchCell, AlreadySplit, FinestLevel}
 
@@ -19,6 +19,11 @@ refusal BadTable = refused 7 0
 refusal (NoSuchCell id) = refused 8 id
 refusal (AlreadySplit id) = refused 9 id
 refusal (FinestLevel id) = refused 10 id
+
+-- what a call says by its answer: the values, or the refusal
+abbrev pub said : {A : Type 0} → (A → List ℕ) → Result A Refusal → Said
+said values (Ok a) = accepted (values a)
+said values (Err why) = refusal why
 
 -- yes and no as a value of an accepted call
 abbrev pub bit : Bool → ℕ
