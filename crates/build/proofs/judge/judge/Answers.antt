@@ -1,0 +1,81 @@
+use Rattle.std.proofs.Common.{◌-◌, ◌≡◌, length, arith, refl, sym, ap, ◌∙◌}
+use Rattle.strips.specs.Rings.{ringInRange, ringSlants}
+use Rattle.build.proofs.Judging.{sum-none, sum_more, ring-ends, ring-part, judge-sheet, judge-range, judge-slant, judge-on, judge-end}
+use Rattle.build.proofs.judge.judge.Goals as goal
+
+pub loop-p-init : goal.loop-p-init
+loop-p-init c =
+    let e : length c.args.counts.now - 0 ≡ length c.args.counts.now = omega arith in
+    record { in_row = omega arith; start = sym (sum-none c.args.counts.now); on = λ o. rw e refl }
+
+pub returns-then-not-sheet_in_range : goal.returns-then-not-sheet_in_range
+returns-then-not-sheet_in_range c = λ o.
+    let a = c.args in
+    let s = c.loop-p in
+    let e = sym c.if-not-sheet_in_range.ensures in
+    sym (judge-sheet a.sheets.now a.counts.now a.points.now s.p (length a.counts.now) c.loop-p-test.true o e)
+    ∙ s.invariant.on o
+
+pub overflow_add-end : goal.overflow_add-end
+overflow_add-end c =
+    omega (arith, ring-ends c.args.counts.now c.args.points.now c.loop-p.p c.loop-p-test.true c.requires.1)
+
+pub offset_bounds-points-at : goal.offset_bounds-points-at
+offset_bounds-points-at c =
+    omega (arith, ring-ends c.args.counts.now c.args.points.now c.loop-p.p c.loop-p-test.true c.requires.1)
+
+pub slice_bounds-in_range-end : goal.slice_bounds-in_range-end
+slice_bounds-in_range-end c =
+    omega (arith, ring-ends c.args.counts.now c.args.points.now c.loop-p.p c.loop-p-test.true c.requires.1)
+
+pub returns-then-not-in_range : goal.returns-then-not-in_range
+returns-then-not-in_range c = λ o.
+    let a = c.args in
+    let s = c.loop-p in
+    let e = sym c.if-not-sheet_in_range.ensures in
+    let r = ring-part a.counts.now a.points.now s.p _ _ s.invariant.start refl in
+    let f = ap ringInRange (sym r) ∙ sym c.if-not-in_range.ensures in
+    sym (judge-range a.sheets.now a.counts.now a.points.now s.p (length a.counts.now) c.loop-p-test.true o e f)
+    ∙ s.invariant.on o
+
+pub offset_bounds-points-at-in-loop-p : goal.offset_bounds-points-at-in-loop-p
+offset_bounds-points-at-in-loop-p c =
+    omega (arith, ring-ends c.args.counts.now c.args.points.now c.loop-p.p c.loop-p-test.true c.requires.1)
+
+pub slice_bounds-slanted-end : goal.slice_bounds-slanted-end
+slice_bounds-slanted-end c =
+    omega (arith, ring-ends c.args.counts.now c.args.points.now c.loop-p.p c.loop-p-test.true c.requires.1)
+
+pub returns-then-slanted : goal.returns-then-slanted
+returns-then-slanted c = λ o.
+    let a = c.args in
+    let s = c.loop-p in
+    let e = sym c.if-not-sheet_in_range.ensures in
+    let r = ring-part a.counts.now a.points.now s.p _ _ s.invariant.start refl in
+    let f = ap ringInRange (sym r) ∙ sym c.if-not-in_range.ensures in
+    let g = ap ringSlants (sym r) ∙ sym c.if-slanted.ensures in
+    sym (judge-slant a.sheets.now a.counts.now a.points.now s.p (length a.counts.now) c.loop-p-test.true o e f g)
+    ∙ s.invariant.on o
+
+pub loop-p-preserved : goal.loop-p-preserved
+loop-p-preserved c =
+    let a = c.args in
+    let s = c.loop-p in
+    let n = length a.counts.now in
+    let e = sym c.if-not-sheet_in_range.ensures in
+    let r = ring-part a.counts.now a.points.now s.p _ _ s.invariant.start refl in
+    let f = ap ringInRange (sym r) ∙ sym c.if-not-in_range.ensures in
+    let g = ap ringSlants (sym r) ∙ sym c.if-slanted.ensures in
+    record {
+      in_row = omega arith;
+      start = omega (arith, sum_more a.counts.now s.p);
+      on = λ o. sym (judge-on a.sheets.now a.counts.now a.points.now s.p n c.loop-p-test.true o e f g)
+          ∙ s.invariant.on o;
+    }
+
+pub returns : goal.returns
+returns c = λ o.
+    let a = c.args in
+    let s = c.loop-p in
+    sym (judge-end a.sheets.now a.counts.now a.points.now s.p (length a.counts.now) o c.loop-p-test.false)
+    ∙ s.invariant.on o
