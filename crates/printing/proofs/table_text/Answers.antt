@@ -1,0 +1,47 @@
+-- The net is refused, or made and written.
+use lib.Ieee.{Float, binary64, of_bits}
+use lib.ListN.{length-replicate}
+use Rattle.std.proofs.Common.{ℕ, ℤ, pos, ◌*◌, ◌∙◌}
+use Rattle.refusals.specs.Said.{refusal}
+use Rattle.lines.proofs.Joining.{renamed}
+use Rattle.mesh.specs.Says.{leafRoom}
+use Rattle.network.specs.Says.{polygons, rows}
+use Rattle.printing.specs.Lent.{rowsText}
+use Rattle.printing.specs.Output.{saidText, tableText}
+use Rattle.printing.proofs.Nets.{refused-net, net-rows, net-text}
+use Rattle.printing.proofs.table_text.Goals as goal
+
+pub put_lines-requires-clause-net_rows : goal.put_lines-requires-clause-net_rows
+put_lines-requires-clause-net_rows c =
+    let a = c.args in
+    let p = polygons a.layers.now a.components.now a.sheets.now in
+    let v = c.network-net.new in
+    let k = c.network-net.auto in
+    let d = c.in-Done in
+    net-rows a.t a.table.now a.order.now p d.c (rows v.nodes v.ends v.conductances v.corners v.cells v.work)
+    d.ensures.result_value d.ensures.work_after (k.nodes ∙ length-replicate {A = ℤ} (16 * leafRoom) (pos 0))
+    (k.ends ∙ length-replicate {A = ℕ} (16 * leafRoom) 0)
+    (k.conductances ∙ length-replicate {A = Float} (8 * leafRoom) (of_bits binary64 0))
+
+pub returns-in-Refused-clause-puts : goal.returns-in-Refused-clause-puts
+returns-in-Refused-clause-puts c =
+    let a = c.args in
+    let p = polygons a.layers.now a.components.now a.sheets.now in
+    let x = c.in-Refused.why in
+    renamed 0 a.out.now (saidText (refusal x)) (tableText a.t.count a.t.max_level a.t.splits a.table.now a.order.now p)
+    (refused-net a.t a.table.now a.order.now p x c.in-Refused.ensures.result_value) c.refuse.ensures.puts
+
+pub returns-in-Done-clause-puts : goal.returns-in-Done-clause-puts
+returns-in-Done-clause-puts c =
+    let a = c.args in
+    let p = polygons a.layers.now a.components.now a.sheets.now in
+    let v = c.network-net.new in
+    let k = c.network-net.auto in
+    let d = c.in-Done in
+    let e = net-text a.t a.table.now a.order.now p d.c (rows v.nodes v.ends v.conductances v.corners v.cells v.work)
+    d.ensures.result_value d.ensures.work_after (k.nodes ∙ length-replicate {A = ℤ} (16 * leafRoom) (pos 0))
+    (k.ends ∙ length-replicate {A = ℕ} (16 * leafRoom) 0)
+    (k.conductances ∙ length-replicate {A = Float} (8 * leafRoom) (of_bits binary64 0))
+    c.requires.all in
+    renamed 0 a.out.now (rowsText a.t d.c a.table.now a.order.now v.nodes v.ends v.conductances)
+    (tableText a.t.count a.t.max_level a.t.splits a.table.now a.order.now p) e c.put_lines.ensures.puts
