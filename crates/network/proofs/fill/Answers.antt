@@ -48,8 +48,8 @@ apply_weights-requires-clause-l_in_bounds c =
     f.ensures.boxes_after f.ensures.work_after f.auto.boxes f.auto.work d.0 d.1 f.auto.work w.auto.conductances in
     (omega (arith, z.0, w.ensures.work_len_unchanged), z.1)
 
-pub returns-clause-result_value : goal.returns-clause-result_value
-returns-clause-result_value c =
+pub returns : goal.returns
+returns c =
     let r = c.requires in
     let low = c.type_inv.layers in
     let f = c.fill_leaves in
@@ -60,20 +60,9 @@ returns-clause-result_value c =
     f.ensures.boxes_after f.ensures.work_after f.auto.boxes f.auto.work) in
     let a = c.apply_weights.ensures in
     let z = a.work_after ∙ ap (λ k. replicate k 0) (w.ensures.work_len_unchanged ∙ f.auto.work) in
-    Whole.counts _ _ _ _ _ _ r.given r.l_value.1 (λ j h. (low j).fits) _ r.l_value.0 _ r.roomy _ _
-    f.ensures.boxes_after f.ensures.work_after f.auto.boxes f.auto.work d.0 d.1 a.g_after z
-
-pub returns-clause-work_after : goal.returns-clause-work_after
-returns-clause-work_after c =
-    let r = c.requires in
-    let low = c.type_inv.layers in
-    let f = c.fill_leaves in
-    let w = c.write_net-c in
-    let d =
-    w.ensures.counted _
-    (Whole.net-given _ _ _ _ _ _ r.given r.l_value.1 (λ j h. (low j).fits) _ r.l_value.0 _ r.roomy _ _
-    f.ensures.boxes_after f.ensures.work_after f.auto.boxes f.auto.work) in
-    let a = c.apply_weights.ensures in
-    let z = a.work_after ∙ ap (λ k. replicate k 0) (w.ensures.work_len_unchanged ∙ f.auto.work) in
-    Whole.whole _ _ _ _ _ _ r.given r.l_value.1 (λ j h. (low j).fits) _ r.l_value.0 _ r.roomy _ _
-    f.ensures.boxes_after f.ensures.work_after f.auto.boxes f.auto.work d.0 d.1 a.g_after z
+    record {
+      result_value = Whole.counts _ _ _ _ _ _ r.given r.l_value.1 (λ j h. (low j).fits) _ r.l_value.0 _ r.roomy _ _
+          f.ensures.boxes_after f.ensures.work_after f.auto.boxes f.auto.work d.0 d.1 a.g_after z;
+      work_after = Whole.whole _ _ _ _ _ _ r.given r.l_value.1 (λ j h. (low j).fits) _ r.l_value.0 _ r.roomy _ _
+          f.ensures.boxes_after f.ensures.work_after f.auto.boxes f.auto.work d.0 d.1 a.g_after z;
+    }
