@@ -1,0 +1,27 @@
+use mathlib.Core.Path.{ap, ◌∙◌}
+use native.Mathlib.Omega.{arith}
+use Rattle.std.proofs.Common.{◌+◌, ◌*◌, ◌≤◌, length}
+use Rattle.sound_net.specs.Nets.{nodeCount}
+use Rattle.rows.specs.Parts.{part, put}
+use Rattle.checks.specs.Keys.{finer}
+use Rattle.checks.proofs.Making.{made_of, lasts-small, finer-is, finer-long}
+use Rattle.checks.proofs.make_finer.Goals as goal
+
+pub put_finer-requires-clause-small : goal.put_finer-requires-clause-small
+put_finer-requires-clause-small c =
+    let a = c.args in
+    let p = c.requires.nodes_in_bounds in
+    lasts-small a.work.now a.at a.nodes.now a.f (omega arith) c.requires.nodes_value c.requires.f_bound.1
+
+pub returns : goal.returns
+returns c =
+    let a = c.args in
+    let n = nodeCount a.nodes.now in
+    let p = c.requires.nodes_in_bounds in
+    let room : a.at + 3 * n ≤ length a.work.now = omega arith in
+    let there : a.at + 3 * n + 3 * n ≤ length a.work.now = omega arith in
+    made_of (finer (part a.work.now a.at n) a.nodes.now a.f) a.work.now c.put_finer.new.work c.sort_block.new.work
+    (a.at + 3 * n) n (finer-long (part a.work.now a.at n) a.nodes.now a.f) there
+    (c.put_finer.ensures
+    ∙ ap (put a.work.now (a.at + 3 * n)) (finer-is a.work.now a.at a.nodes.now a.f room c.requires.nodes_value))
+    c.sort_block.ensures
