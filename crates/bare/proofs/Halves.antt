@@ -2,40 +2,18 @@
 use mathlib.Core.Path.{◌≡◌, refl, sym, ap, ap₂, subst, ◌∙◌}
 use mathlib.Core.Bool.{Bool, true, false, ◌&&◌, not}
 use mathlib.Core.List.{List}
-use Prim.Native.Nat.{ℕ, zero, suc, ◌+◌, ◌*◌, ◌-◌, ◌/◌, ◌%◌, ◌<◌, ◌≤◌, min, max}
+use Prim.Native.Nat.{ℕ, ◌+◌, ◌*◌, ◌/◌, ◌%◌, ◌<◌, ◌≤◌, min, max}
 use native.Mathlib.Omega.{arith}
 use native.Mathlib.Nat.{zero-add}
 use lib.Dec.{leb, eqb}
 use lib.ListN.{get_or}
 use borrow.Author.Tests.{lt-ltb, le-ltb, ltb-true, eq-eqb, ne_eqb}
 use Rattle.refusals.specs.Limits.{maxPolygons}
+use Rattle.rows.specs.Contract.{Small}
 use Rattle.rows.proofs.Parts.{length_part, part_at}
 use Rattle.net.specs.Flat.{pickNum}
 use Rattle.net.proofs.Keys.{both}
 use Rattle.bare.specs.Slots.{many, corner, middle, hitAt, slotEnd, Slotted, polysIn, numsIn, midsIn}
-
--- the answers of `corner_of`
-pub corner-from : (q : ℕ) → q < 4 → (q ≡ 1 → ⊥) → (q ≡ 3 → ⊥) → 0 ≡ corner q 0
-corner-from zero h a b = refl
-corner-from (suc zero) h a b = absurd (a refl)
-corner-from (suc (suc zero)) h a b = refl
-corner-from (suc (suc (suc zero))) h a b = absurd (b refl)
-corner-from (suc (suc (suc (suc q)))) h a b = absurd (omega arith)
-
-pub corner-south : (e : ℕ) → (e ≡ 0 → ⊥) → 1 ≡ corner 0 e
-corner-south zero h = absurd (h refl)
-corner-south (suc e) h = refl
-
-pub corner-west : (e : ℕ) → (e ≡ 0 → ⊥) → 3 ≡ corner 2 e
-corner-west zero h = absurd (h refl)
-corner-west (suc e) h = refl
-
-pub corner-to : (q e : ℕ) → (e ≡ 0 → ⊥) → (q ≡ 0 → ⊥) → (q ≡ 2 → ⊥) → 2 ≡ corner q e
-corner-to q zero h a b = absurd (h refl)
-corner-to zero (suc e) h a b = absurd (a refl)
-corner-to (suc zero) (suc e) h a b = refl
-corner-to (suc (suc zero)) (suc e) h a b = absurd (b refl)
-corner-to (suc (suc (suc q))) (suc e) h a b = refl
 
 -- reading the rows
 module _ (rows : List ℕ) (l : ℕ) (S : Slotted rows l) where
@@ -51,8 +29,15 @@ module _ (rows : List ℕ) (l : ℕ) (S : Slotted rows l) where
   pub num-low : (i : ℕ) → i < 4 * l → get_or rows (18 * l + i) 0 < many
   num-low i h = let n = S.long in let e = num-at i h in let k = S.low i (subst (λ (z : ℕ). i < z) (sym (length_part rows (18 * l) (4 * l) (omega arith))) h) in omega arith
 
+  pub poly-in : (n : ℕ) → Small n (polysIn rows l) → (v : ℕ) → v < l → get_or rows v 0 < n
+  poly-in n s v h =
+      let z = S.long in
+      let e = poly-at v h in
+      let k = s v (subst (λ (z : ℕ). v < z) (sym (length_part rows 0 l (omega arith))) h) in
+      omega arith
+
   pub poly-low : (v : ℕ) → v < l → get_or rows v 0 < maxPolygons
-  poly-low v h = let n = S.long in let e = poly-at v h in let k = S.polys v (subst (λ (z : ℕ). v < z) (sym (length_part rows 0 l (omega arith))) h) in omega arith
+  poly-low v h = poly-in maxPolygons S.polys v h
 
   -- the two answers of `hit_at`
   pub hit-no : (v q : ℕ) → v < l → q < 4 → 4 * l ≤ get_or rows (22 * l + 4 * v + q) 0 → false ≡ hitAt (polysIn rows l) (midsIn rows l) l v q

@@ -1,7 +1,7 @@
 -- The slots, sorted: what the sort requires and leaves. And rows written one or two entries at a time. Assumes nothing.
 use mathlib.Core.Path.{◌≡◌, sym, ap, subst, ◌∙◌}
 use mathlib.Core.Bool.{Bool, true, false, ◌&&◌, not}
-use mathlib.Core.Logic.{◌⊎◌, inl, ⊎_elim}
+use mathlib.Core.Logic.{inl, ⊎_elim}
 use mathlib.Core.List.{List, [], ◌∷◌, ◌++◌}
 use Prim.Native.Nat.{ℕ, ◌+◌, ◌*◌, ◌-◌, ◌/◌, ◌%◌, ◌^◌, ◌<◌, ◌≤◌, min, max}
 use native.Mathlib.Omega.{arith}
@@ -10,28 +10,20 @@ use borrow.Rule.Slice.PartMut.{put_mid}
 use lib.Dec.{eqb}
 use lib.ListN.{length, get_or, take, drop, set, length-drop, get_or-eq_default}
 use lib.Seq.{length-take-le, take-take}
-use lib.Ieee.{binary64, in_float}
-use lib.IntN.{pos}
-use lib.Dec.{T, le→leb}
-use native.Mathlib.Nat.{le_of_lt}
 use Rattle.refusals.specs.Limits.{maxPolygons}
 use Rattle.rows.specs.Order as Rows
 use Rattle.rows.specs.Parts.{part, put, tab}
 use Rattle.rows.specs.Contract.{Small}
-use Rattle.rows.proofs.Parts.{take_put, put-nil, put-snoc, part-all}
-use Rattle.rows.proofs.Fill.{length-tab, tab-same, filled-long, filled-part}
+use borrow.Author.Tests.{eq-eqb, ne_eqb}
+use Rattle.rows.proofs.Parts.{part_at, take_put, put-nil, put-snoc, part-all}
+use Rattle.rows.proofs.Fill.{length-tab, tab-at, tab-same, filled-long, filled-part}
 use Rattle.rows.proofs.Lent.{block-long, block-other, block-third}
-use Rattle.net.specs.First.{first_of}
+use Rattle.net.specs.First.{first_of, isNew}
 use Rattle.net.specs.Flat.{pickNum}
 use Rattle.net.proofs.Find.{order}
 use Rattle.bare.specs.Slots.{many, corner, middle, hitAt, slotEnd, slotKey, slotKeys, Slotted, Parted, polysIn, numsIn, midsIn}
 use Rattle.places.proofs.Numbers.{first-of}
 use Rattle.places.proofs.Numbered.{tab-small}
-
--- a number that binary64 has
-pub exact : {n : ℕ} → n < 2 ^ 53 → T (in_float binary64 (pos n))
-unfolding in_float
-exact {n} h = le→leb n (2 ^ 53) (le_of_lt h)
 
 -- an entry of a row, or 0 past its end
 pub small_at : (l : List ℕ) (n i : ℕ) → 0 < n → Small n l → get_or l i 0 < n
@@ -124,6 +116,15 @@ put_one {A} w a v h = ap (λ (z : List A). set z a v) (sym (put-nil w a)) ∙ (a
 pub put_two : {A : Type 0} (w : List A) (a : ℕ) (p q : A) → a + 2 ≤ length w → set (set w a p) (a + 1) q ≡ put w a (p ∷ q ∷ [])
 put_two {A} w a p q h = ap (λ (z : List A). set z (a + 1) q) (put_one w a p (omega arith)) ∙ put-snoc w a (p ∷ []) q p (omega arith)
 
-pub slot-keys-long : (rows : List ℕ) (l : ℕ) → length (slotKeys rows l) ≡ 8 * l
-unfolding slotKeys
-slot-keys-long rows l = length-tab (slotKey (polysIn rows l) (numsIn rows l) (midsIn rows l) l) (8 * l)
+-- of the sorted slots those are new that are their own first
+module _ (rows w : List ℕ) (l : ℕ) (P : Parted rows w l) (j : ℕ) (t : j < 8 * l) where
+  first-at : get_or w (42 * l + j) 0 ≡ first_of (slotKeys rows l) j
+  first-at =
+      sym (part_at w (42 * l) (8 * l) j 0 t)
+      ∙ (ap (λ (z : List ℕ). get_or z j 0) P.firsts ∙ tab-at (first_of (slotKeys rows l)) (8 * l) j 0 t)
+
+  pub new-at : get_or w (42 * l + j) 0 ≡ j → isNew (slotKeys rows l) j ≡ true
+  new-at e = eq-eqb _ _ (sym first-at ∙ e)
+
+  pub old-at : (get_or w (42 * l + j) 0 ≡ j → ⊥) → isNew (slotKeys rows l) j ≡ false
+  old-at e = ne_eqb _ _ (λ q. e (first-at ∙ q))
