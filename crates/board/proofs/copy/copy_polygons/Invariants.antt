@@ -1,0 +1,29 @@
+-- What is left to store makes each row what it is to be.
+use Prim.Native.Nat.{ℕ, ◌≤◌, ◌-◌}
+use mathlib.Core.Path.{◌≡◌}
+use mathlib.Core.List.{List, map}
+use lib.IntN.{ℤ}
+use lib.Ieee.{Float}
+use lib.ListN.{length}
+use lib.Seq.{sets}
+use Rattle.record.specs.Board.{shapes}
+use Rattle.board.specs.Rows.{polygonRow, sheetOf, pointRow, rings}
+use Rattle.board.specs.Copying.{items_of, end_of}
+use Rattle.board.proofs.Shapes.{Left3}
+use Rattle.board.proofs.copy.copy_polygons.Given as goal
+
+abbrev pub ToStore : List ℕ → ℕ → ℕ → List (List ℕ) → List Float → List (List ℤ)
+    → ℕ → ℕ → ℕ → List (List ℕ) → List Float → List (List ℤ) → Type 0
+ToStore s from n polygons₀ sheets₀ points₀ i at first polygons sheets points =
+    let items = items_of (shapes s n from) in
+    Left3 s n (sets polygons₀ 0 (map polygonRow items)) (sets sheets₀ 0 (map sheetOf items))
+    (sets points₀ 0 (map pointRow (rings items))) (end_of (shapes s n from)) i at first polygons sheets points
+
+abbrev pub invariant-loop-i : goal.invariant-loop-i
+invariant-loop-i l =
+    (l.i ≤ l.n) × (length l.polygons ≡ length l.fn.polygons) × (length l.sheets ≡ length l.fn.sheets)
+    × (length l.points ≡ length l.fn.points)
+    × ToStore l.s l.start l.n l.fn.polygons l.fn.sheets l.fn.points l.i l.at l.first l.polygons l.sheets l.points
+
+abbrev pub decreases-loop-i : goal.decreases-loop-i
+decreases-loop-i l = l.n - l.i

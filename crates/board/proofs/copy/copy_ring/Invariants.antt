@@ -1,0 +1,29 @@
+-- What is left to store makes the row what it is to be.
+use Prim.Native.Nat.{ℕ, ◌≤◌, ◌+◌, ◌-◌}
+use mathlib.Core.Path.{◌≡◌}
+use mathlib.Core.List.{List, map}
+use lib.IntN.{ℤ}
+use lib.ListN.{length}
+use lib.Seq.{sets}
+use Rattle.record.specs.Fields.{Out}
+use Rattle.record.specs.Board.{Point, point, ring}
+use Rattle.board.specs.Rows.{pointRow}
+use Rattle.board.specs.Copying.{items_of, end_of}
+use Rattle.board.proofs.Copies.{Left}
+use Rattle.board.proofs.copy.copy_ring.Given as goal
+
+abbrev pub each : List ℕ → Unit {0} → ℕ → Out Point
+each s _ = point s
+
+abbrev pub ToStore : List ℕ → ℕ → ℕ → ℕ → List (List ℤ) → ℕ → ℕ → ℕ → List (List ℤ) → Type 0
+ToStore s from n first row₀ i j at row =
+    Left (each s) (λ _. tt) pointRow n (sets row₀ first (map pointRow (items_of (ring s n from))))
+    (end_of (ring s n from)) i j at row
+
+abbrev pub invariant-loop-i : goal.invariant-loop-i
+invariant-loop-i l =
+    (l.i ≤ l.n) × (length l.row ≡ length l.fn.row)
+    × ToStore l.s l.start l.n l.first l.fn.row l.i (l.first + l.i) l.at l.row
+
+abbrev pub decreases-loop-i : goal.decreases-loop-i
+decreases-loop-i l = l.n - l.i
