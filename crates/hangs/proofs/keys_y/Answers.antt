@@ -18,16 +18,14 @@ abbrev firsts : List ℤ → List ℕ → ℕ → ℕ → List ℕ
 firsts nodes corners l n = tab (first_of (keysX nodes corners l (4 * l + n))) (4 * l + n)
 
 first-is : (c : In-loop-i)
-    → get_or c.loop-i.work (2 * (4 * c.args.l + c.args.n) + c.loop-i.i) 0 ≡ get_or
-    (firsts c.args.nodes.now c.args.corners.now c.args.l c.args.n) c.loop-i.i 0
+    → get_or c.loop-i.work (2 * (4 * c.args.l + c.args.n) + c.loop-i.i) 0
+    ≡ get_or (firsts c.args.nodes.now c.args.corners.now c.args.l c.args.n) c.loop-i.i 0
 first-is c =
     let a = c.args in
     let t = c.loop-i-test.true in
     let r = c.requires.n_in_bounds in
-    let m = 4 * a.l + a.n in
     fill-above 0 _ 0 (4 * a.l + a.n) (keyY (firsts a.nodes.now a.corners.now a.l a.n) a.nodes.now a.corners.now a.l)
-    (omega arith) _ _ c.loop-i.invariant.1
-    c.loop-i.invariant.0 _ (omega arith)
+    (omega arith) _ _ c.loop-i.invariant.1 c.loop-i.invariant.0 _ (omega arith)
     ∙ answer_at _ (4 * a.l + a.n) (first_of (keysX a.nodes.now a.corners.now a.l (4 * a.l + a.n))) c.requires.n_value
     _ t
 

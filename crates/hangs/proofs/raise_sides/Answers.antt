@@ -10,8 +10,8 @@ use Rattle.hangs.proofs.raise_sides.Goals.{In-loop-i, then-m-j, else-m-j}
 use Rattle.hangs.proofs.raise_sides.Goals as goal
 
 answer : (c : In-loop-i)
-    → get_or c.loop-i.work (2 * (4 * c.args.l + c.args.n) + c.loop-i.i) 0 ≡ last_of
-    (placeKeys c.args.nodes.now c.args.corners.now c.args.l (4 * c.args.l + c.args.n)) c.loop-i.i
+    → get_or c.loop-i.work (2 * (4 * c.args.l + c.args.n) + c.loop-i.i) 0
+    ≡ last_of (placeKeys c.args.nodes.now c.args.corners.now c.args.l (4 * c.args.l + c.args.n)) c.loop-i.i
 answer c =
     let a = c.args in
     let r = c.requires in
@@ -19,8 +19,8 @@ answer c =
     (c.loop-i.invariant.1 []) c.loop-i-test.true r.n_value
 
 place : (c : In-loop-i) → 4 * c.args.l ≤ get_or c.loop-i.work (2 * (4 * c.args.l + c.args.n) + c.loop-i.i) 0
-    → 44 * c.args.l + 4 * c.args.l * (c.loop-i.i % 4) +
-    (get_or c.loop-i.work (2 * (4 * c.args.l + c.args.n) + c.loop-i.i) 0 - 4 * c.args.l) < 60 * c.args.l
+    → 44 * c.args.l + 4 * c.args.l * (c.loop-i.i % 4)
+    + (get_or c.loop-i.work (2 * (4 * c.args.l + c.args.n) + c.loop-i.i) 0 - 4 * c.args.l) < 60 * c.args.l
 place c h =
     let a = c.args in
     let r = c.requires in
@@ -36,27 +36,34 @@ loop-i-init c =
 pub overflow_add-at-then-m-j : goal.overflow_add-at-then-m-j
 overflow_add-at-then-m-j c =
     let p = c.requires.noded.most in
-    let y = place (goal.at.overflow_add-at-then-m-j c).In-loop-i c.if-m-j.true in omega arith
+    let y = place (goal.at.overflow_add-at-then-m-j c).In-loop-i c.if-m-j.true in
+    omega arith
 
 pub offset_bounds-work-at : goal.offset_bounds-work-at
 offset_bounds-work-at c =
     let p = c.requires.noded.most in
-    let y = place (goal.at.offset_bounds-work-at c).In-loop-i c.if-m-j.true in omega arith
+    let y = place (goal.at.offset_bounds-work-at c).In-loop-i c.if-m-j.true in
+    omega arith
 
 pub bounds-work-at : goal.bounds-work-at
 bounds-work-at c =
-    let y = place (goal.at.bounds-work-at c).In-loop-i c.if-m-j.true in let e = c.loop-i.auto.work in
-    let r = c.requires.l_in_bounds in omega arith
+    let y = place (goal.at.bounds-work-at c).In-loop-i c.if-m-j.true in
+    let e = c.loop-i.auto.work in
+    let r = c.requires.l_in_bounds in
+    omega arith
 
 pub offset_bounds-work-at-then-m-j : goal.offset_bounds-work-at-then-m-j
 offset_bounds-work-at-then-m-j c =
     let p = c.requires.noded.most in
-    let y = place (goal.at.offset_bounds-work-at-then-m-j c).In-loop-i c.if-m-j.true in omega arith
+    let y = place (goal.at.offset_bounds-work-at-then-m-j c).In-loop-i c.if-m-j.true in
+    omega arith
 
 pub bounds-work-at-then-m-j : goal.bounds-work-at-then-m-j
 bounds-work-at-then-m-j c =
-    let y = place (goal.at.bounds-work-at-then-m-j c).In-loop-i c.if-m-j.true in let e = c.loop-i.auto.work in
-    let r = c.requires.l_in_bounds in omega arith
+    let y = place (goal.at.bounds-work-at-then-m-j c).In-loop-i c.if-m-j.true in
+    let e = c.loop-i.auto.work in
+    let r = c.requires.l_in_bounds in
+    omega arith
 
 pub loop-i-preserved : goal.loop-i-preserved
 loop-i-preserved c =
