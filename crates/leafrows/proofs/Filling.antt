@@ -11,7 +11,7 @@ use lib.Seq.{sets, sets-eq, take-suc, take_all, length-take-le}
 use Rattle.table.specs.Slots.{cell_at}
 use Rattle.table.specs.Leaves.{orderIds}
 use Rattle.rows.specs.Parts.{put}
-use Rattle.rows.proofs.Parts.{length-put, put-at, put-above, put-again, put-nil, put-snoc, put-more}
+use Rattle.rows.proofs.Parts.{put-at, put-above, put-again, put-nil, put-snoc, put-more}
 use Rattle.net.specs.Net.{each}
 use Rattle.net.proofs.Board.{each-length}
 use Rattle.net.proofs.Pieces.{each_append, map-append}
@@ -69,12 +69,6 @@ module _ (t : List ℤ) (n : ℕ) where
 
       poly-fits : 0 + length (polysTo v) ≤ length w₀
       poly-fits = let h = F.below in omega (arith, polys-long v h)
-
-      pub filling-boxes : length b ≡ length b₀
-      filling-boxes = ap length F.boxes ∙ length-put b₀ 0 (boxesTo v) box-fits
-
-      pub filling-work : length w ≡ length w₀
-      filling-work = ap length F.polys ∙ length-put w₀ 0 (polysTo v) poly-fits
 
       -- the ids that are still to come stand there
       pub filling-id : (u : List ℕ) → w₀ ≡ sets u 0 ids → length ids ≤ length u → v < length ids → get_or w v 0 ≡ get_or ids v 0
