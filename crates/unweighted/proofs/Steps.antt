@@ -8,13 +8,12 @@ use lib.IntN.{ℤ}
 use lib.Ieee.{Float}
 use lib.Seq.{length-take-le, get_or-take, ext_get_or}
 use Rattle.refusals.specs.Limits.{maxPolygons}
-use Rattle.rows.specs.Parts.{part, put, tab}
+use Rattle.rows.specs.Parts.{part, tab}
 use Rattle.rows.specs.Contract.{Small}
 use Rattle.rows.proofs.Parts.{length_part, part_at}
-use Rattle.net.specs.Net.{each}
-use Rattle.net.specs.First.{key, first_of, rank, news, numberBy}
+use Rattle.net.specs.First.{key, first_of, rank, numberBy}
 use Rattle.net.proofs.Weld.{rank_below, first-new, first-at-most}
-use Rattle.places.specs.Places.{placeKeys, nodeNums, node_of, Laid, Numbered}
+use Rattle.places.specs.Places.{placeKeys}
 use Rattle.places.proofs.Places.{keys-long}
 use Rattle.places.proofs.Numbered.{tab-small}
 use Rattle.places.proofs.Writing.{rank-le}
@@ -32,27 +31,6 @@ part-take d w n a m h k =
 -- the number of one of the first n is below their count
 pub number-low : (ks : List ℕ) (n i : ℕ) → n ≤ length ks → i < n → numberBy ks i < rank ks n
 number-low ks n i h k = let f = first-at-most ks i in rank_below ks (first_of ks i) n (first-new ks (key ks i) (omega arith)) (omega arith)
-
--- ---- once the places are numbered
-
-module _ (lay cmp bs w₀ w : List ℕ) (l r : ℕ) (L : Laid bs w₀ l) (N : Numbered (placeKeys lay cmp (part w₀ 0 l) bs l) (part w₀ 0 l) w l r) (long : length w ≡ length w₀) where
-  -- what `write_nodes` requires
-  pub nodes-require : (n : ℕ) → Small n (part w₀ 0 l) → Laid bs w l × (Small n (part w 0 l) × (part w (18 * l) (4 * l) ≡ tab (numberBy (placeKeys lay cmp (part w 0 l) bs l)) (4 * l)))
-  nodes-require n s =
-      let e = L.room in (
-        record { boxes = L.boxes; low = L.low; few = L.few; room = omega arith },
-        (subst (Small n) (sym N.kept) s, N.numbers ∙ ap (λ (z : List ℕ). tab (numberBy (placeKeys lay cmp z bs l)) (4 * l)) (sym N.kept)),
-      )
-
-  -- and what it leaves
-  pub placed : (c : ℕ) (n₀ n : List ℤ)
-      → (c ≡ rank (placeKeys lay cmp (part w 0 l) bs l) (4 * l)) × (n ≡ put n₀ 0 (each (λ i. nodeNums (node_of lay cmp (part w 0 l) bs l i)) (news (placeKeys lay cmp (part w 0 l) bs l) (4 * l))))
-      → Placed lay cmp bs w₀ w l c n₀ n
-  placed c n₀ n e =
-      record {
-        numbered = record { count = e.0 ∙ ap (λ (z : List ℕ). rank (placeKeys lay cmp z bs l) (4 * l)) N.kept; kept = N.kept; numbers = N.numbers; middles = N.middles };
-        row = e.1 ∙ ap (λ (z : List ℕ). put n₀ 0 (each (λ i. nodeNums (node_of lay cmp z bs l i)) (news (placeKeys lay cmp z bs l) (4 * l)))) N.kept;
-      }
 
 -- ---- as `write_net` goes
 
@@ -99,9 +77,6 @@ module _ {lay cmp : List ℕ} {sheets : List Float} {bs w₀ w : List ℕ} {l r 
 
     pub front-slotted : Slotted rows l
     front-slotted = subst (λ (z : List ℕ). Slotted z l) (sym D.kept) slotted
-
-    pub front-parted : Parted rows w₂ l
-    front-parted = subst (λ (z : List ℕ). Parted z w₂ l) (sym D.kept) D
 
     pub front-polys : polysIn rows l ≡ part w₀ 0 l
     front-polys = ap (λ (z : List ℕ). polysIn z l) D.kept ∙ polys-in
