@@ -236,9 +236,6 @@ module _ (ls cs bs w₀ : List ℕ) (l : ℕ) (L : Laid bs w₀ l) (few : length
     x-are : w₂ ≡ put w₁ (l + l) (tab fx (8 * l))
     x-are = e₂ ∙ ap (λ (z : List ℕ). put w₁ (l + l) (tab (keyX z bs (4 * l)) (8 * l))) (classes₁ ls cs bs w₀ l L few P w₁ e₁)
 
-    pub x-room : 26 * l ≤ length w₂
-    x-room = block_room ls cs bs w₀ l L few P fx w₁ S₁ w₂ x-are
-
     pub x-sorts : (length (take (26 * l - (l + l)) (drop (l + l) w₂)) ≡ 3 * (8 * l)) × Small (2 ^ 46) (take (8 * l) (take (26 * l - (l + l)) (drop (l + l) w₂)))
     x-sorts = (block_size ls cs bs w₀ l L few P fx w₁ S₁ w₂ x-are, block-small ls cs bs w₀ l L few P fx w₁ S₁ w₂ x-are (2 ^ 46) (keys-x-small ls cs bs w₀ l L few P))
 
@@ -268,9 +265,6 @@ module _ (ls cs bs w₀ : List ℕ) (l : ℕ) (L : Laid bs w₀ l) (few : length
         y-are : w₄ ≡ put w₃ (l + l) (tab fy (8 * l))
         y-are = e₄ ∙ ap (λ (z : List ℕ). put w₃ (l + l) (tab (keyY z bs (4 * l)) (8 * l))) (firsts-there ls cs bs w₀ l L few P fx w₁ S₁ w₂ x-are last₃ is₃)
 
-        pub y-room : 26 * l ≤ length w₄
-        y-room = block_room ls cs bs w₀ l L few P fy w₃ S₃ w₄ y-are
-
         pub y-sorts : (length (take (26 * l - (l + l)) (drop (l + l) w₄)) ≡ 3 * (8 * l)) × Small (2 ^ 55) (take (8 * l) (take (26 * l - (l + l)) (drop (l + l) w₄)))
         y-sorts = (block_size ls cs bs w₀ l L few P fy w₃ S₃ w₄ y-are, block-small ls cs bs w₀ l L few P fy w₃ S₃ w₄ y-are (2 ^ 55) y-small)
 
@@ -288,17 +282,11 @@ module _ (ls cs bs w₀ : List ℕ) (l : ℕ) (L : Laid bs w₀ l) (few : length
           F₅ : part w₅ (18 * l) (8 * l) ≡ tab (first_of ks) (8 * l)
           F₅ = firsts-there ls cs bs w₀ l L few P fy w₃ S₃ w₄ y-are last₅ is₅
 
-          pub corner-room : 26 * l ≤ length w₅
-          corner-room = let n = S₅.long in let r = L.room in omega arith
-
           pub corner-requires : Firsts (take (22 * l - 18 * l) (drop (18 * l) w₅))
           corner-requires = corners-firsts w₀ w₅ ks l S₅ L.room (length-tab fy (8 * l)) F₅
 
           module _ (r : ℕ) (last₆ : List ℕ) (count : r ≡ rankIn (take (22 * l - 18 * l) (drop (18 * l) w₅)) (length (take (22 * l - 18 * l) (drop (18 * l) w₅))))
               (is₆ : last₆ ≡ tab (number_in (take (22 * l - 18 * l) (drop (18 * l) w₅))) (length (take (22 * l - 18 * l) (drop (18 * l) w₅)))) where
-            pub done-long : length (put_mid (18 * l) (22 * l - 18 * l) w₅ last₆) ≡ length w₀
-            done-long = numbered-long w₀ w₅ ks l S₅ L.room (length-tab fy (8 * l)) F₅ r last₆ count is₆
-
             pub all-numbered : Numbered (placeKeys ls cs (part w₀ 0 l) bs l) (part w₀ 0 l) (put_mid (18 * l) (22 * l - 18 * l) w₅ last₆) l r
             unfolding placeKeys keysX
             all-numbered = numbered w₀ w₅ ks l S₅ L.room (length-tab fy (8 * l)) F₅ r last₆ count is₆
