@@ -5,11 +5,11 @@ use mathlib.Core.Logic.{inl, ⊎_elim}
 use mathlib.Core.List.{List, [], ◌∷◌, ◌++◌}
 use Prim.Native.Nat.{ℕ, ◌+◌, ◌*◌, ◌-◌, ◌/◌, ◌%◌, ◌^◌, ◌<◌, ◌≤◌, min, max}
 use native.Mathlib.Omega.{arith}
-use native.Mathlib.Nat.{add-zero}
+use native.Mathlib.Nat.{add-zero, zero-add}
 use borrow.Rule.Slice.PartMut.{put_mid}
 use lib.Dec.{eqb}
 use lib.ListN.{length, get_or, take, drop, set, length-drop, get_or-eq_default}
-use lib.Seq.{length-take-le, take-take}
+use lib.Seq.{length-take-le, take-take, drop-drop}
 use Rattle.refusals.specs.Limits.{maxPolygons}
 use Rattle.rows.specs.Order as Rows
 use Rattle.rows.specs.Parts.{part, put, tab}
@@ -115,6 +115,19 @@ put_one {A} w a v h = ap (λ (z : List A). set z a v) (sym (put-nil w a)) ∙ (a
 
 pub put_two : {A : Type 0} (w : List A) (a : ℕ) (p q : A) → a + 2 ≤ length w → set (set w a p) (a + 1) q ≡ put w a (p ∷ q ∷ [])
 put_two {A} w a p q h = ap (λ (z : List A). set z (a + 1) q) (put_one w a p (omega arith)) ∙ put-snoc w a (p ∷ []) q p (omega arith)
+
+-- a row in two, where the back was filled from its front, and one into whose front a list was copied
+pub back-filled : {A : Type 0} (w : List A) (a : ℕ) (front back last : List A) (f : List A → List A)
+    → front ≡ take a w → back ≡ drop a w → last ≡ put back 0 (f front) → front ++ last ≡ put w a (f (take a w))
+unfolding put
+back-filled {A} w a front back last f p q e =
+    let l = f (take a w) in
+    ap (λ (z : List A). front ++ z) e
+    ∙ ((λ i. p i ++ put (q i) 0 (f (p i))) ∙ ap (λ (z : List A). take a w ++ (l ++ z)) (drop-drop (0 + length l) a w ∙ ap (λ (k : ℕ). drop (a + k) w) (zero-add (length l))))
+
+pub front-copied : {A : Type 0} (w l : List A) (n : ℕ) → length l ≡ n → l ++ drop n w ≡ put w 0 l
+unfolding put
+front-copied {A} w l n h = ap (λ (k : ℕ). l ++ drop k w) (sym h ∙ sym (zero-add (length l)))
 
 -- of the sorted slots those are new that are their own first
 module _ (rows w : List ℕ) (l : ℕ) (P : Parted rows w l) (j : ℕ) (t : j < 8 * l) where

@@ -6,7 +6,7 @@ ghost use Rattle.net.specs.Net.{each};
 ghost use Rattle.net.specs.First.{rank, news};
 ghost use Rattle.bare.specs.Slots.{Slotted, Parted, Upright, slotKeys, endsOf, resistance, slotG, polysIn};
 
-use crate::slots::{hit_at, slot_end};
+use crate::slots::{hit_at, polygon, slot_end};
 
 // The resistance of side q of a leaf that is w wide and h high. Each operation is rounded once.
 fn resistance_of(sheet: f64, w: u64, h: u64, q: usize) -> f64
@@ -14,12 +14,14 @@ fn resistance_of(sheet: f64, w: u64, h: u64, q: usize) -> f64
     ensures { result ≡ resistance sheet w h q }
 {
     if q < 2 {
-        return sheet * (w as f64) / (h as f64);
+        sheet * (w as f64) / (h as f64)
+    } else {
+        sheet * (h as f64) / (w as f64)
     }
-    sheet * (h as f64) / (w as f64)
 }
 
 // The conductance of slot j.
+#[tactic(auto, unfolding(crate::specs::Slots::slotG))]
 fn slot_g(sheets: &[f64], boxes: &[u64], rows: &[u64], l: usize, j: usize) -> f64
     requires upright { Upright boxes.now l }
     requires slotted { Slotted rows.now l }
@@ -32,14 +34,16 @@ fn slot_g(sheets: &[f64], boxes: &[u64], rows: &[u64], l: usize, j: usize) -> f6
     let b = 4 * v;
     let w = boxes[b + 2] - boxes[b];
     let h = boxes[b + 3] - boxes[b + 1];
-    let k = rows[v] as usize;
+    let k = polygon(rows, l, v) as usize;
     let r = resistance_of(sheets[k], w, h, q);
     if hit_at(rows, l, v, q) {
-        return 1.0 / (r * 0.5);
+        1.0 / (r * 0.5)
+    } else {
+        1.0 / r
     }
-    1.0 / r
 }
 
+#[tactic(auto, using(crate::proofs::Parted::put_two))]
 fn put_pair(ends: &mut [u64], at: usize, a: u64, b: u64)
     requires { at + 2 ≤ length ends.old }
     ensures { ends.new ≡ put ends.old at (a ∷ b ∷ []) }
@@ -55,21 +59,15 @@ pub fn write_ends(rows: &[u64], work: &[u64], l: usize, ends: &mut [u64]) -> usi
     requires l_in_bounds { 16 * l ≤ length ends.old }
     ensures { (result ≡ rank (slotKeys rows.now l) (8 * l)) × (ends.new ≡ put ends.old 0 (each (endsOf rows.now l) (news (slotKeys rows.now l) (8 * l)))) }
 {
-    let n = 8 * l;
     let from = 42 * l;
     let mut c: usize = 0;
-    let mut j = 0;
-    while j < n {
+    for j in 0..8 * l {
         if work[from + j] == j as u64 {
-            put_pair(
-                ends,
-                2 * c,
-                slot_end(rows, l, j, 0),
-                slot_end(rows, l, j, 1),
-            );
+            let a = slot_end(rows, l, j, 0);
+            let b = slot_end(rows, l, j, 1);
+            put_pair(ends, 2 * c, a, b);
             c += 1;
         }
-        j += 1;
     }
     c
 }
@@ -90,16 +88,13 @@ pub fn write_conductances(
     requires l_in_bounds { 8 * l ≤ length g.old }
     ensures { (result ≡ rank (slotKeys rows.now l) (8 * l)) × (g.new ≡ put g.old 0 (each (λ j. slotG sheets.now boxes.now rows.now l j ∷ []) (news (slotKeys rows.now l) (8 * l)))) }
 {
-    let n = 8 * l;
     let from = 42 * l;
     let mut c: usize = 0;
-    let mut j = 0;
-    while j < n {
+    for j in 0..8 * l {
         if work[from + j] == j as u64 {
             g[c] = slot_g(sheets, boxes, rows, l, j);
             c += 1;
         }
-        j += 1;
     }
     c
 }

@@ -1,4 +1,5 @@
-// The net before the weights: the edges and the cells, by rows. build_network and emit_edge of the Rust, with one sort in place of every map.
+// The net before the weights: the edges and the cells, by rows. build_network and emit_edge of the Rust, with one sort
+// in place of every map.
 #![tactic(auto)]
 
 pub mod cells;

@@ -1,44 +1,71 @@
-// The parts of the leaves' sides: a side in halves where a node so far stands at its middle, and the whole side twice where none does.
-ghost use Rattle.std.specs.Prelude.{◌≡◌, ◌+◌, ◌*◌, ◌/◌, ◌%◌, ◌<◌, ◌≤◌, length, take};
+// The parts of the leaves' sides: a side in halves where a node so far stands at its middle, and the whole side twice
+// where none does.
+ghost use Rattle.std.specs.Prelude.{◌≡◌, ◌+◌, ◌*◌, ◌/◌, ◌%◌, ◌<◌, ◌≤◌, length, take, get_or, ℕ};
+ghost use Rattle.refusals.specs.Limits.{maxPolygons};
+ghost use Rattle.rows.specs.Contract.{Small};
 ghost use Rattle.rows.specs.Parts.{put, tab};
-ghost use Rattle.bare.specs.Slots.{many, corner, hitAt, slotEnd, slotKey, Slotted, polysIn, numsIn, midsIn, Parted};
+ghost use Rattle.bare.specs.Slots.{many, corner, middle, hitAt, slotEnd, slotKey, Slotted, polysIn, numsIn, midsIn, Parted};
+
+// More than any node's number.
+const MANY: u64 = 1 << 16;
 
 fn corner_of(q: usize, e: usize) -> usize
     requires { (q < 4) × (e < 2) }
     ensures { (result ≡ corner q e) × (result < 4) }
 {
-    if e == 0 {
-        if q == 1 {
-            return 3;
-        }
-        if q == 3 {
-            return 1;
-        }
-        return 0;
+    match (q, e) {
+        (0 | 2, 0) => 0,
+        (3, 0) | (0, 1) => 1,
+        (1 | 3, 1) => 2,
+        _ => 3,
     }
-    if q == 0 {
-        return 1;
-    }
-    if q == 2 {
-        return 3;
-    }
-    2
+}
+
+// The polygon of leaf v.
+pub(crate) fn polygon(rows: &[u64], l: usize, v: usize) -> u64
+    requires slotted { Slotted rows.now l }
+    requires v_lt_l { v < l }
+    ensures value { result ≡ get_or (polysIn rows.now l) v 0 }
+    ensures low { result < maxPolygons }
+    ensures in_bounds { (n : ℕ) → Small n (polysIn rows.now l) → result < n }
+{
+    rows[v]
+}
+
+// The number of corner i.
+#[tactic(auto, using(crate::proofs::Halves::num_at, crate::proofs::Halves::num_low))]
+fn number(rows: &[u64], l: usize, i: usize) -> u64
+    requires slotted { Slotted rows.now l }
+    requires i_lt { i < 4 * l }
+    ensures value { result ≡ get_or (numsIn rows.now l) i 0 }
+    ensures low { result < many }
+{
+    rows[18 * l + i]
+}
+
+// The first place of the middle of side q of leaf v.
+#[tactic(auto, using(crate::proofs::Halves::middle_at))]
+fn middle_of(rows: &[u64], l: usize, v: usize, q: usize) -> usize
+    requires slotted { Slotted rows.now l }
+    requires v_lt_l { (v < l) × (q < 4) }
+    ensures { result ≡ middle (midsIn rows.now l) v q }
+{
+    rows[22 * l + (4 * v + q)] as usize
 }
 
 // Whether a node so far stands at the middle of side q of leaf v.
+#[tactic(auto, unfolding(crate::specs::Slots::hitAt))]
 pub fn hit_at(rows: &[u64], l: usize, v: usize, q: usize) -> bool
     requires slotted { Slotted rows.now l }
     requires v_lt_l { (v < l) × (q < 4) }
     ensures { result ≡ hitAt (polysIn rows.now l) (midsIn rows.now l) l v q }
 {
-    let f = rows[22 * l + 4 * v + q] as usize;
-    if 4 * l <= f {
-        return false;
-    }
-    rows[f / 4] <= rows[v]
+    let f = middle_of(rows, l, v, q);
+    f < 4 * l && polygon(rows, l, f / 4) <= polygon(rows, l, v)
 }
 
 // End e of slot j.
+#[tactic(auto, unfolding(crate::specs::Slots::slotEnd, crate::specs::Slots::hitAt))]
 pub fn slot_end(rows: &[u64], l: usize, j: usize, e: usize) -> u64
     requires slotted { Slotted rows.now l }
     requires j_bound { (j < 8 * l) × (e < 2) }
@@ -46,28 +73,24 @@ pub fn slot_end(rows: &[u64], l: usize, j: usize, e: usize) -> u64
 {
     let v = j / 8;
     let q = j % 8 / 2;
-    if j % 2 != e {
-        if hit_at(rows, l, v, q) {
-            let f = rows[22 * l + 4 * v + q] as usize;
-            return rows[18 * l + f];
-        }
+    if j % 2 != e && hit_at(rows, l, v, q) {
+        number(rows, l, middle_of(rows, l, v, q))
+    } else {
+        number(rows, l, 4 * v + corner_of(q, e))
     }
-    rows[18 * l + 4 * v + corner_of(q, e)]
 }
 
 // The key of slot j.
+#[tactic(auto, unfolding(crate::specs::Slots::slotKey))]
 fn slot_key(rows: &[u64], l: usize, j: usize) -> u64
     requires slotted { Slotted rows.now l }
     requires j_bound { j < 8 * l }
     ensures { result ≡ slotKey (polysIn rows.now l) (numsIn rows.now l) (midsIn rows.now l) l j }
 {
-    let k = rows[j / 8];
+    let k = polygon(rows, l, j / 8);
     let a = slot_end(rows, l, j, 0);
     let b = slot_end(rows, l, j, 1);
-    if a < b {
-        return (k * 65536 + a) * 65536 + b;
-    }
-    (k * 65536 + b) * 65536 + a
+    (k * MANY + a.min(b)) * MANY + a.max(b)
 }
 
 // The keys of the slots behind the rows.
@@ -76,13 +99,9 @@ fn part_keys(work: &mut [u64], l: usize)
     requires slotted { Slotted (take (26 * l) work.old) l }
     ensures { work.new ≡ put work.old (26 * l) (tab (slotKey (polysIn (take (26 * l) work.old) l) (numsIn (take (26 * l) work.old) l) (midsIn (take (26 * l) work.old) l) l) (8 * l)) }
 {
-    let e = 26 * l;
-    let n = 8 * l;
-    let mut j = 0;
-    while j < n {
-        let k = slot_key(&work[..e], l, j);
-        work[e + j] = k;
-        j += 1;
+    let (rows, keys) = work.split_at_mut(26 * l);
+    for j in 0..8 * l {
+        keys[j] = slot_key(rows, l, j);
     }
 }
 

@@ -9,12 +9,13 @@ use mathlib.Core.List.{List}
 use native.Mathlib.Omega.{arith}
 use lib.Dec.{leb, eqb}
 use lib.ListN.{length}
+use Rattle.std.specs.Prelude.{Result, Ok, Err}
 use Rattle.refusals.specs.declared.Refusal.{Refusal}
 use Rattle.refusals.specs.declared.Refusal.TheVariants.{WrongVersion, WrongLength, OutOfRange, NoRoom}
 use Rattle.refusals.specs.Limits.{maxLevel, maxCap, maxCell, maxLayers, maxPolygons}
 use Rattle.record.specs.declared.Settings.{Settings}
 use Rattle.record.specs.declared.Counts.{Counts}
-use Rattle.record.specs.declared.check.Read.TheVariants.{Done, Refused}
+use Rattle.record.specs.declared.check.Read.{Read}
 use Rattle.record.specs.Fields.{Out, value, stop, field, ranged}
 use Rattle.record.specs.Board.{asDefault, defaultLevel, Entry, entry, entries, layerList, polygon, shapes, polygonList, ids, splitList, level, settings, lists, Board, board, points_of}
 use Rattle.record.specs.Answers.{countsOf, checked}
@@ -87,18 +88,16 @@ parts s b {e} p =
 
 -- ---- what the check answered
 
-pub accepted-board : (o : Out Board) {g : Settings} {n : Counts} → Done g n ≡ checked o → (b : Board) × (e : ℕ) × (o ≡ value b e) × (g ≡ b.settings) × (n ≡ countsOf b)
-accepted-board (value b e) p = (b, e, refl, cc, cc)
-accepted-board (stop x) p = absurd (never p)
-  where
-    never : {g : Settings} {n : Counts} {x : Refusal} → Done g n ≡ Refused x → ⊥
-    never p = let z : ◌≡◌ {A = ℕ} 0 1 = cc in omega arith
+ok≢err : {A B : Type 0} {a : A} {b : B} → ◌≡◌ {A = Result A B} (Ok a) (Err b) → ⊥
+ok≢err p = let z : ◌≡◌ {A = ℕ} 0 1 = cc in omega arith
 
-pub refused-board : (o : Out Board) {x : Refusal} → Refused x ≡ checked o → o ≡ stop x
-refused-board (value b e) p = absurd (never p)
-  where
-    never : {g : Settings} {n : Counts} {x : Refusal} → Refused x ≡ Done g n → ⊥
-    never p = let z : ◌≡◌ {A = ℕ} 0 1 = cc in omega arith
+pub accepted-board : (o : Out Board) {r : Read} → Ok r ≡ checked o
+    → (b : Board) × (e : ℕ) × (o ≡ value b e) × (r.settings ≡ b.settings) × (r.counts ≡ countsOf b)
+accepted-board (value b e) p = (b, e, refl, cc, cc)
+accepted-board (stop x) p = absurd (ok≢err p)
+
+pub refused-board : (o : Out Board) {x : Refusal} → Err x ≡ checked o → o ≡ stop x
+refused-board (value b e) p = absurd (ok≢err (sym p))
 refused-board (stop y) p = cc
 
 -- ---- what reading comes to
@@ -143,8 +142,9 @@ pub record Plan (s : List ℕ) (rows : Rows) (g : Settings) (n : Counts) : Type 
   pub fit-points : points_of whole.polygons ≤ length rows.points
   pub fit-splits : n.splits ≤ length rows.splits
 
-pub plan : (s : List ℕ) (rows : Rows) {g : Settings} {n : Counts} → Done g n ≡ checked (board s) → hasRoom rows n ≡ true → Plan s rows g n
-plan s rows {g} {n} p h =
+pub plan : (s : List ℕ) (rows : Rows) {r : Read} → Ok r ≡ checked (board s) → hasRoom rows r.counts ≡ true → Plan s rows r.settings r.counts
+plan s rows {r} p h =
+    let n = r.counts in
     let a = accepted-board (board s) p in
     let m = parts s a.0 a.2 in
     let f = and_both (leb n.layers (length rows.layers) && leb n.polygons (length rows.polygons)) _ h in

@@ -11,7 +11,8 @@ use lib.ListN.{length, set, length-map}
 use lib.Seq.{sets, length-sets}
 use Rattle.record.specs.Fields.{value, bigEndian}
 use Rattle.record.specs.Board.{Polygon, polygon, point, ring, shapes, pointsIn, points_of}
-use Rattle.record.proofs.Walks.{several-view, several-end, several-length}
+use Rattle.record.proofs.Walks.{several-view, several-length}
+use Rattle.record.proofs.Each as Each
 use Rattle.record.proofs.Items.{Made, polygon-made}
 use Rattle.board.specs.Rows.{polygonRow, sheetOf, pointRow, rings}
 use Rattle.board.specs.Copying.{Sound, items_of, end_of}
@@ -101,7 +102,7 @@ module _ (s : List ℕ) (n : ℕ) (ps : List (List ℕ)) (rs : List Float) (qs :
       → (at ≡ end) × (polygons ≡ ps) × (sheets ≡ rs) × (points ≡ qs)
   unfolding rings
   done3 i at first polygons sheets points h l =
-      let q : value [] at ≡ value l.rest end = sym (several-end (polygon s) n i at h) ∙ l.is in
+      let q : value [] at ≡ value l.rest end = sym (Each.done (polygon s) n i at h) ∙ l.is in
       let r : [] ≡ l.rest = cc in (
         cc,
         ap (λ xs. sets polygons i (map polygonRow xs)) r ∙ l.then-polygons,

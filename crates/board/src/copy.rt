@@ -1,8 +1,10 @@
 // The second walk: a record that the first one found sound is copied to rows. All of this is internal.
 ghost use Rattle.std.specs.Prelude.{◌≡◌, [], ◌∷◌, map, ◌+◌, ◌≤◌, ◌<◌, length, set};
+ghost use Rattle.std.specs.Int.{w64};
 ghost use Rattle.std.specs.Float.{binary64};
 ghost use Rattle.std.specs.Float.Ieee.{of_bits};
 ghost use Rattle.record.specs.Fields.{bigEndian};
+ghost use Rattle.std.proofs.Common.{to_z};
 ghost use Rattle.std.proofs.lemmas.List.Edits.{sets};
 ghost use Rattle.record.specs.Board.{entries, ring, shapes, ids, sheetLow, sheetHigh, points_of};
 ghost use Rattle.board.specs.Rows.{entryRow, polygonRow, sheetOf, pointRow, rings};
@@ -16,13 +18,19 @@ pub fn copy_splits(s: &[u8], start: usize, n: usize, row: &mut [u64]) -> usize
     ensures { (result ≡ end_of (ids s.now n start)) × (row.new ≡ sets row.old 0 (items_of (ids s.now n start))) }
 {
     let mut at = start;
-    let mut i: usize = 0;
-    while i < n {
+    for i in 0..n {
         row[i] = number(s, at, 4);
         at += 4;
-        i += 1;
     }
     at
+}
+
+// The entry at `at`: layer, cell.
+fn entry_at(s: &[u8], at: usize) -> [u64; 2]
+    requires { at + 10 ≤ length s.now }
+    ensures { result ≡ bigEndian 2 s.now at ∷ bigEndian 8 s.now (at + 2) ∷ [] }
+{
+    [number(s, at, 2), number(s, at + 2, 8)]
 }
 
 pub fn copy_layers(s: &[u8], start: usize, n: usize, row: &mut [[u64; 2]]) -> usize
@@ -31,13 +39,19 @@ pub fn copy_layers(s: &[u8], start: usize, n: usize, row: &mut [[u64; 2]]) -> us
     ensures { (result ≡ end_of (entries s.now n start)) × (row.new ≡ sets row.old 0 (map entryRow (items_of (entries s.now n start)))) }
 {
     let mut at = start;
-    let mut i: usize = 0;
-    while i < n {
-        row[i] = [number(s, at, 2), number(s, at + 2, 8)];
+    for i in 0..n {
+        row[i] = entry_at(s, at);
         at += 10;
-        i += 1;
     }
     at
+}
+
+// The point at `at`: x, y.
+fn point_at(s: &[u8], at: usize) -> [i64; 2]
+    requires { at + 16 ≤ length s.now }
+    ensures { result ≡ to_z w64 (bigEndian 8 s.now at) ∷ to_z w64 (bigEndian 8 s.now (at + 8)) ∷ [] }
+{
+    [ticks(number(s, at, 8)), ticks(number(s, at + 8, 8))]
 }
 
 pub fn copy_ring(s: &[u8], start: usize, n: usize, row: &mut [[i64; 2]], first: usize) -> usize
@@ -46,11 +60,9 @@ pub fn copy_ring(s: &[u8], start: usize, n: usize, row: &mut [[i64; 2]], first: 
     ensures { (result ≡ end_of (ring s.now n start)) × (row.new ≡ sets row.old first (map pointRow (items_of (ring s.now n start)))) }
 {
     let mut at = start;
-    let mut i: usize = 0;
-    while i < n {
-        row[first + i] = [ticks(number(s, at, 8)), ticks(number(s, at + 8, 8))];
+    for i in 0..n {
+        row[first + i] = point_at(s, at);
         at += 16;
-        i += 1;
     }
     at
 }
@@ -88,12 +100,10 @@ pub fn copy_polygons(
 {
     let mut at = start;
     let mut first: usize = 0;
-    let mut i: usize = 0;
-    while i < n {
+    for i in 0..n {
         let count = copy_head(s, at, i, polygons, sheets);
         at = copy_ring(s, at + 16, count, points, first);
         first += count;
-        i += 1;
     }
     at
 }

@@ -22,22 +22,20 @@ pub fn read(
     sheets: &mut [f64],
     points: &mut [[i64; 2]],
     splits: &mut [u64],
-) -> Read
+) -> Result<Read, Refusal>
     ensures result_value { readSaid result ≡ readSays s.now (rows_of layers.old polygons.old sheets.old points.old splits.old) }
     ensures splits_after { rows_of layers.new polygons.new sheets.new points.new splits.new ≡ readLeaves s.now (rows_of layers.old polygons.old sheets.old points.old splits.old) }
 {
-    let answer = check(s);
-    let Read::Done(settings, counts) = answer else {
-        return answer;
-    };
+    let answer = check(s)?;
+    let counts = answer.counts;
     let room = ((counts.layers <= layers.len()) & (counts.polygons <= polygons.len()))
         & ((counts.polygons <= sheets.len())
             & ((counts.points <= points.len()) & (counts.splits <= splits.len())));
     if !room {
-        return Read::Refused(Refusal::NoRoom);
+        return Err(Refusal::NoRoom);
     }
     let at = copy::copy_layers(s, 18, counts.layers, layers);
     let next = copy::copy_polygons(s, at + 2, counts.polygons, polygons, sheets, points);
     copy::copy_splits(s, next + 2, counts.splits, splits);
-    answer
+    Ok(answer)
 }

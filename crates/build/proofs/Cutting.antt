@@ -1,12 +1,10 @@
 -- Strips cut into cells: bounds on the numbers. Assumes nothing.
-use Prim.Native.Nat.{ℕ, ◌+◌, ◌-◌, ◌*◌, ◌/◌, ◌%◌, ◌^◌, ◌<◌, ◌≤◌}
-use mathlib.Core.Path.{◌≡◌, refl, ◌∙◌}
+use Prim.Native.Nat.{ℕ, ◌+◌, ◌-◌, ◌*◌, ◌/◌, ◌<◌, ◌≤◌}
+use mathlib.Core.Path.{◌≡◌, refl}
 use mathlib.Core.List.{List, []}
 use native.Mathlib.Omega.{arith}
 use native.Mathlib.Nat.{mul-le-mul, mul-pos, mul-le-mul_left, div-mul-le_self, one-mul}
 use native.Mathlib.Numerals.{add-one}
-use lib.Pow.{shl_exact}
-use lib.Dec.{lit<}
 use lib.ListN.{length, drop, get_or, drop_of_length-le}
 use lib.Seq.{drop-cons}
 use Rattle.refusals.specs.Limits.{maxCap}
@@ -31,16 +29,6 @@ cuts cap c s z =
       y-fits = held_fits cap c (s.y1 - s.y0) z;
     }
 
--- a product of two bounded numbers
-pub product-fits : (a b m n : ℕ) → a ≤ m → b ≤ n → a * b ≤ m * n
-product-fits a b m n p q = mul-le-mul p q
-
-pub product-some : (a b : ℕ) → 1 ≤ a → 1 ≤ b → 1 ≤ a * b
-product-some a b p q = mul-pos p q
-
-pub one_shifted : (l : ℕ) → l < 64 → (1 * 2 ^ l) % 2 ^ 64 ≡ 2 ^ l
-one_shifted l h = shl_exact {a = 1} 1 l 64 (lit< tt) (omega arith) ∙ one-mul (2 ^ l)
-
 -- the part of a length that i of n equal pieces make
 pub pieces : (w n i : ℕ) → i ≤ n → w / n * i ≤ w
 pieces w n i h = native.Mathlib.Nat.le_trans (mul-le-mul_left (w / n) h) (div-mul-le_self w n)
@@ -50,10 +38,10 @@ pub listed_here : (l : List (List ℕ)) (i layer : ℕ) → i < length l → get
 unfolding listed_at
 listed_here l i layer h e = rw (drop-cons l i [] h, e, borrow.Author.Tests.eq-eqb layer layer refl) refl
 
-pub listed-on : (l : List (List ℕ)) (i layer : ℕ) → i < length l → (get_or (get_or l i []) 0 0 ≡ layer → ⊥) → listed_at (drop (i + 1) l) layer ≡ listed_at (drop i l) layer
+pub listed_on : (l : List (List ℕ)) (i layer : ℕ) → i < length l → (get_or (get_or l i []) 0 0 ≡ layer → ⊥) → listed_at (drop (i + 1) l) layer ≡ listed_at (drop i l) layer
 unfolding listed_at
-listed-on l i layer h n = rw (add-one i, drop-cons l i [] h, borrow.Author.Tests.ne_eqb _ _ n) refl
+listed_on l i layer h n = rw (add-one i, drop-cons l i [] h, borrow.Author.Tests.ne_eqb _ _ n) refl
 
-pub listed-end : (l : List (List ℕ)) (i layer : ℕ) → length l ≤ i → listed_at (drop i l) layer ≡ 0
+pub listed_end : (l : List (List ℕ)) (i layer : ℕ) → length l ≤ i → listed_at (drop i l) layer ≡ 0
 unfolding listed_at
-listed-end l i layer h = rw (drop_of_length-le l {i = i} h) refl
+listed_end l i layer h = rw (drop_of_length-le l {i = i} h) refl

@@ -1,7 +1,7 @@
 -- The rows of a board: point counts that add up, the layer list, and the polygons judged one after another. Assumes nothing.
 use Prim.Native.Nat.{ℕ, zero, suc, ◌+◌, ◌-◌, ◌<◌, ◌≤◌}
 use mathlib.Core.Path.{◌≡◌, refl, sym, ◌∙◌}
-use mathlib.Core.Bool.{true, false, ◌&&◌}
+use mathlib.Core.Bool.{true, false}
 use mathlib.Core.List.{List}
 use mathlib.Core.Logic.{⊎_elim}
 use native.Mathlib.Omega.{arith}
@@ -17,11 +17,11 @@ use Rattle.strips.specs.Rings.{ringInRange, ringSlants}
 use Rattle.strips.proofs.Picking.{split}
 use Rattle.build.specs.Board.{sum_to, ringAt}
 use Rattle.floats.specs.Fractions.{inSheet}
-use Rattle.build.specs.Says.{entryOk, entriesOk, judgeFrom}
+use Rattle.build.specs.Says.{judgeFrom}
 
-pub sum-none : (cs : List ℕ) → sum_to cs 0 ≡ 0
+pub sum_none : (cs : List ℕ) → sum_to cs 0 ≡ 0
 unfolding sum_to
-sum-none cs = refl
+sum_none cs = refl
 
 pub sum_more : (cs : List ℕ) (p : ℕ) → sum_to cs (p + 1) ≡ sum_to cs p + get_or cs p 0
 unfolding sum_to
@@ -38,12 +38,8 @@ sum_mono cs p (suc q) h =
     (below? p (suc q))
 
 -- polygon p's points end within the row
-pub ring-ends : (cs : List ℕ) (ps : List (List ℤ)) (p : ℕ) → p < length cs → sum_to cs (length cs) ≡ length ps → sum_to cs p + get_or cs p 0 ≤ length ps
-ring-ends cs ps p h e = omega (arith, sum_mono cs (p + 1) (length cs) (omega arith), sum_more cs p)
-
-pub entries-more : (l : List (List ℕ)) (i : ℕ) → entriesOk l (i + 1) ≡ (entriesOk l i && entryOk l i)
-unfolding entriesOk
-entries-more l i = rw (add-one i) refl
+pub ring_ends : (cs : List ℕ) (ps : List (List ℤ)) (p : ℕ) → p < length cs → sum_to cs (length cs) ≡ length ps → sum_to cs p + get_or cs p 0 ≤ length ps
+ring_ends cs ps p h e = omega (arith, sum_mono cs (p + 1) (length cs) (omega arith), sum_more cs p)
 
 -- one polygon of the judging
 module _ (rs : List Float) (cs : List ℕ) (ps : List (List ℤ)) (p n : ℕ) (h : p < n) (o : Said) where

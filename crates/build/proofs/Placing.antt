@@ -1,16 +1,16 @@
 -- Roots placed in the table: their numbers one behind the other, and what is placed later behind what was placed before.
 -- Assumes nothing.
-use Prim.Native.Nat.{ℕ, zero, suc, ◌+◌, ◌-◌, ◌*◌, ◌<◌, ◌≤◌}
+use Prim.Native.Nat.{ℕ, zero, suc, ◌+◌, ◌*◌, ◌<◌, ◌≤◌}
 use mathlib.Core.Path.{◌≡◌, refl, sym, ap, ◌∙◌}
-use mathlib.Core.List.{List, [], ◌∷◌, ◌++◌, append_assoc, append-nil}
+use mathlib.Core.List.{List, [], ◌∷◌, ◌++◌, append_assoc}
 use native.Mathlib.Omega.{arith}
 use native.Mathlib.Numerals.{add-one}
 use native.Mathlib.Nat.{suc-mul, zero-mul}
 use mathlib.Core.Logic.{⊎_elim}
 use Rattle.cell.proofs.Offsets.{below?}
 use lib.IntN.{ℤ, pos}
-use lib.ListN.{length, take, drop, set, replicate, length-append, length-drop, take-append-drop}
-use lib.Seq.{sets, sets-eq, take_at, drop_at, length-take-le, drop-drop, take-suc-set, take_all}
+use lib.ListN.{length, take, drop, set, length-append, take-append-drop}
+use lib.Seq.{sets, sets-eq, take_at, drop_at, length-take-le, drop-drop}
 use Rattle.cell.specs.Cells.{noCell}
 use Rattle.cell.specs.Ticks.{on}
 use Rattle.strips.specs.Said.{stripRow}
@@ -36,11 +36,6 @@ placed-none t k = let e : k + 0 ≡ k = omega arith in rw e (take-append-drop (k
 -- the row below k, in front
 length-below : (t : List ℤ) (k n : ℕ) → (k + n) * 8 ≤ length t → length (take (k * 8) t) ≡ k * 8
 length-below t k n h = length-take-le (k * 8) t (omega arith)
-
-pub length-placed : (t : List ℤ) (k : ℕ) (rs : List Root) → (k + length rs) * 8 ≤ length t → length (placed t k rs) ≡ length t
-unfolding placed
-length-placed t k rs h =
-    simp (length-append, length-drop) (omega (arith, length-flat rs, length-below t k (length rs) h))
 
 pub placed-more : (t : List ℤ) (k m : ℕ) (a b : List Root) → m ≡ k + length a → (m + length b) * 8 ≤ length t → placed (placed t k a) m b ≡ placed t k (a ++ b)
 unfolding placed
@@ -69,22 +64,13 @@ four t b v0 v1 v2 v3 =
     let e3 : b + 3 ≡ suc (suc (suc b)) = omega arith in
     rw (e1, e2, e3) refl
 
-pub root-placed : (t : List ℤ) (k : ℕ) (s : Strip) (poly : ℕ) → (k + 1) * 8 ≤ length t → sets (sets t (k * 8) (stripRow s)) (k * 8 + 4) (pos 0 ∷ pos noCell ∷ pos noCell ∷ pos poly ∷ []) ≡ placed t k (boxed poly s ∷ [])
+pub root_placed : (t : List ℤ) (k : ℕ) (s : Strip) (poly : ℕ) → (k + 1) * 8 ≤ length t → sets (sets t (k * 8) (stripRow s)) (k * 8 + 4) (pos 0 ∷ pos noCell ∷ pos noCell ∷ pos poly ∷ []) ≡ placed t k (boxed poly s ∷ [])
 unfolding placed flat
-root-placed t k s poly h =
+root_placed t k s poly h =
     let e : k * 8 + 4 ≡ suc (suc (suc (suc (k * 8)))) = omega arith in
     let d : (k + 1) * 8 ≡ k * 8 + 8 = omega arith in
     rw (e, d) (sets-eq (on s.x0 ∷ on s.y0 ∷ on s.x1 ∷ on s.y1 ∷ pos 0 ∷ pos noCell ∷ pos noCell ∷ pos poly ∷ []) t (k * 8) (omega arith)
     ∙ append_assoc (take (k * 8) t) _ (drop (k * 8 + 8) t))
-
--- zeros, one position after another
-pub clear-more : (t : List ℤ) (i n : ℕ) → i < length t → length t ≡ n → take (i + 1) (set t i (pos 0)) ++ replicate (n - (i + 1)) (pos 0) ≡ take i t ++ replicate (n - i) (pos 0)
-clear-more t i n h e =
-    let d : n - i ≡ suc (n - (i + 1)) = omega arith in
-    rw (d, add-one i, take-suc-set t i (pos 0) h, append_assoc) refl
-
-pub clear-end : (t : List ℤ) (i n : ℕ) → n ≤ i → length t ≡ n → take i t ++ replicate (n - i) (pos 0) ≡ t
-clear-end t i n h e = let z : n - i ≡ 0 = omega arith in rw (z, take_all i t (omega arith)) (append-nil t)
 
 pub row_more : (poly : ℕ) (r : Strip) (n i : ℕ) → rowTo poly r n (i + 1) ≡ rowTo poly r n i ++ (boxed poly (cell_of r n i) ∷ [])
 unfolding rowTo

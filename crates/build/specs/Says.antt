@@ -1,21 +1,17 @@
 -- What build says of a board and a room, in document 01's order, and what it leaves in the table.
-use Rattle.std.specs.Prelude.{ℕ, zero, suc, ◌+◌, ◌-◌, ◌*◌, ◌/◌, ◌%◌, ◌^◌, Bool, true, cond, ◌&&◌, List, [], ◌∷◌, ◌++◌, ltb, leb, eqb, ℤ, pos, Float, length, get_or, replicate}
+use Rattle.std.specs.Prelude.{ℕ, zero, suc, ◌+◌, ◌-◌, ◌*◌, ◌/◌, ◌%◌, ◌^◌, Bool, true, cond, ◌&&◌, List, [], ◌∷◌, ◌++◌, ltb, leb, eqb, ℤ, pos, Float, length, get_or, replicate, Result, Ok, Err, ⊤}
 use Rattle.std.specs.Float.{nan}
 use Rattle.refusals.specs.Limits.{maxLevel, maxCap, maxCell, maxLayers, maxPolygons, maxSlots}
-use Rattle.refusals.specs.Said.{Said, accepted, refused, refusal}
+use Rattle.refusals.specs.declared.Refusal.{Refusal}
+use Rattle.refusals.specs.Said.{Said, accepted, refused, refusal, said}
 use Rattle.floats.specs.Fractions.{inSheet}
 use Rattle.strips.specs.Said.{judged, ifAccepted}
 use Rattle.build.specs.declared.Settings.{Settings}
-use Rattle.build.specs.declared.Built.{Built}
-use Rattle.build.specs.declared.Built.TheVariants.{Done, Refused}
-use Rattle.build.specs.declared.judge.Judged.{Judged}
-use Rattle.build.specs.declared.judge.Judged.TheVariants.{Sound, Faulty}
 use Rattle.build.specs.Grid.{allEven, flat}
 use Rattle.build.specs.Board.{Board, sum_to, ringAt, polygons, unit, size_at, stripsAt, rootsOf}
 
-abbrev pub builtSaid : Built → Said
-builtSaid (Done n) = accepted (n ∷ [])
-builtSaid (Refused x) = refusal x
+abbrev pub builtSaid : Result ℕ Refusal → Said
+builtSaid = said (λ n. n ∷ [])
 
 -- 7: "the shape of the room or point counts that don't add up to the point row", or polygon rows of unequal length
 abbrev pub roomShaped : ℕ → Bool
@@ -84,6 +80,6 @@ unfoldable pub buildLeaves : Board → List ℕ → List Float → List ℤ → 
 buildLeaves b components sheets table = ifAccepted (buildSays b components sheets (length table)) (filled b (length table)) table
 
 -- what an answer of `judge` says: nothing, or its refusal
-abbrev pub fault : Judged → Said → Said
-fault Sound otherwise = otherwise
-fault (Faulty x) otherwise = refusal x
+abbrev pub fault : Result ⊤ Refusal → Said → Said
+fault (Ok done) otherwise = otherwise
+fault (Err x) otherwise = refusal x

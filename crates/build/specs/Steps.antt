@@ -1,15 +1,12 @@
 -- What the steps of the code promise one another. Internal.
-use Rattle.std.specs.Prelude.{ℕ, ◌+◌, ◌-◌, ◌*◌, ◌/◌, ◌%◌, ◌^◌, ◌<◌, ◌≤◌, min, ◌≡◌, true, false, cond, List, ◌++◌, ltb, ℤ, pos, length, take, drop, replicate}
+use Rattle.std.specs.Prelude.{ℕ, ◌+◌, ◌-◌, ◌*◌, ◌/◌, ◌%◌, ◌^◌, ◌<◌, ◌≤◌, min, ◌≡◌, true, false, cond, List, ◌++◌, ltb, ℤ, pos, length, take, drop, replicate, Option, Some, None, Result, Ok, Err}
 use Rattle.refusals.specs.Limits.{maxLevel, maxCap, maxCell, maxPoints, maxPolygons, maxSlots}
 use Rattle.strips.specs.declared.walk.Strip.{Strip}
 use Rattle.build.specs.declared.grid.Cut.{Cut}
-use Rattle.build.specs.declared.survey.Tally.{Tally}
-use Rattle.build.specs.declared.survey.Tally.TheVariants as Tallies
-use Rattle.build.specs.declared.polygons.Survey.{Survey}
-use Rattle.build.specs.declared.polygons.Survey.TheVariants.{Roots, Uneven}
 use Rattle.build.specs.Board.{Board, sum_to, ringAt, polygons, rootsOf}
 use Rattle.build.specs.Says.{evenFrom, room_for}
-use Rattle.refusals.specs.Said.{Said, refused}
+use Rattle.refusals.specs.declared.Refusal.{Refusal}
+use Rattle.refusals.specs.Said.{Said, refused, refusal}
 use Rattle.build.specs.Grid.{Root, flat, allEven, rootsIn, listed_at}
 
 -- roots put into the table from slot k on
@@ -49,9 +46,9 @@ moreOf slots sum n = cond (ltb slots sum) sum (sum + n)
 abbrev pub SameTo : ℕ → ℕ → ℕ → Type 0
 SameTo slots a b = min a (slots + 1) ≡ min b (slots + 1)
 
-abbrev pub Tallied : ℕ → ℕ → ℕ → ℕ → ℕ → List Strip → Tally → Type 0
-Tallied u cap c slots n ss (Tallies.Even r) = (allEven u cap c ss ≡ true) × (SameTo slots r (n + length (rootsIn 0 cap c ss)) × (r ≤ maxSlots + maxCap * maxCap))
-Tallied u cap c slots n ss Tallies.Uneven = allEven u cap c ss ≡ false
+abbrev pub Tallied : ℕ → ℕ → ℕ → ℕ → ℕ → List Strip → Option ℕ → Type 0
+Tallied u cap c slots n ss (Some r) = (allEven u cap c ss ≡ true) × (SameTo slots r (n + length (rootsIn 0 cap c ss)) × (r ≤ maxSlots + maxCap * maxCap))
+Tallied u cap c slots n ss None = allEven u cap c ss ≡ false
 
 -- a board that has been judged
 pub record Fit (b : Board) : Type 0 where
@@ -76,9 +73,9 @@ pub record Surveying (hs es slots : ℕ) : Type 0 where
   pub slots-fit : slots ≤ maxSlots
 
 -- what the survey of a board answers: every side even, and the roots counted; or the first polygon with an uneven side
-abbrev pub Surveyed : Board → ℕ → Survey → Type 0
-Surveyed b slots (Roots r) = ((o : Said) → evenFrom b 0 (polygons b) o ≡ o) × SameTo slots r (length (rootsOf b))
-Surveyed b slots (Uneven p) = (o : Said) → evenFrom b 0 (polygons b) o ≡ refused 5 p
+abbrev pub Surveyed : Board → ℕ → Result ℕ Refusal → Type 0
+Surveyed b slots (Ok r) = ((o : Said) → evenFrom b 0 (polygons b) o ≡ o) × SameTo slots r (length (rootsOf b))
+Surveyed b slots (Err x) = (o : Said) → evenFrom b 0 (polygons b) o ≡ refusal x
 
 -- a table's shape
 pub record Tabled (t : List ℤ) : Type 0 where

@@ -6,8 +6,7 @@ ghost use Rattle.strips.specs.Walk.{Ready, Roomy};
 ghost use Rattle.build.specs.Says.{builtSaid};
 ghost use Rattle.build.specs.Steps.{Sizes, Counting, Tabled, aloneSays, aloneLeaves};
 
-use crate::survey::Tally;
-use crate::{Built, put, survey};
+use crate::{put, survey};
 use refusals::Refusal;
 use strips::walk;
 
@@ -20,22 +19,21 @@ fn cut_ready(
     cap: u64,
     unit: u64,
     table: &mut [i64],
-) -> Built
+) -> Result<usize, Refusal>
     requires { Ready points.now heights.now edges.now × (Sizes cap c × (Counting unit 0 0 × Tabled table.old)) }
     ensures result_value { builtSaid result ≡ aloneSays unit cap c (stripsOf points.now) (length table.old / 8) }
     ensures table_after { table.new ≡ ifAccepted (builtSaid result) (aloneLeaves cap c (stripsOf points.now) (length table.old)) table.old }
 {
     let slots = (table.len() / 8) as u64;
-    let t = survey::tally_strips(points, heights, edges, c, cap, unit, slots, 0);
-    let Tally::Even(n) = t else {
-        return Built::Refused(Refusal::UnevenCell(0));
+    let Some(n) = survey::tally_strips(points, heights, edges, c, cap, unit, slots, 0) else {
+        return Err(Refusal::UnevenCell(0));
     };
     if slots < n {
-        return Built::Refused(Refusal::NoRoom);
+        return Err(Refusal::NoRoom);
     }
     let k = put::put_strips(points, heights, edges, table, 0, c, cap, 0);
     put::clear(table, k * 8);
-    Built::Done(k)
+    Ok(k)
 }
 
 // The same with the work rows made ready first.
@@ -47,7 +45,7 @@ pub fn cut_alone(
     cap: u64,
     unit: u64,
     table: &mut [i64],
-) -> Built
+) -> Result<usize, Refusal>
     requires { Roomy points.now heights.old edges.old × (Sizes cap c × (Counting unit 0 0 × Tabled table.old)) }
     ensures result_value { builtSaid result ≡ aloneSays unit cap c (stripsOf points.now) (length table.old / 8) }
     ensures table_after { table.new ≡ ifAccepted (builtSaid result) (aloneLeaves cap c (stripsOf points.now) (length table.old)) table.old }

@@ -15,18 +15,13 @@ pub struct Cut {
 }
 
 // ceil(w / c), held within 1 to cap. Internal, as all of this module: the settings and the ring have been judged.
+#[tactic(auto, unfolding(crate::specs::Grid::held_at))]
 fn held(w: u64, c: u64, cap: u64) -> u64
     requires { (w ≤ coordinate + coordinate) × Sizes cap c }
     ensures { result ≡ held_at cap c w }
 {
     let n = (w + (c - 1)) / c;
-    if n < 1 {
-        return 1;
-    }
-    if cap < n {
-        return cap;
-    }
-    n
+    n.clamp(1, cap)
 }
 
 pub fn cut_of(s: Strip, c: u64, cap: u64) -> Cut
@@ -56,15 +51,14 @@ pub fn unit_of(max_level: u64) -> u64
 }
 
 // The cell that the list gives a layer: 0 where it has none.
+#[tactic(auto, using(crate::proofs::Cutting::listed_here, crate::proofs::Cutting::listed_on, crate::proofs::Cutting::listed_end))]
 fn listed(list: &[[u64; 2]], layer: u64) -> u64
     ensures { result ≡ listed_at list.now layer }
 {
-    let mut i = 0;
-    while i < list.len() {
-        if list[i][0] == layer {
-            return list[i][1];
+    for entry in list {
+        if entry[0] == layer {
+            return entry[1];
         }
-        i += 1;
     }
     0
 }

@@ -7,13 +7,6 @@ ghost use Rattle.build.specs.Says.{roomShaped, judgeFrom, fault};
 use refusals::{Refusal, limits};
 use strips::ring;
 
-// Nothing against the polygons, or the first refusal.
-#[derive(Clone, Copy)]
-pub enum Judged {
-    Sound,
-    Faulty(Refusal),
-}
-
 pub fn room_shaped(size: usize) -> bool
     ensures { result ≡ roomShaped size }
 {
@@ -21,42 +14,40 @@ pub fn room_shaped(size: usize) -> bool
 }
 
 // Whether the point counts add up to a number.
+#[tactic(auto, using(crate::proofs::Judging::sum_none, crate::proofs::Judging::sum_more))]
 pub fn adds_up(counts: &[u64], total: usize) -> bool
     ensures { result ≡ eqb (sum_to counts.now (length counts.now)) total }
 {
     let mut left = total;
-    let mut i = 0;
-    while i < counts.len() {
+    for i in 0..counts.len() {
         let n = counts[i] as usize;
         if left < n {
             return false;
         }
         left -= n;
-        i += 1;
     }
     left == 0
 }
 
 // Sheet resistance and ring of each polygon. Internal: the rows fit together.
-pub fn judge(sheets: &[f64], counts: &[u64], points: &[[i64; 2]]) -> Judged
+#[tactic(auto, using(crate::proofs::Judging::ring_ends))]
+pub fn judge(sheets: &[f64], counts: &[u64], points: &[[i64; 2]]) -> Result<(), Refusal>
     requires { (length sheets.now ≡ length counts.now) × (sum_to counts.now (length counts.now) ≡ length points.now) }
     ensures { (o : Said) → fault result o ≡ judgeFrom sheets.now counts.now points.now 0 (length counts.now) o }
 {
     let mut at = 0;
-    let mut p = 0;
-    while p < counts.len() {
+    for p in 0..counts.len() {
         if !floats::sheet_in_range(sheets[p]) {
-            return Judged::Faulty(Refusal::OutOfRange(p));
+            return Err(Refusal::OutOfRange(p));
         }
         let end = at + counts[p] as usize;
         if !ring::in_range(&points[at..end]) {
-            return Judged::Faulty(Refusal::OutOfRange(p));
+            return Err(Refusal::OutOfRange(p));
         }
         if ring::slanted(&points[at..end]) {
-            return Judged::Faulty(Refusal::Slanted(p));
+            return Err(Refusal::Slanted(p));
         }
         at = end;
-        p += 1;
     }
-    Judged::Sound
+    Ok(())
 }

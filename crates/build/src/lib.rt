@@ -27,14 +27,8 @@ pub struct Settings {
     pub target: u64,
 }
 
-// How many roots there are, or why there is no answer.
-#[derive(Clone, Copy)]
-pub enum Built {
-    Done(usize),
-    Refused(Refusal),
-}
-
 // Whether the room has a table's shape and the polygons' rows fit together.
+#[tactic(auto, unfolding(crate::specs::Says::rowsShaped))]
 fn rows_fit(
     layers: &[u16],
     components: &[u32],
@@ -61,24 +55,19 @@ fn cut_many(
     heights: &mut [u64],
     edges: &mut [u64],
     table: &mut [i64],
-) -> Built
+) -> Result<usize, Refusal>
     requires { Fit (board s list.now layers.now counts.now points.now) × (Putting (length heights.old) (length edges.old) × Tabled table.old) }
     ensures result_value { builtSaid result ≡ evenFrom (board s list.now layers.now counts.now points.now) 0 (length counts.now) (room_for (length table.old / 8) (length (rootsOf (board s list.now layers.now counts.now points.now)))) }
     ensures table_after { table.new ≡ ifAccepted (builtSaid result) (filled (board s list.now layers.now counts.now points.now) (length table.old)) table.old }
 {
     let slots = (table.len() / 8) as u64;
-    let found = polygons::survey_all(s, list, layers, counts, points, heights, edges, slots);
-    match found {
-        polygons::Survey::Uneven(p) => Built::Refused(Refusal::UnevenCell(p)),
-        polygons::Survey::Roots(n) => {
-            if slots < n {
-                return Built::Refused(Refusal::NoRoom);
-            }
-            let k = polygons::put_all(s, list, layers, counts, points, heights, edges, table);
-            put::clear(table, k * 8);
-            Built::Done(k)
-        }
+    let n = polygons::survey_all(s, list, layers, counts, points, heights, edges, slots)?;
+    if slots < n {
+        return Err(Refusal::NoRoom);
     }
+    let k = polygons::put_all(s, list, layers, counts, points, heights, edges, table);
+    put::clear(table, k * 8);
+    Ok(k)
 }
 
 // The same, by a shorter way for a board of one polygon.
@@ -91,7 +80,7 @@ fn cut(
     heights: &mut [u64],
     edges: &mut [u64],
     table: &mut [i64],
-) -> Built
+) -> Result<usize, Refusal>
     requires { Fit (board s list.now layers.now counts.now points.now) × (Putting (length heights.old) (length edges.old) × Tabled table.old) }
     ensures result_value { builtSaid result ≡ evenFrom (board s list.now layers.now counts.now points.now) 0 (length counts.now) (room_for (length table.old / 8) (length (rootsOf (board s list.now layers.now counts.now points.now)))) }
     ensures table_after { table.new ≡ ifAccepted (builtSaid result) (filled (board s list.now layers.now counts.now points.now) (length table.old)) table.old }
@@ -105,6 +94,7 @@ fn cut(
 }
 
 // The level-0 table of a board: the roots of every polygon, in order, and zeros behind them.
+#[tactic(auto, unfolding(crate::specs::Says::buildSays, crate::specs::Says::buildLeaves, crate::specs::Says::settingsOk))]
 pub fn build(
     s: Settings,
     list: &[[u64; 2]],
@@ -114,19 +104,17 @@ pub fn build(
     counts: &[u64],
     points: &[[i64; 2]],
     table: &mut [i64],
-) -> Built
+) -> Result<usize, Refusal>
     ensures result_value { builtSaid result ≡ buildSays (board s list.now layers.now counts.now points.now) components.now sheets.now (length table.old) }
     ensures table_after { table.new ≡ buildLeaves (board s list.now layers.now counts.now points.now) components.now sheets.now table.old }
 {
     if !rows_fit(layers, components, sheets, counts, points, table.len()) {
-        return Built::Refused(Refusal::BadTable);
+        return Err(Refusal::BadTable);
     }
     if !(ranges::numbers_ok(s, counts.len()) & ranges::list_ok(list)) {
-        return Built::Refused(Refusal::OutOfRange(0));
+        return Err(Refusal::OutOfRange(0));
     }
-    if let judge::Judged::Faulty(x) = judge::judge(sheets, counts, points) {
-        return Built::Refused(x);
-    }
+    judge::judge(sheets, counts, points)?;
     let mut heights = [0u64; RING_POINTS];
     let mut edges = [0u64; RING_POINTS];
     cut(

@@ -37,6 +37,7 @@ fn put_leaf(t: &mut [i64], b: usize, poly: u64)
     t[b + 3] = poly as i64;
 }
 
+#[tactic(auto, using(crate::proofs::Placing::root_placed))]
 fn put_root(t: &mut [i64], k: usize, s: Strip, poly: u64)
     requires { Slotted t.old k 1 × (poly < maxPolygons) }
     ensures { t.new ≡ placed t.old k (boxed poly s ∷ []) }
@@ -66,8 +67,7 @@ fn put_row(t: &mut [i64], k: usize, r: Strip, n: u64, poly: u64)
     ensures { t.new ≡ placed t.old k (rowTo poly r n n) }
 {
     let dx = (r.x1 - r.x0) / n;
-    let mut i = 0;
-    while i < n {
+    for i in 0..n {
         let b = Strip {
             x0: r.x0 + dx * i,
             y0: r.y0,
@@ -75,7 +75,6 @@ fn put_row(t: &mut [i64], k: usize, r: Strip, n: u64, poly: u64)
             y1: r.y1,
         };
         put_root(t, k + i as usize, b, poly);
-        i += 1;
     }
 }
 
@@ -85,11 +84,9 @@ fn put_grid(t: &mut [i64], k: usize, s: Strip, g: Cut, poly: u64) -> usize
     ensures { (result ≡ k + length (gridTo poly s g g.ny)) × (t.new ≡ placed t.old k (gridTo poly s g g.ny)) }
 {
     let mut at = k;
-    let mut j = 0;
-    while j < g.ny {
+    for j in 0..g.ny {
         put_row(t, at, row_of(s, g, j), g.nx, poly);
         at += g.nx as usize;
-        j += 1;
     }
     at
 }
@@ -111,17 +108,15 @@ pub fn put_strips(
     let mut band = walk::start(points, heights);
     let mut edge = 0;
     let mut at = k;
-    loop {
-        let walk::Ahead::Found(s, next_band, next_edge) = walk::next(
-            points, heights, edges, band, edge,
-        ) else {
-            return at;
-        };
+    while let walk::Ahead::Found(s, next_band, next_edge) = walk::next(
+        points, heights, edges, band, edge,
+    ) {
         let g = grid::cut_of(s, c, cap);
         at = put_grid(t, at, s, g, poly);
         band = next_band;
         edge = next_edge;
     }
+    at
 }
 
 // The same with the work rows made ready first.
@@ -148,9 +143,5 @@ pub fn clear(t: &mut [i64], from: usize)
     requires { from ≤ length t.old }
     ensures { t.new ≡ take from t.old ++ replicate (length t.old - from) (pos 0) }
 {
-    let mut i = from;
-    while i < t.len() {
-        t[i] = 0;
-        i += 1;
-    }
+    t[from..].fill(0);
 }

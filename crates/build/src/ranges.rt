@@ -12,22 +12,16 @@ fn entry_ok(list: &[[u64; 2]], i: usize) -> bool
 {
     let layer = list[i][0];
     let cell = list[i][1];
-    let ok = (layer < 65536) & (cell <= limits::CELL);
-    if i == 0 {
-        return ok & true;
-    }
-    let before = list[i - 1][0];
-    ok & (before < layer)
+    (layer < 65536) & (cell <= limits::CELL) & (i == 0 || list[i - 1][0] < layer)
 }
 
+#[tactic(auto, unfolding(crate::specs::Says::entriesOk, crate::specs::Says::listOk))]
 pub fn list_ok(list: &[[u64; 2]]) -> bool
     ensures { result ≡ listOk list.now }
 {
     let mut ok = list.len() <= limits::LAYERS;
-    let mut i = 0;
-    while i < list.len() {
+    for i in 0..list.len() {
         ok = ok & entry_ok(list, i);
-        i += 1;
     }
     ok
 }

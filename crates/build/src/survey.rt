@@ -9,13 +9,6 @@ use crate::grid;
 use crate::grid::Cut;
 use strips::walk;
 
-// The roots so far, or an uneven side.
-#[derive(Clone, Copy)]
-pub enum Tally {
-    Even(u64),
-    Uneven,
-}
-
 // A strip's cells on top of a count. A count that is past the slots already stays, so that none is too large for 64 bits.
 fn more(sum: u64, slots: u64, g: Cut) -> u64
     requires { Cuts g × ((slots ≤ maxSlots) × (sum ≤ maxSlots + maxCap * maxCap)) }
@@ -27,7 +20,7 @@ fn more(sum: u64, slots: u64, g: Cut) -> u64
     sum + g.ny * g.nx
 }
 
-// The roots of a ring on top of a count.
+// The roots of a ring on top of a count; None where a side is uneven.
 pub fn tally_strips(
     points: &[[i64; 2]],
     heights: &[u64],
@@ -37,27 +30,25 @@ pub fn tally_strips(
     unit: u64,
     slots: u64,
     n: u64,
-) -> Tally
+) -> Option<u64>
     requires { Ready points.now heights.now edges.now × (Sizes cap c × Counting unit slots n) }
     ensures { Tallied unit cap c slots n (stripsOf points.now) result }
 {
     let mut band = walk::start(points, heights);
     let mut edge = 0;
     let mut sum = n;
-    loop {
-        let walk::Ahead::Found(s, next_band, next_edge) = walk::next(
-            points, heights, edges, band, edge,
-        ) else {
-            return Tally::Even(sum);
-        };
+    while let walk::Ahead::Found(s, next_band, next_edge) = walk::next(
+        points, heights, edges, band, edge,
+    ) {
         let g = grid::cut_of(s, c, cap);
         if !grid::even(s, g, unit) {
-            return Tally::Uneven;
+            return None;
         }
         sum = more(sum, slots, g);
         band = next_band;
         edge = next_edge;
     }
+    Some(sum)
 }
 
 // The same with the work rows made ready first.
@@ -70,7 +61,7 @@ pub fn tally_ring(
     unit: u64,
     slots: u64,
     n: u64,
-) -> Tally
+) -> Option<u64>
     requires { Roomy points.now heights.old edges.old × (Sizes cap c × Counting unit slots n) }
     ensures { Tallied unit cap c slots n (stripsOf points.now) result }
 {

@@ -39,6 +39,26 @@ pub fn refused(out: &mut String, why: Refusal) -> Result<(), AllocError> {
     writeln!(out, " refused {} {}", code.number, code.place)
 }
 
+// What a call answered: its values as `show` prints them, or its refusal.
+pub fn answered<T, F: FnOnce(&mut String, T) -> Result<(), AllocError>>(
+    out: &mut String,
+    answer: Result<T, Refusal>,
+    show: F,
+) -> Result<(), AllocError>
+where
+    requires { F.IsAlwaysCallable show }
+{
+    match answer {
+        Ok(values) => show(out, values),
+        Err(why) => refused(out, why),
+    }
+}
+
+// The same of a call whose only value is a count.
+pub fn counted(out: &mut String, answer: Result<usize, Refusal>) -> Result<(), AllocError> {
+    answered(out, answer, |out, n| writeln!(out, " {n}"))
+}
+
 // A row of numbers without the zeros at its end, as work room is after an accepted call.
 pub fn work(out: &mut String, work: &[u64]) -> Result<(), AllocError> {
     let n = work

@@ -1,7 +1,7 @@
 -- Halving a row of sorted keys: the turns, and what stands where they end. Assumes nothing.
 use Prim.Native.Nat.{ℕ, ◌+◌, ◌-◌, ◌<◌, ◌≤◌}
 use mathlib.Core.Path.{◌≡◌, sym, ap, subst, ◌∙◌}
-use mathlib.Core.Option.{none, some}
+use Rattle.std.specs.Prelude.{None, Some}
 use mathlib.Core.Logic.{⊎_elim}
 use mathlib.Core.List.{List}
 use native.Mathlib.Nat.{eq-or-lt_of_le}
@@ -25,8 +25,8 @@ pub record Halving (ks : List ℕ) (k low high : ℕ) : Type 0 where
   pub under : (p : ℕ) → p < low → key ks (get_or (ordered ks) p 0) ≤ k
   pub over : (p : ℕ) → high ≤ p → p < length ks → k < key ks (get_or (ordered ks) p 0)
 
-pub halving-begins : (ks : List ℕ) (k : ℕ) → Halving ks k 0 (length ks)
-halving-begins ks k = record { order = omega arith; inside = omega arith; under = λ p h. absurd (omega arith); over = λ p a b. absurd (omega arith) }
+pub halving_begins : (ks : List ℕ) (k : ℕ) → Halving ks k 0 (length ks)
+halving_begins ks k = record { order = omega arith; inside = omega arith; under = λ p h. absurd (omega arith); over = λ p a b. absurd (omega arith) }
 
 module _ (ks : List ℕ) (k : ℕ) where
   abbrev at : ℕ → ℕ
@@ -40,13 +40,13 @@ module _ (ks : List ℕ) (k : ℕ) where
       (eq-or-lt_of_le h)
 
   module _ (low high : ℕ) (H : Halving ks k low high) where
-    pub halving-up : (m : ℕ) → low ≤ m → m < high → key ks (at m) ≤ k → Halving ks k (m + 1) high
-    halving-up m a b e =
+    pub halving_up : (m : ℕ) → low ≤ m → m < high → key ks (at m) ≤ k → Halving ks k (m + 1) high
+    halving_up m a b e =
         let i = H.inside in
         record { order = omega arith; inside = i; under = λ p h. (let g = ascends p m (omega arith) (omega arith) in omega arith); over = H.over }
 
-    pub halving-down : (m : ℕ) → low ≤ m → m < high → k < key ks (at m) → Halving ks k low m
-    halving-down m a b e =
+    pub halving_down : (m : ℕ) → low ≤ m → m < high → k < key ks (at m) → Halving ks k low m
+    halving_down m a b e =
         let i = H.inside in
         record { order = a; inside = omega arith; under = H.under; over = λ p g h. (let q = ascends m p g h in omega arith) }
 
@@ -61,14 +61,14 @@ module _ (ks : List ℕ) (k : ℕ) where
         (λ (l : high ≤ s.at). absurd (let o = H.over s.at l (omega arith) in let q = ap (key ks) s.here in omega arith))
         (below? s.at high)
 
-    pub halving-none : high ≤ low → low ≡ 0 → none ≡ lastKey ks k
+    pub halving_none : high ≤ low → low ≡ 0 → None ≡ lastKey ks k
     unfolding lastKey
-    halving-none g z =
+    halving_none g z =
         sym (last-not (λ i. eqb (key ks i) k) (length ks) (λ i h. ne_eqb (key ks i) k (λ e. (let s = stands i h e in let b = s.1 in omega arith))))
 
-    pub halving-here : high ≤ low → (low ≡ 0 → ⊥) → key ks (at (low - 1)) ≡ k → some (at (low - 1)) ≡ lastKey ks k
+    pub halving_here : high ≤ low → (low ≡ 0 → ⊥) → key ks (at (low - 1)) ≡ k → Some (at (low - 1)) ≡ lastKey ks k
     unfolding lastKey
-    halving-here g z e =
+    halving_here g z e =
         let d = H.inside in
         let o = H.order in
         let n = length-ordered ks in
@@ -85,9 +85,9 @@ module _ (ks : List ℕ) (k : ℕ) where
         omega arith)
         (eq-or-lt_of_le (omega arith))))))
 
-    pub halving-missed : high ≤ low → (low ≡ 0 → ⊥) → (key ks (at (low - 1)) ≡ k → ⊥) → none ≡ lastKey ks k
+    pub halving_missed : high ≤ low → (low ≡ 0 → ⊥) → (key ks (at (low - 1)) ≡ k → ⊥) → None ≡ lastKey ks k
     unfolding lastKey
-    halving-missed g z e =
+    halving_missed g z e =
         let d = H.inside in
         let o = H.order in
         sym (last-not (λ i. eqb (key ks i) k) (length ks) (λ i h. ne_eqb (key ks i) k (λ q.
@@ -103,22 +103,22 @@ module _ (w : List ℕ) (a n : ℕ) (B : Block (part w a n) w a n) where
   keys-long : length (part w a n) ≡ n
   keys-long = let r = B.room in length_part w a n (omega arith)
 
-  pub order-at : (p : ℕ) → p < n → get_or w (a + n + p) 0 ≡ get_or (ordered (part w a n)) p 0
-  order-at p h = sym (part_at w (a + n) n p 0 h) ∙ ap (λ (l : List ℕ). get_or l p 0) B.order
+  pub order_at : (p : ℕ) → p < n → get_or w (a + n + p) 0 ≡ get_or (ordered (part w a n)) p 0
+  order_at p h = sym (part_at w (a + n) n p 0 h) ∙ ap (λ (l : List ℕ). get_or l p 0) B.order
 
-  pub order-low : (p : ℕ) → p < n → get_or w (a + n + p) 0 < n
-  order-low p h =
-      let e = order-at p h in
+  pub order_low : (p : ℕ) → p < n → get_or w (a + n + p) 0 < n
+  order_low p h =
+      let e = order_at p h in
       let l = keys-long in
       let m = length-ordered (part w a n) in
       let b = (ordered-is (part w a n)).within p (omega arith) in
       omega arith
 
-  pub key-at : (p : ℕ) → p < n → get_or w (a + get_or w (a + n + p) 0) 0 ≡ key (part w a n) (get_or (ordered (part w a n)) p 0)
-  key-at p h = sym (part_at w a n (get_or w (a + n + p) 0) 0 (order-low p h)) ∙ ap (key (part w a n)) (order-at p h)
+  pub key_at : (p : ℕ) → p < n → get_or w (a + get_or w (a + n + p) 0) 0 ≡ key (part w a n) (get_or (ordered (part w a n)) p 0)
+  key_at p h = sym (part_at w a n (get_or w (a + n + p) 0) 0 (order_low p h)) ∙ ap (key (part w a n)) (order_at p h)
 
   pub begins : (k : ℕ) → Halving (part w a n) k 0 n
-  begins k = subst (Halving (part w a n) k 0) keys-long (halving-begins (part w a n) k)
+  begins k = subst (Halving (part w a n) k 0) keys-long (halving_begins (part w a n) k)
 
-  pub high-in : (k low high : ℕ) → Halving (part w a n) k low high → high ≤ n
-  high-in k low high H = let l = keys-long in let i = H.inside in omega arith
+-- what `find` reads and answers
+pub ruleset halved = (order_low, order_at, key_at, halving_here, halving_missed)

@@ -2,7 +2,8 @@
 use Prim.Native.Nat.{ℕ, ◌+◌, ◌*◌, ◌/◌, ◌<◌, ◌≤◌}
 use mathlib.Core.Path.{◌≡◌, refl, sym, ap, ap₂, ◌∙◌}
 use mathlib.Core.Bool.{Bool, true, false, ◌&&◌, ◌||◌}
-use mathlib.Core.Option.{Option, none, some}
+use Rattle.std.specs.Prelude.{Option, None, Some}
+use Rattle.std.specs.Option.{is_some}
 use mathlib.Core.Logic.{◌⊎◌, inl, inr, ⊎_elim}
 use mathlib.Core.List.{List}
 use native.Mathlib.Omega.{arith}
@@ -22,8 +23,7 @@ use Rattle.rows.proofs.Fill.{length-tab, tab-at}
 use Rattle.conforming.specs.Nodes.{lastBelow, joins, joined}
 use Rattle.conforming.proofs.Searches.{any-hit}
 use Rattle.checks.specs.Keys.{wide, maxNodes, lastKey, lastIn, pairKey, pairKeys}
-use Rattle.checks.specs.Rooms.{Low}
-use Rattle.checks.proofs.Lasts.{IsLast, last-not, last-same, last-low, last_some, last_none, any-not}
+use Rattle.checks.proofs.Lasts.{IsLast, last-not, last-same, last_some, last_none, any-not}
 
 -- two numbers in one key
 unpack : (a b c d : ℕ) → b < wide → d < wide → a * wide + b ≡ c * wide + d → (a ≡ c) × (b ≡ d)
@@ -42,31 +42,27 @@ and_no a b e = rw e
 
 -- ---- the last index of a key
 module _ (ks : List ℕ) where
-  found : (k j : ℕ) → lastKey ks k ≡ some j → IsLast (λ i. eqb (key ks i) k) (length ks) j
+  found : (k j : ℕ) → lastKey ks k ≡ Some j → IsLast (λ i. eqb (key ks i) k) (length ks) j
   unfolding lastKey
   found k j e = last_some (λ i. eqb (key ks i) k) (length ks) j e
 
-  pub missing : (k : ℕ) → lastKey ks k ≡ none → (i : ℕ) → i < length ks → eqb (key ks i) k ≡ false
+  pub missing : (k : ℕ) → lastKey ks k ≡ None → (i : ℕ) → i < length ks → eqb (key ks i) k ≡ false
   unfolding lastKey
   missing k e i h = last_none (λ i. eqb (key ks i) k) (length ks) e i h
 
-  pub last-key-low : (k : ℕ) → Low (length ks) (lastKey ks k)
-  unfolding lastKey
-  last-key-low k = last-low (λ i. eqb (key ks i) k) (length ks)
-
-  found-is : (k j : ℕ) → lastKey ks k ≡ some j → (i : ℕ) → key ks i ≡ k → last_of ks i ≡ j
+  found-is : (k j : ℕ) → lastKey ks k ≡ Some j → (i : ℕ) → key ks i ≡ k → last_of ks i ≡ j
   unfolding last_of
   found-is k j e i q =
       let f = found k j e in
       ap (λ (x : ℕ). Rows.lastBelow x ks (length ks)) q
       ∙ last-below k ks (length ks) j f.inside (eqb-true (key ks j) k f.passes) (λ m a b. eqb-false (key ks m) k (f.after m a b))
 
-  own-last : (i : ℕ) → i < length ks → (j : ℕ) × (lastKey ks (key ks i) ≡ some j)
+  own-last : (i : ℕ) → i < length ks → (j : ℕ) × (lastKey ks (key ks i) ≡ Some j)
   own-last i h = by (lastKey ks (key ks i)) refl
     where
-      by : (o : Option ℕ) → lastKey ks (key ks i) ≡ o → (j : ℕ) × (lastKey ks (key ks i) ≡ some j)
-      by none e = absurd (eqb-false (key ks i) (key ks i) (missing (key ks i) e i h) refl)
-      by (some j) e = (j, e)
+      by : (o : Option ℕ) → lastKey ks (key ks i) ≡ o → (j : ℕ) × (lastKey ks (key ks i) ≡ Some j)
+      by None e = absurd (eqb-false (key ks i) (key ks i) (missing (key ks i) e i h) refl)
+      by (Some j) e = (j, e)
 
   last-key : (i : ℕ) → i < length ks → key ks (last_of ks i) ≡ key ks i
   last-key i h =
@@ -82,7 +78,7 @@ module _ (ks : List ℕ) where
       omega arith
 
   -- being of key k is being of the last one's class
-  class_same : (k j : ℕ) → lastKey ks k ≡ some j → (i : ℕ) → i < length ks → eqb (last_of ks i) j ≡ eqb (key ks i) k
+  class_same : (k j : ℕ) → lastKey ks k ≡ Some j → (i : ℕ) → i < length ks → eqb (last_of ks i) j ≡ eqb (key ks i) k
   class_same k j e i h =
       let f = found k j e in
       same (eqb (last_of ks i) j) (eqb (key ks i) k)
@@ -94,7 +90,7 @@ module _ (ks : List ℕ) (n : ℕ) (long : length ks ≡ n) (X : ℕ → ℕ) (l
   abbrev round : List ℕ
   round = tab (λ i. last_of ks i * wide + X i) n
 
-  pub round-found : (k j : ℕ) → lastKey ks k ≡ some j → (x : ℕ) → x < wide → (i : ℕ) → i < n → eqb (key round i) (j * wide + x) ≡ (eqb (key ks i) k && eqb (X i) x)
+  pub round-found : (k j : ℕ) → lastKey ks k ≡ Some j → (x : ℕ) → x < wide → (i : ℕ) → i < n → eqb (key round i) (j * wide + x) ≡ (eqb (key ks i) k && eqb (X i) x)
   round-found k j e x b i h =
       ap (λ (z : ℕ). eqb z (j * wide + x)) (tab-at (λ i. last_of ks i * wide + X i) n i 0 h)
       ∙ (pack-same (last_of ks i) (X i) j x (low i h) b ∙ ap (λ (z : Bool). z && eqb (X i) x) (class_same ks k j e i (omega arith)))
@@ -118,25 +114,25 @@ module _ (ks : List ℕ) (n : ℕ) (long : length ks ≡ n) (X Y : ℕ → ℕ) 
     abbrev test : ℕ → Bool
     test i = (eqb (key ks i) k && eqb (X i) x) && eqb (Y i) y
 
-    no-column : (j : ℕ) → lastKey ks k ≡ some j → lastKey columns (j * wide + x) ≡ none → none ≡ lastBelow test n
+    no-column : (j : ℕ) → lastKey ks k ≡ Some j → lastKey columns (j * wide + x) ≡ None → None ≡ lastBelow test n
     no-column j e f =
         let l = columns-long in
         sym (last-not test n (λ i h.
         and_no (eqb (key ks i) k && eqb (X i) x) (eqb (Y i) y) (sym (round-found ks n long X xs k j e x hx i h) ∙ missing columns (j * wide + x) f i (omega arith))))
 
-    here : (j l : ℕ) → lastKey ks k ≡ some j → lastKey columns (j * wide + x) ≡ some l → lastKey places (l * wide + y) ≡ lastBelow test n
+    here : (j l : ℕ) → lastKey ks k ≡ Some j → lastKey columns (j * wide + x) ≡ Some l → lastKey places (l * wide + y) ≡ lastBelow test n
     here j l e f =
         key-form places n (l * wide + y) (length-tab (λ i. last_of columns i * wide + Y i) n)
         ∙ last-same (λ i. eqb (key places i) (l * wide + y)) test n (λ i h.
         round-found columns n columns-long Y ys (j * wide + x) l f y hy i h ∙ ap (λ (z : Bool). z && eqb (Y i) y) (round-found ks n long X xs k j e x hx i h))
 
-    in-column : (j : ℕ) → lastKey ks k ≡ some j → (o : Option ℕ) → lastKey columns (j * wide + x) ≡ o → lastIn places o y ≡ lastBelow test n
-    in-column j e none f = no-column j e f
-    in-column j e (some l) f = here j l e f
+    in-column : (j : ℕ) → lastKey ks k ≡ Some j → (o : Option ℕ) → lastKey columns (j * wide + x) ≡ o → lastIn places o y ≡ lastBelow test n
+    in-column j e None f = no-column j e f
+    in-column j e (Some l) f = here j l e f
 
     in-class : (o : Option ℕ) → lastKey ks k ≡ o → lastIn places (lastIn columns o x) y ≡ lastBelow test n
-    in-class none e = sym (last-not test n (λ i h. and_no (eqb (key ks i) k && eqb (X i) x) (eqb (Y i) y) (and_no (eqb (key ks i) k) (eqb (X i) x) (missing ks k e i (omega arith)))))
-    in-class (some j) e = in-column j e (lastKey columns (j * wide + x)) refl
+    in-class None e = sym (last-not test n (λ i h. and_no (eqb (key ks i) k && eqb (X i) x) (eqb (Y i) y) (and_no (eqb (key ks i) k) (eqb (X i) x) (missing ks k e i (omega arith)))))
+    in-class (Some j) e = in-column j e (lastKey columns (j * wide + x)) refl
 
     pub place_found : lastIn places (lastIn columns (lastKey ks k) x) y ≡ lastBelow test n
     place_found = in-class (lastKey ks k) refl
@@ -226,15 +222,22 @@ module _ (ends : List ℕ) (n : ℕ) (few : n ≤ maxNodes) (edge : (e : ℕ) �
       ap (λ (z : ℕ). eqb z (pairKey a b)) (tab-at (λ e. pairKey (fromAt ends e) (to_at ends e)) (length ends / 2) e 0 h)
       ∙ pair_same (fromAt ends e) (to_at ends e) a b (omega arith) (omega arith) (omega arith) (omega arith)
 
-  pub joined-yes : (j : ℕ) → lastKey (pairKeys ends) (pairKey a b) ≡ some j → joined ends a b ≡ true
+  joined-yes : (j : ℕ) → lastKey (pairKeys ends) (pairKey a b) ≡ Some j → true ≡ joined ends a b
   joined-yes j e =
       let f = found (pairKeys ends) (pairKey a b) j e in
       let l = pairs-long ends in
       let h = f.inside in
       let k : j < length ends / 2 = omega arith in
-      any-hit (joins ends a b) (length ends / 2) j k (sym (pair-joins j k) ∙ f.passes)
+      sym (any-hit (joins ends a b) (length ends / 2) j k (sym (pair-joins j k) ∙ f.passes))
 
-  pub joined-no : lastKey (pairKeys ends) (pairKey a b) ≡ none → joined ends a b ≡ false
+  joined-no : lastKey (pairKeys ends) (pairKey a b) ≡ None → false ≡ joined ends a b
   joined-no e =
       let l = pairs-long ends in
-      any-not (joins ends a b) (length ends / 2) (λ i h. sym (pair-joins i h) ∙ missing (pairKeys ends) (pairKey a b) e i (omega arith))
+      sym (any-not (joins ends a b) (length ends / 2) (λ i h. sym (pair-joins i h) ∙ missing (pairKeys ends) (pairKey a b) e i (omega arith)))
+
+  pub joined-is : is_some (lastKey (pairKeys ends) (pairKey a b)) ≡ joined ends a b
+  joined-is = by (lastKey (pairKeys ends) (pairKey a b)) refl
+    where
+      by : (o : Option ℕ) → lastKey (pairKeys ends) (pairKey a b) ≡ o → is_some o ≡ joined ends a b
+      by None e = joined-no e
+      by (Some j) e = joined-yes j e

@@ -1,19 +1,18 @@
 -- Laws of the last index that passes a test. Assumes nothing.
 use Prim.Native.Nat.{ℕ, zero, suc, ◌<◌}
-use mathlib.Core.Path.{◌≡◌, refl, sym, ap, subst, ◌∙◌}
+use mathlib.Core.Path.{◌≡◌, refl, sym, ap, ◌∙◌}
 use mathlib.Core.Bool.{Bool, true, false}
-use mathlib.Core.Option.{Option, none, some}
+use Rattle.std.specs.Prelude.{None, Some}
 use mathlib.Core.Logic.{◌⊎◌, inl, inr, ⊎_elim}
 use native.Mathlib.Nat.{eq-or-lt_of_le}
 use native.Mathlib.Omega.{arith}
 use Rattle.conforming.specs.Nodes.{lastBelow, anyBelow}
-use Rattle.checks.specs.Rooms.{Low}
 
 pub either : (b : Bool) → (b ≡ true) ⊎ (b ≡ false)
 either true = inl refl
 either false = inr refl
 
-hit : (p : ℕ → Bool) (n : ℕ) → p n ≡ true → lastBelow p (suc n) ≡ some n
+hit : (p : ℕ → Bool) (n : ℕ) → p n ≡ true → lastBelow p (suc n) ≡ Some n
 unfolding lastBelow
 hit p n e = rw e
 
@@ -21,15 +20,15 @@ miss : (p : ℕ → Bool) (n : ℕ) → p n ≡ false → lastBelow p (suc n) �
 unfolding lastBelow
 miss p n e = rw e
 
-pub last-is : (p : ℕ → Bool) (n r : ℕ) → r < n → p r ≡ true → ((j : ℕ) → r < j → j < n → p j ≡ false) → lastBelow p n ≡ some r
+pub last-is : (p : ℕ → Bool) (n r : ℕ) → r < n → p r ≡ true → ((j : ℕ) → r < j → j < n → p j ≡ false) → lastBelow p n ≡ Some r
 last-is p zero r h e f = absurd (omega arith)
 last-is p (suc n) r h e f =
     ⊎_elim
-    (λ (k : r ≡ n). hit p n (ap p (sym k) ∙ e) ∙ ap some (sym k))
+    (λ (k : r ≡ n). hit p n (ap p (sym k) ∙ e) ∙ ap Some (sym k))
     (λ (l : r < n). miss p n (f n l (omega arith)) ∙ last-is p n r l e (λ j a b. f j a (omega arith)))
     (eq-or-lt_of_le (omega arith))
 
-pub last-not : (p : ℕ → Bool) (n : ℕ) → ((j : ℕ) → j < n → p j ≡ false) → lastBelow p n ≡ none
+pub last-not : (p : ℕ → Bool) (n : ℕ) → ((j : ℕ) → j < n → p j ≡ false) → lastBelow p n ≡ None
 last-not p zero f = unfold lastBelow in refl
 last-not p (suc n) f = miss p n (f n (omega arith)) ∙ last-not p n (λ j h. f j (omega arith))
 
@@ -43,25 +42,13 @@ last-same p q (suc n) f =
     (λ (t : q n ≡ false). miss p n (e ∙ t) ∙ (r ∙ sym (miss q n t)))
     (either (q n))
 
-low-more : (n : ℕ) (o : Option ℕ) → Low n o → Low (suc n) o
-low-more n none h = tt
-low-more n (some j) h = omega arith
-
-pub last-low : (p : ℕ → Bool) (n : ℕ) → Low n (lastBelow p n)
-last-low p zero = unfold lastBelow in tt
-last-low p (suc n) =
-    ⊎_elim
-    (λ (t : p n ≡ true). subst (Low (suc n)) (sym (hit p n t)) (omega arith))
-    (λ (t : p n ≡ false). subst (Low (suc n)) (sym (miss p n t)) (low-more n (lastBelow p n) (last-low p n)))
-    (either (p n))
-
 -- what an answer says of the test
 pub record IsLast (p : ℕ → Bool) (n j : ℕ) : Type 0 where
   pub inside : j < n
   pub passes : p j ≡ true
   pub after : (i : ℕ) → j < i → i < n → p i ≡ false
 
-pub last_some : (p : ℕ → Bool) (n j : ℕ) → lastBelow p n ≡ some j → IsLast p n j
+pub last_some : (p : ℕ → Bool) (n j : ℕ) → lastBelow p n ≡ Some j → IsLast p n j
 last_some p zero j e = absurd (let z : ◌≡◌ {A = ℕ} 0 1 = unfold lastBelow in cc in omega arith)
 last_some p (suc n) j e =
     ⊎_elim
@@ -73,7 +60,7 @@ last_some p (suc n) j e =
     record { inside = let h = r.inside in omega arith; passes = r.passes; after = λ i a b. ⊎_elim (λ (k : i ≡ n). ap p k ∙ t) (λ (l : i < n). r.after i a l) (eq-or-lt_of_le (omega arith)) })
     (either (p n))
 
-pub last_none : (p : ℕ → Bool) (n : ℕ) → lastBelow p n ≡ none → (i : ℕ) → i < n → p i ≡ false
+pub last_none : (p : ℕ → Bool) (n : ℕ) → lastBelow p n ≡ None → (i : ℕ) → i < n → p i ≡ false
 last_none p zero e i h = absurd (omega arith)
 last_none p (suc n) e i h =
     ⊎_elim

@@ -6,8 +6,8 @@ use mathlib.Core.Logic.{inl}
 use mathlib.Core.List.{List, ◌++◌}
 use native.Mathlib.Omega.{arith}
 use borrow.Rule.Slice.PartMut.{put_mid}
-use lib.ListN.{length, get_or, take, drop, length-append, length-drop}
-use lib.Seq.{length-take-le, take-take}
+use lib.ListN.{length, get_or, take, drop, length-append}
+use lib.Seq.{take-take}
 use lib.IntN.{ℤ, pos}
 use Rattle.cell.specs.Ticks.{off}
 use Rattle.sound_net.specs.Nets.{nodeCount}
@@ -61,16 +61,6 @@ module _ (w : List ℕ) (a e n : ℕ) (last : List ℕ) (len : e ≡ a + 3 * n) 
         lasts = block-third w a e n last_of last len room is;
         before = λ c m h. block-other w a e n last_of last len room is c m (omega arith) (inl h);
       }
-
--- what `lasts` requires of it
-pub lent-room : (w : List ℕ) (a e n : ℕ) → e ≡ a + 3 * n → e ≤ length w → length (take (e - a) (drop a w)) ≡ 3 * n
-lent-room w a e n len room = length-take-le (e - a) (drop a w) (omega (arith, length-drop a w)) ∙ omega arith
-
-pub lent-small : (w : List ℕ) (a e n k : ℕ) → e ≡ a + 3 * n → e ≤ length w → ((i : ℕ) → get_or w i 0 < k) → Small k (take n (take (e - a) (drop a w)))
-unfolding part
-lent-small w a e n k len room low =
-    let q : take n (take (e - a) (drop a w)) ≡ part w a n = take-take n (e - a) (drop a w) (omega arith) in
-    subst (Small k) (sym q) (λ i h. subst (λ (x : ℕ). x < k) (sym (part_at w a n i 0 (let l = length_part w a n (omega arith) in omega arith))) (low (a + i)))
 
 -- ---- keys that were written, and then sorted
 module _ (ks w₀ w₁ w₂ : List ℕ) (a n : ℕ) (long : length ks ≡ n) (room : a + 3 * n ≤ length w₀) (e : w₁ ≡ put w₀ a ks) where
@@ -126,10 +116,6 @@ kept {a = a} {n = n} B M h =
     let r = B.room in
     let l = M.long in
     record { room = omega arith; keys = M.before a n (omega arith) ∙ B.keys; order = M.before (a + n) n (omega arith) ∙ B.order }
-
--- the last indices of a block's keys
-pub lasts-of : {ks w₀ w : List ℕ} {a n : ℕ} → Made ks w₀ w a n → part w (a + (n + n)) n ≡ tab (last_of (part w a n)) n
-lasts-of {ks} {w₀} {w} {a} {n} M = M.lasts ∙ ap (λ (z : List ℕ). tab (last_of z) n) (sym M.block.keys)
 
 module _ (own : Bool) (nodes : List ℤ) (ends w₀ w₁ w₂ w₃ w₄ : List ℕ) where
   abbrev N : ℕ

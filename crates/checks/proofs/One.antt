@@ -3,13 +3,15 @@ use Prim.Native.Nat.{ℕ}
 use mathlib.Core.Path.{◌≡◌, sym, ◌∙◌}
 use mathlib.Core.Bool.{Bool}
 use mathlib.Core.List.{List}
+use Rattle.std.specs.Prelude.{Result}
+use Rattle.refusals.specs.declared.Refusal.{Refusal}
 use Rattle.refusals.specs.Said.{Said}
-use Rattle.conforming.specs.declared.Checked.{Checked}
+use Rattle.conforming.specs.declared.Fault.{Fault}
 use Rattle.conforming.specs.Checks.{checkedSaid}
 use Rattle.conforming.proofs.One.{one-check}
 use Rattle.checks.specs.Rooms.{workRow}
 
 -- whatever is to be said, and whatever the row was, one answer and one row are permitted
-pub one-outcome : (what : Said) (n e : ℕ) (accepted : Bool) (w : List ℕ) (r q : Checked) (u v : List ℕ)
+pub one-outcome : (what : Said) (n e : ℕ) (accepted : Bool) (w : List ℕ) (r q : Result Fault Refusal) (u v : List ℕ)
     → checkedSaid r ≡ what → u ≡ workRow n e accepted w → checkedSaid q ≡ what → v ≡ workRow n e accepted w → (r ≡ q) × (u ≡ v)
 one-outcome what n e accepted w r q u v a b c d = (one-check what r q a c, b ∙ sym d)

@@ -1,7 +1,7 @@
 -- Nodes and edges by keys. A node's place is looked for in three rounds: its class, its column within the class, and its place in the
 -- column; each round's keys are the last index of equal key of the round before, and one coordinate.
 use Rattle.std.specs.Prelude.{ℕ, ◌+◌, ◌*◌, ◌/◌, ◌^◌, Bool, true, false, cond, List, length, get_or, eqb, ltb, ℤ, pos}
-use Rattle.std.proofs.Math.Option.{Option, none, some}
+use Rattle.std.specs.Prelude.{Option, None, Some}
 use Rattle.cell.specs.Ticks.{off}
 use Rattle.table.specs.Slots.{counted}
 use Rattle.sound_net.specs.Nets.{nodeCount, layerAt, componentAt, fromAt, to_at}
@@ -24,8 +24,8 @@ lastKey ks k = lastBelow (λ i. eqb (key ks i) k) (length ks)
 
 -- the last index whose key is made of j and v
 abbrev pub lastIn : List ℕ → Option ℕ → ℕ → Option ℕ
-lastIn ks none v = none
-lastIn ks (some j) v = lastKey ks (j * wide + v)
+lastIn ks None v = None
+lastIn ks (Some j) v = lastKey ks (j * wide + v)
 
 -- layer and component in one number, where a leaf's own are looked for
 abbrev pub classKey : Bool → ℤ → ℤ → ℕ

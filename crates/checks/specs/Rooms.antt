@@ -1,6 +1,6 @@
 -- The row of work room: three blocks of nodes and one of edges, each of keys, their order, and for each index the last one of equal key.
 use Rattle.std.specs.Prelude.{ℕ, ◌+◌, ◌*◌, ◌/◌, ◌<◌, ◌≤◌, ◌≡◌, Bool, ◌&&◌, cond, List, length, replicate, leb, ℤ}
-use Rattle.std.proofs.Math.Option.{Option, none, some}
+use Rattle.std.specs.Prelude.{Option, None, Some}
 use Rattle.sound_net.specs.Nets.{nodeCount}
 use Rattle.sound_net.specs.Facts.{SoundNode, SoundEdge}
 use Rattle.rows.specs.Order.{ordered, last_of}
@@ -50,5 +50,5 @@ pub record Walkable (n : ℕ) (ends w : List ℕ) : Type 0 where
 
 -- an index, where there is one, is below n
 abbrev pub Low : ℕ → Option ℕ → Type 0
-Low n none = Unit
-Low n (some j) = j < n
+Low n None = Unit
+Low n (Some j) = j < n

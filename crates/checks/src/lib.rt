@@ -10,7 +10,7 @@ ghost use Rattle.table.specs.Slots.{cell_at, counted};
 ghost use Rattle.table.specs.Formed.{wellFormed};
 ghost use Rattle.sound_net.specs.Nets.{netOf, nodeCount, layerAt, componentAt, soundNet};
 ghost use Rattle.sound_net.specs.Facts.{SoundNode, SoundEdge};
-ghost use Rattle.conforming.specs.Nodes.{place_of, joined};
+ghost use Rattle.conforming.specs.Nodes.{joined};
 ghost use Rattle.conforming.specs.Checks.{firstFault, polygonsFit, faultOf, checkedSaid, conformingSays, layersSays};
 ghost use Rattle.rows.specs.Order.{last_of};
 ghost use Rattle.rows.specs.Parts.{part, put, tab};
@@ -20,7 +20,7 @@ ghost use Rattle.checks.specs.Rooms.{roomy, workRow, Block, Made, Ranged, Indexe
 ghost use Rattle.checks.specs.Walks.{side_in, sidesIn, leafIn, Near, Placed, ownFault, ownFit, passes, ownSays};
 
 use cell::Cell;
-use conforming::{Checked, Fault, Place};
+use conforming::Fault;
 use refusals::Refusal;
 use table::Head;
 
@@ -30,9 +30,11 @@ const WIDE: u64 = 274877906944;
 const NODES: usize = 67108864;
 
 // The last index whose key is k, by halving. Internal: the keys stand in a block, with their order.
-fn find(work: &[u64], at: usize, n: usize, k: u64) -> Place
+#[tactic(auto, using(crate::proofs::Halving::halved))]
+fn find(work: &[u64], at: usize, n: usize, k: u64) -> Option<usize>
     requires { Block (part work.now at n) work.now at n }
-    ensures { place_of result ≡ lastKey (part work.now at n) k }
+    ensures found { result ≡ lastKey (part work.now at n) k }
+    ensures low { Low n result }
 {
     let order = at + n;
     let mut low = 0;
@@ -47,36 +49,35 @@ fn find(work: &[u64], at: usize, n: usize, k: u64) -> Place
         }
     }
     if low == 0 {
-        return Place::Nowhere;
+        return None;
     }
     let j = work[order + (low - 1)] as usize;
     if work[at + j] == k {
-        return Place::Node(j);
+        return Some(j);
     }
-    Place::Nowhere
+    None
 }
 
 // The same within what was found before. Internal: an index and a coordinate make a key.
-fn find_in(work: &[u64], at: usize, n: usize, outer: Place, v: u64) -> Place
+fn find_in(work: &[u64], at: usize, n: usize, outer: Option<usize>, v: u64) -> Option<usize>
     requires block { Block (part work.now at n) work.now at n }
-    requires n_le_max_nodes { (n ≤ maxNodes) × (v < wide) × Low n (place_of outer) }
-    ensures { place_of result ≡ lastIn (part work.now at n) (place_of outer) v }
+    requires few { n ≤ maxNodes }
+    requires narrow { v < wide }
+    requires outer_low { Low n outer }
+    ensures found { result ≡ lastIn (part work.now at n) outer v }
+    ensures low { Low n result }
 {
-    let Place::Node(j) = outer else {
-        return Place::Nowhere;
-    };
+    let j = outer?;
     find(work, at, n, j as u64 * WIDE + v)
 }
 
 // Two nodes in one number. Internal: a node of the net is below NODES.
+#[tactic(auto, unfolding(crate::specs::Keys::pairKey))]
 fn pair_key(a: usize, b: usize) -> u64
     requires { (a < maxNodes) × (b < maxNodes) }
     ensures { result ≡ pairKey a b }
 {
-    if a < b {
-        return a as u64 * WIDE + b as u64;
-    }
-    b as u64 * WIDE + a as u64
+    a.min(b) as u64 * WIDE + a.max(b) as u64
 }
 
 // Whether an edge joins two nodes. Internal: the edges stand in the row, behind n nodes.
@@ -85,38 +86,35 @@ fn are_joined(ends: &[u64], work: &[u64], n: usize, a: usize, b: usize) -> bool
     requires a_lt_n { (a < n) × (b < n) }
     ensures { result ≡ joined ends.now a b }
 {
-    let found = find(work, 9 * n, ends.len() / 2, pair_key(a, b));
-    if let Place::Node(_) = found {
-        return true;
-    }
-    false
+    find(work, 9 * n, ends.len() / 2, pair_key(a, b)).is_some()
 }
 
 // The edge from a to b with the middle m, each a column and a height in it. Internal, as all that walks along the sides: the row is indexed.
+#[tactic(auto, unfolding(crate::specs::Walks::side_in, conforming::specs::Checks::fault))]
 fn side_fault(
     ends: &[u64],
     work: &[u64],
     n: usize,
-    a: Place,
+    a: Option<usize>,
     ay: u64,
-    b: Place,
+    b: Option<usize>,
     by: u64,
-    m: Place,
+    m: Option<usize>,
     my: u64,
 ) -> Fault
     requires walkable { Walkable n ends.now work.now }
-    requires low { Low n (place_of a) × Low n (place_of b) × Low n (place_of m) }
+    requires low { Low n a × Low n b × Low n m }
     requires ay_lt_wide { (ay < wide) × (by < wide) × (my < wide) }
-    ensures { faultOf result ≡ side_in ends.now (part work.now (6 * n) n) (place_of a) ay (place_of b) by (place_of m) my }
+    ensures { faultOf result ≡ side_in ends.now (part work.now (6 * n) n) a ay b by m my }
 {
     let at = 6 * n;
-    let Place::Node(middle) = find_in(work, at, n, m, my) else {
+    let Some(middle) = find_in(work, at, n, m, my) else {
         return Fault::Clear;
     };
-    let Place::Node(from) = find_in(work, at, n, a, ay) else {
+    let Some(from) = find_in(work, at, n, a, ay) else {
         return Fault::Clear;
     };
-    let Place::Node(to) = find_in(work, at, n, b, by) else {
+    let Some(to) = find_in(work, at, n, b, by) else {
         return Fault::Clear;
     };
     if are_joined(ends, work, n, from, middle) & are_joined(ends, work, n, middle, to) {
@@ -126,21 +124,22 @@ fn side_fault(
 }
 
 // The four edges of a leaf: south, east, north, west, walked anticlockwise.
+#[tactic(auto, unfolding(crate::specs::Walks::sidesIn))]
 fn sides_fault(
     ends: &[u64],
     work: &[u64],
     n: usize,
-    west: Place,
-    east: Place,
-    middle: Place,
+    west: Option<usize>,
+    east: Option<usize>,
+    middle: Option<usize>,
     south: u64,
     north: u64,
     my: u64,
 ) -> Fault
     requires walkable { Walkable n ends.now work.now }
-    requires low { Low n (place_of west) × Low n (place_of east) × Low n (place_of middle) }
+    requires low { Low n west × Low n east × Low n middle }
     requires south_lt_wide { (south < wide) × (north < wide) × (my < wide) }
-    ensures { faultOf result ≡ sidesIn ends.now (part work.now (6 * n) n) (place_of west) (place_of east) (place_of middle) south north my }
+    ensures { faultOf result ≡ sidesIn ends.now (part work.now (6 * n) n) west east middle south north my }
 {
     let first = side_fault(ends, work, n, west, south, east, south, middle, south);
     let Fault::Clear = first else {
@@ -158,10 +157,12 @@ fn sides_fault(
 }
 
 // A leaf among the nodes of a class.
-fn leaf_fault(ends: &[u64], work: &[u64], n: usize, class: Place, c: Cell) -> Fault
+#[tactic(auto, unfolding(crate::specs::Walks::leafIn))]
+fn leaf_fault(ends: &[u64], work: &[u64], n: usize, class: Option<usize>, c: Cell) -> Fault
     requires walkable { Walkable n ends.now work.now }
-    requires low { Low n (place_of class) × Near c }
-    ensures { faultOf result ≡ leafIn ends.now (part work.now (3 * n) n) (part work.now (6 * n) n) (place_of class) c }
+    requires low { Low n class }
+    requires near { Near c }
+    ensures { faultOf result ≡ leafIn ends.now (part work.now (3 * n) n) (part work.now (6 * n) n) class c }
 {
     let at = 3 * n;
     let m = c.midpoint();
@@ -172,17 +173,20 @@ fn leaf_fault(ends: &[u64], work: &[u64], n: usize, class: Place, c: Cell) -> Fa
 }
 
 // Layer and component of polygon p in one number, where a leaf's own are looked for. Internal: then the polygon stands in the rows.
+#[tactic(auto, unfolding(table::specs::Slots::counted))]
 fn class_of(own: bool, layers: &[u16], components: &[u32], p: usize) -> u64
     requires { Placed own layers.now components.now p }
     ensures { result ≡ classOf own layers.now components.now p }
 {
     if own {
-        return layers[p] as u64 * WIDE + components[p] as u64;
+        u64::from(layers[p]) * WIDE + u64::from(components[p])
+    } else {
+        0
     }
-    0
 }
 
 // Cell i, where it is a leaf. Internal: it stands in the table.
+#[tactic(auto, unfolding(crate::specs::Walks::ownFault, conforming::specs::Checks::cellFault, table::specs::Leaves::leafAt))]
 fn cell_fault(
     t: &[i64],
     nodes: &[i64],
@@ -209,6 +213,7 @@ fn cell_fault(
 }
 
 // The first fault of the leaves by id. Internal: the cells stand in the table.
+#[tactic(auto, unfolding(conforming::specs::Checks::firstFault))]
 fn walk(
     t: &[i64],
     n: usize,
@@ -224,25 +229,21 @@ fn walk(
     requires by_index { (i : ℕ) → i < n → Placed own layers.now components.now (cell_at t.now i).poly }
     ensures { faultOf result ≡ firstFault (ownFault own t.now nodes.now ends.now layers.now components.now) n }
 {
-    let mut i = 0usize;
-    while i < n {
+    for i in 0..n {
         let fault = cell_fault(t, nodes, ends, own, layers, components, work, i);
-        if let Fault::Hanging(m, a, b) = fault {
-            return Fault::Hanging(m, a, b);
+        if let Fault::Hanging(..) = fault {
+            return fault;
         }
-        i += 1;
     }
     Fault::Clear
 }
 
 // A number that is not negative, and 0 for one that is.
+#[tactic(auto, unfolding(table::specs::Slots::counted))]
 fn natural(z: i64) -> u64
     ensures { result ≡ counted z }
 {
-    if z < 0 {
-        return 0;
-    }
-    z as u64
+    z.max(0) as u64
 }
 
 // Layer and component of node i in one number, where a leaf's own are looked for. Internal: the node stands in the row.
@@ -253,22 +254,21 @@ fn class_key(own: bool, nodes: &[i64], i: usize) -> u64
 {
     let at = i * 4;
     if own {
-        return natural(nodes[at]) * WIDE + natural(nodes[at + 1]);
+        natural(nodes[at]) * WIDE + natural(nodes[at + 1])
+    } else {
+        0
     }
-    0
 }
 
 // The keys of the classes. Internal: there is room.
+#[tactic(auto, unfolding(crate::specs::Keys::classKeys))]
 fn put_classes(own: bool, nodes: &[i64], work: &mut [u64])
     requires nodes_in_bounds { nodeCount nodes.now ≤ length work.old }
     requires by_index { (i : ℕ) → i < nodeCount nodes.now → SoundNode nodes.now i }
     ensures { work.new ≡ put work.old 0 (classKeys own nodes.now) }
 {
-    let n = nodes.len() / 4;
-    let mut i = 0;
-    while i < n {
+    for i in 0..nodes.len() / 4 {
         work[i] = class_key(own, nodes, i);
-        i += 1;
     }
 }
 
@@ -280,28 +280,23 @@ fn put_finer(nodes: &[i64], f: usize, work: &mut [u64], from: usize, to: usize)
     requires small { Small maxNodes (part work.old from (nodeCount nodes.now)) }
     ensures { work.new ≡ put work.old to (tab (λ i. get_or work.old (from + i) 0 * wide + off (get_or nodes.now (i * 4 + f) (pos 0))) (nodeCount nodes.now)) }
 {
-    let n = nodes.len() / 4;
-    let mut i = 0;
-    while i < n {
+    for i in 0..nodes.len() / 4 {
         let v = cell::ticks::offset(nodes[i * 4 + f]);
         work[to + i] = work[from + i] * WIDE + v;
-        i += 1;
     }
 }
 
 // The keys of the edges, from `at` on. Internal: there is room.
+#[tactic(auto, unfolding(crate::specs::Keys::pairKeys))]
 fn put_pairs(ends: &[u64], work: &mut [u64], at: usize)
     requires ends_in_bounds { at + length ends.now / 2 ≤ length work.old }
     requires by_index { (e : ℕ) → e < length ends.now / 2 → SoundEdge maxNodes ends.now e }
     ensures { work.new ≡ put work.old at (pairKeys ends.now) }
 {
-    let edges = ends.len() / 2;
-    let mut e = 0;
-    while e < edges {
+    for e in 0..ends.len() / 2 {
         let from = ends[e * 2] as usize;
         let to = ends[e * 2 + 1] as usize;
         work[at + e] = pair_key(from, to);
-        e += 1;
     }
 }
 
@@ -363,24 +358,20 @@ fn polygons_fit(own: bool, t: &[i64], n: usize, layers: &[u16], components: &[u3
     requires { n * 8 ≤ length t.now }
     ensures { result ≡ ownFit own t.now n layers.now components.now }
 {
-    if own {
-        return conforming::polygons_fit(t, n, layers, components);
-    }
-    true
+    !own || conforming::polygons_fit(t, n, layers, components)
 }
 
 // Whether the room is long enough for the quick walk, and the nodes are few enough.
+#[tactic(auto, unfolding(crate::specs::Rooms::roomy))]
 fn has_room(nodes: &[i64], ends: &[u64], work: &[u64]) -> bool
     ensures { result ≡ roomy (nodeCount nodes.now) (length ends.now / 2) (length work.now) }
 {
     let n = nodes.len() / 4;
-    if NODES < n {
-        return false;
-    }
-    9 * n + 3 * (ends.len() / 2) <= work.len()
+    n <= NODES && 9 * n + 3 * (ends.len() / 2) <= work.len()
 }
 
 // Both checks, by the quick walk. Internal: there is room for it.
+#[tactic(auto, unfolding(crate::specs::Walks::ownSays, crate::specs::Walks::passes, crate::specs::Rooms::workRow))]
 fn check(
     own: bool,
     t: &[i64],
@@ -393,27 +384,26 @@ fn check(
     layers: &[u16],
     components: &[u32],
     work: &mut [u64],
-) -> Checked
+) -> Result<Fault, Refusal>
     requires { roomy (nodeCount nodes.now) (length ends.now / 2) (length work.old) ≡ true }
-    ensures { (checkedSaid result ≡ ownSays own t.now head.count head.max_level (netOf nodes.now ends.now conductances.now corners.now sheets.now) layers.now components.now) × (work.new ≡ workRow (nodeCount nodes.now) (length ends.now / 2) (passes own t.now head.count head.max_level (netOf nodes.now ends.now conductances.now corners.now sheets.now) layers.now components.now) work.old) }
+    ensures said { checkedSaid result ≡ ownSays own t.now head.count head.max_level (netOf nodes.now ends.now conductances.now corners.now sheets.now) layers.now components.now }
+    ensures work_after { work.new ≡ workRow (nodeCount nodes.now) (length ends.now / 2) (passes own t.now head.count head.max_level (netOf nodes.now ends.now conductances.now corners.now sheets.now) layers.now components.now) work.old }
 {
     let n = head.count;
-    if !table::formed::well_formed(t, head) {
-        return Checked::Refused(Refusal::BadTable);
-    }
-    if !sound_net::is_sound(nodes, ends, conductances, corners, sheets) {
-        return Checked::Refused(Refusal::BadTable);
-    }
-    if !polygons_fit(own, t, n, layers, components) {
-        return Checked::Refused(Refusal::BadTable);
+    if !table::formed::well_formed(t, head)
+        || !sound_net::is_sound(nodes, ends, conductances, corners, sheets)
+        || !polygons_fit(own, t, n, layers, components)
+    {
+        return Err(Refusal::BadTable);
     }
     index(own, nodes, ends, work);
     let fault = walk(t, n, nodes, ends, own, layers, components, work);
-    rows::clear(work);
-    conforming::answer(fault)
+    work.fill(0);
+    Ok(fault)
 }
 
 // check_network_conforming of document 01. Refuses 7 only: a bad table or a bad net.
+#[tactic(auto, unfolding(crate::specs::Rooms::workRow, crate::specs::Walks::ownSays, crate::specs::Walks::passes, crate::specs::Walks::ownFault, conforming::specs::Checks::conformingSays, conforming::specs::Checks::netFault))]
 pub fn check_network_conforming(
     t: &[i64],
     head: Head,
@@ -423,7 +413,7 @@ pub fn check_network_conforming(
     corners: &[u64],
     sheets: &[f64],
     work: &mut [u64],
-) -> Checked
+) -> Result<Fault, Refusal>
     ensures result_value { checkedSaid result ≡ conformingSays t.now head.count head.max_level (netOf nodes.now ends.now conductances.now corners.now sheets.now) }
     ensures work_after { work.new ≡ workRow (nodeCount nodes.now) (length ends.now / 2) (wellFormed t.now head.count head.max_level && soundNet (netOf nodes.now ends.now conductances.now corners.now sheets.now)) work.old }
 {
@@ -456,6 +446,7 @@ pub fn check_network_conforming(
 }
 
 // The by-layer check: nodes of the leaf's own layer and component. Refuses 7 for the polygons too.
+#[tactic(auto, unfolding(crate::specs::Rooms::workRow, crate::specs::Walks::ownSays, crate::specs::Walks::passes, crate::specs::Walks::ownFault, conforming::specs::Checks::layersSays, conforming::specs::Checks::layerFault))]
 pub fn check_by_layer(
     t: &[i64],
     head: Head,
@@ -467,7 +458,7 @@ pub fn check_by_layer(
     layers: &[u16],
     components: &[u32],
     work: &mut [u64],
-) -> Checked
+) -> Result<Fault, Refusal>
     ensures result_value { checkedSaid result ≡ layersSays t.now head.count head.max_level (netOf nodes.now ends.now conductances.now corners.now sheets.now) layers.now components.now }
     ensures work_after { work.new ≡ workRow (nodeCount nodes.now) (length ends.now / 2) (wellFormed t.now head.count head.max_level && soundNet (netOf nodes.now ends.now conductances.now corners.now sheets.now) && polygonsFit t.now head.count layers.now components.now) work.old }
 {

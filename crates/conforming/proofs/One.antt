@@ -2,23 +2,24 @@
 use Prim.Native.Nat.{ℕ}
 use mathlib.Core.Path.{◌≡◌, refl}
 use mathlib.Core.List.{List, [], ◌∷◌}
+use Rattle.std.specs.Prelude.{Result}
+use Rattle.refusals.specs.declared.Refusal.{Refusal}
 use Rattle.refusals.specs.Said.{Said}
-use Rattle.refusals.proofs.Settled.{settled, answer, answer-refused}
-use Rattle.conforming.specs.declared.Checked.{Checked}
-use Rattle.conforming.specs.declared.Checked.TheVariants.{Conforms, Broken, Refused}
-use Rattle.conforming.specs.Checks.{checkedSaid}
+use Rattle.refusals.proofs.Settled.{one-said}
+use Rattle.conforming.specs.declared.Fault.{Fault}
+use Rattle.conforming.specs.declared.Fault.TheVariants.{Clear, Hanging}
+use Rattle.conforming.specs.Checks.{faultOf, checkedSaid}
 
-abbrev told : List ℕ → Checked
-told [] = Conforms
-told (m ∷ []) = Conforms
-told (m ∷ a ∷ []) = Conforms
-told (m ∷ a ∷ b ∷ vs) = Broken m a b
+abbrev told : List ℕ → Fault
+told [] = Clear
+told (m ∷ []) = Clear
+told (m ∷ a ∷ []) = Clear
+told (m ∷ a ∷ b ∷ vs) = Hanging m a b
 
 -- whatever is to be said, one answer says it
-pub one-check : (what : Said) (r q : Checked) → checkedSaid r ≡ what → checkedSaid q ≡ what → r ≡ q
-one-check what = settled checkedSaid (answer told Refused) back what
+pub one-check : (what : Said) (r q : Result Fault Refusal) → checkedSaid r ≡ what → checkedSaid q ≡ what → r ≡ q
+one-check = one-said faultOf told back
   where
-    back : (r : Checked) → answer told Refused (checkedSaid r) ≡ r
-    back Conforms = refl
-    back (Broken m a b) = refl
-    back (Refused x) = answer-refused told Refused x
+    back : (r : Fault) → told (faultOf r) ≡ r
+    back Clear = refl
+    back (Hanging m a b) = refl

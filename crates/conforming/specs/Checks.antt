@@ -1,7 +1,7 @@
 -- Document 01's `check_network_conforming` and by-layer check. A fault is none, [], or a node and the two ends of the edge that it hangs on.
-use Rattle.std.specs.Prelude.{ℕ, zero, suc, Bool, ◌&&◌, cond, List, [], ◌∷◌, length, ltb, eqb, ℤ}
-use Rattle.std.proofs.Math.Option.{Option, none, some}
-use Rattle.refusals.specs.Said.{Said, accepted, refused, refusal}
+use Rattle.std.specs.Prelude.{ℕ, zero, suc, Bool, ◌&&◌, cond, List, [], ◌∷◌, length, ltb, eqb, ℤ, Option, None, Some, Result}
+use Rattle.refusals.specs.declared.Refusal.{Refusal}
+use Rattle.refusals.specs.Said.{Said, accepted, refused, said}
 use Rattle.cell.specs.declared.Cell.{Cell}
 use Rattle.cell.specs.Boxes.{mid}
 use Rattle.cell.specs.Ticks.{on}
@@ -12,16 +12,14 @@ use Rattle.sound_net.specs.Nets.{Net, all_below, soundNet}
 use Rattle.conforming.specs.declared.Whose.{Whose}
 use Rattle.conforming.specs.declared.Fault.{Fault}
 use Rattle.conforming.specs.declared.Fault.TheVariants.{Clear, Hanging}
-use Rattle.conforming.specs.declared.Checked.{Checked}
-use Rattle.conforming.specs.declared.Checked.TheVariants.{Conforms, Broken, Refused}
 use Rattle.conforming.specs.Nodes.{anyNode, nodesOf, nodeAt, joined}
 
 -- "An edge without a node at both ends and at its middle is passed over"; one whose midpoint node lacks a half is a fault
 unfoldable pub fault : List ℕ → Option ℕ → Option ℕ → Option ℕ → List ℕ
-fault ends none a b = []
-fault ends (some m) none b = []
-fault ends (some m) (some a) none = []
-fault ends (some m) (some a) (some b) = cond (joined ends a m && joined ends m b) [] (m ∷ a ∷ b ∷ [])
+fault ends None a b = []
+fault ends (Some m) None b = []
+fault ends (Some m) (Some a) None = []
+fault ends (Some m) (Some a) (Some b) = cond (joined ends a m && joined ends m b) [] (m ∷ a ∷ b ∷ [])
 
 -- the leaf edge from a to b with the middle m, each an x and a y. Request 5 of the further requests puts another definition in its place in the by-layer check
 unfoldable pub chain : List ℤ → List ℕ → Whose → ℤ → ℤ → ℤ → ℤ → ℤ → ℤ → List ℕ
@@ -66,15 +64,13 @@ unfoldable pub polygonsFit : List ℤ → ℕ → List ℕ → List ℕ → Bool
 polygonsFit t n layers components =
     eqb (length layers) (length components) && all_below (λ i. ltb (cell_at t i).poly (length layers)) n
 
--- an answer's values: none, or the node and the two ends
+-- the values of an answer: none, or the node and the two ends
 abbrev pub faultOf : Fault → List ℕ
 faultOf Clear = []
 faultOf (Hanging m a b) = m ∷ a ∷ b ∷ []
 
-abbrev pub checkedSaid : Checked → Said
-checkedSaid Conforms = accepted []
-checkedSaid (Broken m a b) = accepted (m ∷ a ∷ b ∷ [])
-checkedSaid (Refused x) = refusal x
+abbrev pub checkedSaid : Result Fault Refusal → Said
+checkedSaid = said faultOf
 
 -- "The checks: 7 only"
 unfoldable pub conformingSays : List ℤ → ℕ → ℕ → Net → Said

@@ -1,10 +1,7 @@
 -- Nodes by their place, and edges by their ends.
-use Rattle.std.specs.Prelude.{ℕ, zero, suc, ◌/◌, Bool, true, false, not, ◌&&◌, ◌||◌, cond, List, length, get_or, eqb, ℤ, pos}
-use Rattle.std.proofs.Math.Option.{Option, none, some}
+use Rattle.std.specs.Prelude.{ℕ, zero, suc, ◌/◌, Bool, true, false, not, ◌&&◌, ◌||◌, cond, List, length, get_or, eqb, ℤ, pos, Option, None, Some}
 use Rattle.sound_net.specs.Nets.{eqZ, nodeCount, layerAt, componentAt, xAt, yAt, fromAt, to_at}
 use Rattle.conforming.specs.declared.Whose.{Whose}
-use Rattle.conforming.specs.declared.Place.{Place}
-use Rattle.conforming.specs.declared.Place.TheVariants.{Node, Nowhere}
 
 -- every node will do
 abbrev pub anyNode : Whose
@@ -27,17 +24,12 @@ anyBelow p (suc n) = anyBelow p n || p n
 
 -- the last index below n that passes a test
 unfoldable pub lastBelow : (ℕ → Bool) → ℕ → Option ℕ
-lastBelow p zero = none
-lastBelow p (suc n) = cond (p n) (some n) (lastBelow p n)
+lastBelow p zero = None
+lastBelow p (suc n) = cond (p n) (Some n) (lastBelow p n)
 
 -- "the last one winning"
 abbrev pub nodeAt : List ℤ → Whose → ℤ → ℤ → Option ℕ
 nodeAt nodes w x y = lastBelow (here nodes w x y) (nodeCount nodes)
-
--- what the code answers for it
-abbrev pub place_of : Place → Option ℕ
-place_of (Node n) = some n
-place_of Nowhere = none
 
 -- edge e joins a and b, one way or the other
 unfoldable pub joins : List ℕ → ℕ → ℕ → ℕ → Bool

@@ -4,10 +4,9 @@
 #![tactic(auto)]
 
 ghost use Rattle.std.specs.Prelude.{◌≡◌, ℕ, ◌+◌, ◌*◌, ◌/◌, ◌<◌, ◌≤◌, length, ltb};
-ghost use Rattle.refusals.specs.Said.{accepted};
 ghost use Rattle.table.specs.Slots.{cell_at};
 ghost use Rattle.sound_net.specs.Nets.{netOf, all_below};
-ghost use Rattle.conforming.specs.Nodes.{anyNode, nodesOf, here, nodeAt, place_of, joins, joined};
+ghost use Rattle.conforming.specs.Nodes.{anyNode, nodesOf, here, nodeAt, joins, joined};
 ghost use Rattle.conforming.specs.Checks.{chain, sidesFault, leafFault, cellFault, netFault, layerFault, polygonsFit, faultOf, checkedSaid, conformingSays, layersSays};
 
 use cell::Cell;
@@ -22,24 +21,18 @@ pub struct Whose {
     pub component: i64,
 }
 
-#[derive(Clone, Copy)]
-pub enum Place {
-    Node(usize),
-    Nowhere,
-}
+// Every node will do.
+const ANY_NODE: Whose = Whose {
+    own: false,
+    layer: 0,
+    component: 0,
+};
 
 // A node that lacks a half, and the two ends of the leaf edge.
 #[derive(Clone, Copy)]
 pub enum Fault {
     Clear,
     Hanging(usize, usize, usize),
-}
-
-#[derive(Clone, Copy)]
-pub enum Checked {
-    Conforms,
-    Broken(usize, usize, usize),
-    Refused(Refusal),
 }
 
 // Internal: the node stands in the row.
@@ -58,20 +51,20 @@ fn is_here(nodes: &[i64], whose: Whose, x: i64, y: i64, n: usize) -> bool
 }
 
 // The last node at a place.
-fn node_at(nodes: &[i64], whose: Whose, x: i64, y: i64) -> Place
-    ensures { place_of result ≡ nodeAt nodes.now whose x y }
+#[tactic(auto, unfolding(crate::specs::Nodes::lastBelow))]
+fn node_at(nodes: &[i64], whose: Whose, x: i64, y: i64) -> Option<usize>
+    ensures { result ≡ nodeAt nodes.now whose x y }
 {
-    let mut n = nodes.len() / 4;
-    while 0 < n {
-        n -= 1;
+    for n in (0..nodes.len() / 4).rev() {
         if is_here(nodes, whose, x, y, n) {
-            return Place::Node(n);
+            return Some(n);
         }
     }
-    Place::Nowhere
+    None
 }
 
 // Internal: the edge stands in the row.
+#[tactic(auto, unfolding(crate::specs::Nodes::joins))]
 fn edge_joins(ends: &[u64], a: usize, b: usize, e: usize) -> bool
     requires { e * 2 + 2 ≤ length ends.now }
     ensures { result ≡ joins ends.now a b e }
@@ -83,21 +76,20 @@ fn edge_joins(ends: &[u64], a: usize, b: usize, e: usize) -> bool
 }
 
 // Whether an edge joins two nodes.
+#[tactic(auto, unfolding(crate::specs::Nodes::anyBelow))]
 fn are_joined(ends: &[u64], a: usize, b: usize) -> bool
     ensures { result ≡ joined ends.now a b }
 {
-    let edges = ends.len() / 2;
-    let mut e = 0usize;
-    while e < edges {
+    for e in 0..ends.len() / 2 {
         if edge_joins(ends, a, b, e) {
             return true;
         }
-        e += 1;
     }
     false
 }
 
 // The leaf edge from (ax, ay) to (bx, by) with the middle (mx, my).
+#[tactic(auto, unfolding(crate::specs::Checks::chain, crate::specs::Checks::fault))]
 fn side_fault(
     nodes: &[i64],
     ends: &[u64],
@@ -111,13 +103,13 @@ fn side_fault(
 ) -> Fault
     ensures { faultOf result ≡ chain nodes.now ends.now whose ax ay bx by mx my }
 {
-    let Place::Node(m) = node_at(nodes, whose, mx, my) else {
+    let Some(m) = node_at(nodes, whose, mx, my) else {
         return Fault::Clear;
     };
-    let Place::Node(a) = node_at(nodes, whose, ax, ay) else {
+    let Some(a) = node_at(nodes, whose, ax, ay) else {
         return Fault::Clear;
     };
-    let Place::Node(b) = node_at(nodes, whose, bx, by) else {
+    let Some(b) = node_at(nodes, whose, bx, by) else {
         return Fault::Clear;
     };
     if are_joined(ends, a, m) & are_joined(ends, m, b) {
@@ -127,6 +119,7 @@ fn side_fault(
 }
 
 // The four edges of a leaf: south, east, north, west, walked anticlockwise.
+#[tactic(auto, unfolding(crate::specs::Checks::sidesFault))]
 fn sides_fault(
     nodes: &[i64],
     ends: &[u64],
@@ -155,6 +148,7 @@ fn sides_fault(
     side_fault(nodes, ends, whose, west, north, west, south, west, my)
 }
 
+#[tactic(auto, unfolding(crate::specs::Checks::leafFault))]
 fn leaf_fault(nodes: &[i64], ends: &[u64], whose: Whose, c: Cell) -> Fault
     ensures { faultOf result ≡ leafFault nodes.now ends.now whose c }
 {
@@ -169,6 +163,7 @@ fn leaf_fault(nodes: &[i64], ends: &[u64], whose: Whose, c: Cell) -> Fault
 }
 
 // Internal: the cell stands in the table.
+#[tactic(auto, unfolding(crate::specs::Checks::cellFault, table::specs::Leaves::leafAt))]
 fn cell_fault(t: &[i64], nodes: &[i64], ends: &[u64], whose: Whose, i: usize) -> Fault
     requires { i * 8 + 8 ≤ length t.now }
     ensures { faultOf result ≡ cellFault t.now nodes.now ends.now whose i }
@@ -180,48 +175,35 @@ fn cell_fault(t: &[i64], nodes: &[i64], ends: &[u64], whose: Whose, i: usize) ->
     leaf_fault(nodes, ends, whose, c)
 }
 
-// Every node will do.
-fn any_node() -> Whose
-    ensures { result ≡ anyNode }
-{
-    Whose {
-        own: false,
-        layer: 0,
-        component: 0,
-    }
-}
-
 // The nodes of polygon p's layer and component. Internal: the polygon stands in the rows.
 fn nodes_of(layers: &[u16], components: &[u32], p: usize) -> Whose
     requires { (p < length layers.now) × (p < length components.now) }
     ensures { result ≡ nodesOf layers.now components.now p }
 {
-    let layer = layers[p];
-    let component = components[p];
     Whose {
         own: true,
-        layer: layer as i64,
-        component: component as i64,
+        layer: i64::from(layers[p]),
+        component: i64::from(components[p]),
     }
 }
 
 // The first fault of the leaves by id. Internal: the cells stand in the table.
+#[tactic(auto, unfolding(crate::specs::Checks::netFault, crate::specs::Checks::firstFault))]
 fn net_fault(t: &[i64], n: usize, nodes: &[i64], ends: &[u64]) -> Fault
     requires { n * 8 ≤ length t.now }
     ensures { faultOf result ≡ netFault t.now n nodes.now ends.now }
 {
-    let mut i = 0usize;
-    while i < n {
-        let fault = cell_fault(t, nodes, ends, any_node(), i);
-        if let Fault::Hanging(m, a, b) = fault {
-            return Fault::Hanging(m, a, b);
+    for i in 0..n {
+        let fault = cell_fault(t, nodes, ends, ANY_NODE, i);
+        if let Fault::Hanging(..) = fault {
+            return fault;
         }
-        i += 1;
     }
     Fault::Clear
 }
 
 // The same by layer. Internal: the cells stand in the table, and their polygons in the rows.
+#[tactic(auto, unfolding(crate::specs::Checks::layerFault, crate::specs::Checks::firstFault))]
 fn layer_fault(
     t: &[i64],
     n: usize,
@@ -233,14 +215,12 @@ fn layer_fault(
     requires { (n * 8 ≤ length t.now) × (length layers.now ≡ length components.now) × ((i : ℕ) → i < n → (cell_at t.now i).poly < length layers.now) }
     ensures { faultOf result ≡ layerFault t.now n nodes.now ends.now layers.now components.now }
 {
-    let mut i = 0usize;
-    while i < n {
+    for i in 0..n {
         let p = table::slots::poly_at(t, i) as usize;
         let fault = cell_fault(t, nodes, ends, nodes_of(layers, components, p), i);
-        if let Fault::Hanging(m, a, b) = fault {
-            return Fault::Hanging(m, a, b);
+        if let Fault::Hanging(..) = fault {
+            return fault;
         }
-        i += 1;
     }
     Fault::Clear
 }
@@ -250,26 +230,11 @@ fn polygons_below(t: &[i64], n: usize, count: usize) -> bool
     requires { n * 8 ≤ length t.now }
     ensures { result ≡ all_below (λ i. ltb (cell_at t.now i).poly count) n }
 {
-    let mut below = true;
-    let mut i = 0usize;
-    while i < n {
-        below = below & (table::slots::poly_at(t, i) < count as u64);
-        i += 1;
-    }
-    below
-}
-
-// What a check answers.
-pub fn answer(fault: Fault) -> Checked
-    ensures { checkedSaid result ≡ accepted (faultOf fault) }
-{
-    match fault {
-        Fault::Clear => Checked::Conforms,
-        Fault::Hanging(m, a, b) => Checked::Broken(m, a, b),
-    }
+    (0..n).all(|i| table::slots::poly_at(t, i) < count as u64)
 }
 
 // Whether the rows of the polygons are of one length, and no cell names a polygon past the last. Internal: the cells stand in the table.
+#[tactic(auto, unfolding(crate::specs::Checks::polygonsFit))]
 pub fn polygons_fit(t: &[i64], n: usize, layers: &[u16], components: &[u32]) -> bool
     requires { n * 8 ≤ length t.now }
     ensures { result ≡ polygonsFit t.now n layers.now components.now }
@@ -278,6 +243,7 @@ pub fn polygons_fit(t: &[i64], n: usize, layers: &[u16], components: &[u32]) -> 
 }
 
 // check_network_conforming of document 01. Refuses 7 only: a bad table or a bad net.
+#[tactic(auto, unfolding(crate::specs::Checks::conformingSays))]
 pub fn check_network_conforming(
     t: &[i64],
     head: Head,
@@ -286,19 +252,19 @@ pub fn check_network_conforming(
     conductances: &[f64],
     corners: &[u64],
     sheets: &[f64],
-) -> Checked
+) -> Result<Fault, Refusal>
     ensures { checkedSaid result ≡ conformingSays t.now head.count head.max_level (netOf nodes.now ends.now conductances.now corners.now sheets.now) }
 {
-    if !table::formed::well_formed(t, head) {
-        return Checked::Refused(Refusal::BadTable);
+    if !table::formed::well_formed(t, head)
+        || !sound_net::is_sound(nodes, ends, conductances, corners, sheets)
+    {
+        return Err(Refusal::BadTable);
     }
-    if !sound_net::is_sound(nodes, ends, conductances, corners, sheets) {
-        return Checked::Refused(Refusal::BadTable);
-    }
-    answer(net_fault(t, head.count, nodes, ends))
+    Ok(net_fault(t, head.count, nodes, ends))
 }
 
 // The by-layer check: nodes of the leaf's own layer and component. Refuses 7 for the polygons too.
+#[tactic(auto, unfolding(crate::specs::Checks::layersSays))]
 pub fn check_by_layer(
     t: &[i64],
     head: Head,
@@ -309,17 +275,14 @@ pub fn check_by_layer(
     sheets: &[f64],
     layers: &[u16],
     components: &[u32],
-) -> Checked
+) -> Result<Fault, Refusal>
     ensures { checkedSaid result ≡ layersSays t.now head.count head.max_level (netOf nodes.now ends.now conductances.now corners.now sheets.now) layers.now components.now }
 {
-    if !table::formed::well_formed(t, head) {
-        return Checked::Refused(Refusal::BadTable);
+    if !table::formed::well_formed(t, head)
+        || !sound_net::is_sound(nodes, ends, conductances, corners, sheets)
+        || !polygons_fit(t, head.count, layers, components)
+    {
+        return Err(Refusal::BadTable);
     }
-    if !sound_net::is_sound(nodes, ends, conductances, corners, sheets) {
-        return Checked::Refused(Refusal::BadTable);
-    }
-    if !polygons_fit(t, head.count, layers, components) {
-        return Checked::Refused(Refusal::BadTable);
-    }
-    answer(layer_fault(t, head.count, nodes, ends, layers, components))
+    Ok(layer_fault(t, head.count, nodes, ends, layers, components))
 }

@@ -3,21 +3,21 @@ use Prim.Native.Nat.{ℕ, zero, suc}
 use mathlib.Core.Path.{◌≡◌, refl}
 use mathlib.Core.Bool.{Bool, true, false}
 use mathlib.Core.List.{List, [], ◌∷◌}
-use Rattle.refusals.proofs.Settled.{settled, answer, answer-refused}
+use Rattle.std.specs.Prelude.{Result}
+use Rattle.refusals.specs.Said.{bit}
+use Rattle.refusals.specs.declared.Refusal.{Refusal}
+use Rattle.refusals.proofs.Settled.{one-said}
 use Rattle.contact.specs.declared.Rect.{Rect}
-use Rattle.contact.specs.declared.Contact.{Contact}
-use Rattle.contact.specs.declared.Contact.TheVariants.{Shares, Refused}
 use Rattle.contact.specs.Contact.{contactSaid, contactSays}
 
-abbrev told-bit : List ℕ → Bool
+abbrev pub told-bit : List ℕ → Bool
 told-bit [] = false
 told-bit (zero ∷ vs) = false
 told-bit (suc n ∷ vs) = true
 
-pub one-contact : (a b : Rect) (r q : Contact) → contactSaid r ≡ contactSays a b → contactSaid q ≡ contactSays a b → r ≡ q
-one-contact a b = settled contactSaid (answer (λ vs. Shares (told-bit vs)) Refused) back (contactSays a b)
-  where
-    back : (r : Contact) → answer (λ vs. Shares (told-bit vs)) Refused (contactSaid r) ≡ r
-    back (Shares true) = refl
-    back (Shares false) = refl
-    back (Refused x) = answer-refused (λ vs. Shares (told-bit vs)) Refused x
+bit-back : (b : Bool) → told-bit (bit b ∷ []) ≡ b
+bit-back true = refl
+bit-back false = refl
+
+pub one-contact : (a b : Rect) (r q : Result Bool Refusal) → contactSaid r ≡ contactSays a b → contactSaid q ≡ contactSays a b → r ≡ q
+one-contact a b = one-said (λ b. bit b ∷ []) told-bit bit-back (contactSays a b)

@@ -1,12 +1,11 @@
 -- What document 01 says of contact between two rectangles with signed coordinates.
-use Rattle.std.specs.Prelude.{Bool, ◌&&◌, cond, [], ◌∷◌}
+use Rattle.std.specs.Prelude.{Bool, ◌&&◌, cond, [], ◌∷◌, Result}
 use Rattle.std.specs.Int.Signed.{lt_z}
-use Rattle.refusals.specs.Said.{Said, accepted, refused, refusal, bit}
+use Rattle.refusals.specs.Said.{Said, accepted, refused, said, bit}
+use Rattle.refusals.specs.declared.Refusal.{Refusal}
 use Rattle.cell.specs.Boxes.{Box, sharesEdge}
 use Rattle.cell.specs.Ticks.{in_range, off}
 use Rattle.contact.specs.declared.Rect.{Rect}
-use Rattle.contact.specs.declared.Contact.{Contact}
-use Rattle.contact.specs.declared.Contact.TheVariants.{Shares, Refused}
 
 -- every coordinate in range, and both sides positive
 unfoldable pub soundRect : Rect → Bool
@@ -17,9 +16,8 @@ abbrev pub moved : Rect → Box
 moved r = record { x0 = off r.x0; y0 = off r.y0; x1 = off r.x1; y1 = off r.y1 }
 
 -- an answer's number and values: accepted with 1 or 0, or refused
-abbrev pub contactSaid : Contact → Said
-contactSaid (Shares b) = accepted (bit b ∷ [])
-contactSaid (Refused x) = refusal x
+abbrev pub contactSaid : Result Bool Refusal → Said
+contactSaid = said (λ b. bit b ∷ [])
 
 -- what is to be said: refusal 3 at place 0, or whether they share an edge
 unfoldable pub contactSays : Rect → Rect → Said

@@ -7,6 +7,7 @@ ghost use Rattle.cell.specs.Ticks.{off};
 ghost use Rattle.contact.specs.Contact.{soundRect, contactSaid, contactSays};
 
 use cell::Cell;
+use cell::ticks::{in_range, offset};
 use refusals::Refusal;
 
 #[derive(Clone, Copy)]
@@ -17,45 +18,42 @@ pub struct Rect {
     pub y1: i64,
 }
 
-#[derive(Clone, Copy)]
-pub enum Contact {
-    Shares(bool),
-    Refused(Refusal),
+impl Rect {
+    // All four coordinates are in range and both sides positive.
+    #[tactic(auto, unfolding(crate::specs::Contact::soundRect))]
+    fn is_sound(self) -> bool
+        ensures { result ≡ soundRect self }
+    {
+        in_range(self.x0)
+            & in_range(self.y0)
+            & in_range(self.x1)
+            & in_range(self.y1)
+            & (self.x0 < self.x1)
+            & (self.y0 < self.y1)
+    }
+
+    // The rectangle as a cell. Only its box counts here.
+    fn as_cell(self) -> Cell
+        ensures { result ≡ rootOf (off self.x0) (off self.y0) (off self.x1) (off self.y1) 0 }
+    {
+        Cell::root(
+            offset(self.x0),
+            offset(self.y0),
+            offset(self.x1),
+            offset(self.y1),
+            0,
+        )
+    }
 }
 
-// All four coordinates are in range and both sides positive.
-#[tactic(auto, unfolding(crate::specs::Contact::soundRect))]
-fn is_sound(r: Rect) -> bool
-    ensures { result ≡ soundRect r }
-{
-    cell::ticks::in_range(r.x0)
-        & cell::ticks::in_range(r.y0)
-        & cell::ticks::in_range(r.x1)
-        & cell::ticks::in_range(r.y1)
-        & (r.x0 < r.x1)
-        & (r.y0 < r.y1)
-}
-
-// The rectangle as a cell. Only its box counts here.
-fn as_cell(r: Rect) -> Cell
-    ensures { result ≡ rootOf (off r.x0) (off r.y0) (off r.x1) (off r.y1) 0 }
-{
-    Cell::root(
-        cell::ticks::offset(r.x0),
-        cell::ticks::offset(r.y0),
-        cell::ticks::offset(r.x1),
-        cell::ticks::offset(r.y1),
-        0,
-    )
-}
-
-// Contact of document 01: refusal 3 for a coordinate out of range or a side that isn't positive, else whether they share an edge.
+// Contact of document 01: refusal 3 for a coordinate out of range or a side that isn't positive, else whether they share
+// an edge.
 #[tactic(auto, unfolding(crate::specs::Contact::contactSays))]
-pub fn between(a: Rect, b: Rect) -> Contact
+pub fn between(a: Rect, b: Rect) -> Result<bool, Refusal>
     ensures { contactSaid result ≡ contactSays a b }
 {
-    if !(is_sound(a) & is_sound(b)) {
-        return Contact::Refused(Refusal::OutOfRange(0));
+    if !(a.is_sound() & b.is_sound()) {
+        return Err(Refusal::OutOfRange(0));
     }
-    Contact::Shares(cell::shares_edge(as_cell(a), as_cell(b)))
+    Ok(cell::shares_edge(a.as_cell(), b.as_cell()))
 }

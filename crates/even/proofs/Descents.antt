@@ -9,6 +9,7 @@ use native.Mathlib.Decide.{dec_lt}
 use native.Mathlib.Nat.{add-zero, add-suc}
 use lib.IntN.{ℤ}
 use lib.ListN.{length}
+use Rattle.std.specs.Prelude.{Some, None}
 use Rattle.table.specs.Mesh.{Cell, table}
 use Rattle.coarsest.specs.Passes.{Engine, balancing, due, pass}
 use Rattle.coarsest.specs.Sweep.{row, rows}
@@ -53,7 +54,7 @@ module _ (k M : ℕ) (T : List Cell) (t u : List ℤ) (n r a b stop c : ℕ) (o 
   row-asks h = ap (λ (y : List Cell). due k y a c) (sym row_next.cells) ∙ (x.found h).1
 
   -- the end of the row, where none is due
-  pub row-ended : stop ≤ c → Grew M (row balancing k T a stop) t u n r
+  pub row-ended : stop ≤ c → Grew M (row balancing k T a stop) t u n (Some r)
   row-ended h =
       let m = x.most in
       let e : c ≡ stop = omega arith in
@@ -69,7 +70,7 @@ module _ (k M : ℕ) (T : List Cell) (t u : List ℤ) (n r a b stop c : ℕ) (o 
     pub row-split : r + 4 ≤ length t / 8 → On M (row balancing k T a (c + 1)) t (splitRow u r c) n (r + 4)
     row-split = turn-split balancing k M T t u n r a c row_next (omega arith) (omega arith) (row-asks h)
 
-    pub row-full : stop ≤ length T → length t / 8 < r + 4 → Grew M (row balancing k T a stop) t u n (length t / 8 + 1)
+    pub row-full : stop ≤ length T → length t / 8 < r + 4 → Grew M (row balancing k T a stop) t u n None
     row-full l = turn-full balancing k M T t u n r a c row_next (omega arith) (omega arith) stop ha h l (row-asks h)
 
 -- the index of the roots in a row's table, in that of the rows of a pass, and in that of the pass
@@ -82,5 +83,7 @@ module _ (e : Engine) (k M top n : ℕ) (boxes : List (List ℕ)) (T : List Cell
   indexed-rows o ha =
       subst (Indexed top boxes) (sym o.cells) (rows-keeps e k n (Indexed top boxes) (indexed-keeps k top boxes) T a ha hn x)
 
-  pub indexed-pass : On M (pass e k T) t u p r → Indexed top boxes (table u r)
-  indexed-pass o = subst (Indexed top boxes) (sym o.cells) (pass-keeps e k T (Indexed top boxes) (indexed-keeps k top boxes) x)
+pub indexed-pass : (e : Engine) (k M top : ℕ) (boxes : List (List ℕ)) (T : List Cell) (t u : List ℤ) (p r : ℕ) → Indexed top boxes T
+    → On M (pass e k T) t u p r → Indexed top boxes (table u r)
+indexed-pass e k M top boxes T t u p r x o =
+    subst (Indexed top boxes) (sym o.cells) (pass-keeps e k T (Indexed top boxes) (indexed-keeps k top boxes) x)

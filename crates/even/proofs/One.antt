@@ -1,20 +1,17 @@
 -- The contracts of balance and conform permit one answer each. Assumes nothing.
 use Prim.Native.Nat.{ℕ}
 use mathlib.Core.Path.{◌≡◌, refl}
-use mathlib.Core.List.{List}
+use mathlib.Core.List.{List, [], ◌∷◌}
 use lib.ListN.{get_or}
+use Rattle.std.specs.Prelude.{Result}
 use Rattle.refusals.specs.Said.{Said}
-use Rattle.refusals.proofs.Settled.{settled, answer, answer-refused}
+use Rattle.refusals.specs.declared.Refusal.{Refusal}
+use Rattle.refusals.proofs.Settled.{one-said}
 use Rattle.even.specs.declared.Evening.{Evening}
-use Rattle.even.specs.declared.Evening.TheVariants.{Done, Refused}
 use Rattle.even.specs.Even.{eveningSaid}
 
 abbrev evened : List ℕ → Evening
-evened vs = Done (get_or vs 0 0) (record { count = get_or vs 1 0; max_level = get_or vs 2 0 })
+evened vs = record { splits = get_or vs 0 0; head = record { count = get_or vs 1 0; max_level = get_or vs 2 0 } }
 
-pub one-evening : (what : Said) (r q : Evening) → eveningSaid r ≡ what → eveningSaid q ≡ what → r ≡ q
-one-evening = settled eveningSaid (answer evened Refused) back
-  where
-    back : (r : Evening) → answer evened Refused (eveningSaid r) ≡ r
-    back (Done n h) = refl
-    back (Refused x) = answer-refused evened Refused x
+pub one-evening : (what : Said) (r q : Result Evening Refusal) → eveningSaid r ≡ what → eveningSaid q ≡ what → r ≡ q
+one-evening = one-said (λ e. e.splits ∷ e.head.count ∷ e.head.max_level ∷ []) evened (λ e. refl)

@@ -6,6 +6,7 @@ use native.Mathlib.Omega.{arith}
 use native.Mathlib.Numerals.{add-one}
 use lib.IntN.{ℤ}
 use lib.ListN.{length}
+use Rattle.std.specs.Prelude.{Some, None}
 use Rattle.table.specs.Mesh.{Cell, table}
 use Rattle.table.specs.Formed.{Formed}
 use Rattle.table.proofs.Cells.{length-table}
@@ -18,21 +19,21 @@ use Rattle.even.specs.Parts.{Grew}
 use Rattle.even.proofs.Turns.{On, on-as, on_then, on-length}
 
 -- what grew within the slots
-pub grew-on : (M : ℕ) (what : List Cell) (t u : List ℤ) (n r : ℕ) → Grew M what t u n r → r ≤ length t / 8 → n ≤ length what → On M what t u n r
-grew-on M what t u n r g h l =
-    let c = ap length (sym (g.cells h)) ∙ length-table u r in
-    record { formed = g.formed h; cells = g.cells h; size = g.size; more = omega arith; back = g.back }
+pub grew-on : (M : ℕ) (what : List Cell) (t u : List ℤ) (n r : ℕ) → Grew M what t u n (Some r) → n ≤ length what → On M what t u n r
+grew-on M what t u n r g l =
+    let c = ap length (sym (g.cells r refl)) ∙ length-table u r in
+    record { formed = g.formed r refl; cells = g.cells r refl; size = g.size; more = omega arith; back = g.back }
 
 -- what outgrew them, and so does whatever has as many cells
-pub over-then : (M : ℕ) (mid goal final : List Cell) (t u v : List ℤ) (n r s : ℕ) → On M mid t u n r → Grew M goal u v r s → length t / 8 < s
-    → (length t / 8 < length goal → length t / 8 < length final) → Grew M final t v n s
-over-then M mid goal final t u v n r s o g h more =
+pub over-then : (M : ℕ) (mid goal final : List Cell) (t u v : List ℤ) (n r : ℕ) → On M mid t u n r → Grew M goal u v r None
+    → (length t / 8 < length goal → length t / 8 < length final) → Grew M final t v n None
+over-then M mid goal final t u v n r o g more =
     let a = o.more in
     let e = o.size in
-    let f : length t / 8 < length goal = subst (λ (x : ℕ). x / 8 < length goal) e (g.full (subst (λ (x : ℕ). x / 8 < s) (sym e) h)) in
+    let f : length t / 8 < length goal = subst (λ (x : ℕ). x / 8 < length goal) e (g.full refl) in
     record {
-      formed = λ l. absurd (omega arith);
-      cells = λ l. absurd (omega arith);
+      formed = λ q e. (cc);
+      cells = λ q e. (cc);
       full = λ l. more f;
       size = g.size ∙ e;
       back = λ m l. g.back m (omega arith) ∙ o.back m l;
@@ -61,16 +62,16 @@ module _ (e : Engine) (k M : ℕ) (t : List ℤ) (n : ℕ) where
         let z : 0 + n ≡ n = omega arith in
         omega (arith, length-table u r, ap (λ (x : ℕ). length (row e k (table u r) a x)) z)
 
-    pub pass-turn : (v : List ℤ) (s : ℕ) → Grew M (row e k (table u r) a n) u v r s → s ≤ length t / 8 → On M (rows e k n (table t n) (a + 1)) t v n s
-    pass-turn v s g room =
+    pub pass-turn : (v : List ℤ) (s : ℕ) → Grew M (row e k (table u r) a n) u v r (Some s) → On M (rows e k n (table t n) (a + 1)) t v n s
+    pass-turn v s g =
         on-as M (row e k (table u r) a n) (rows e k n (table t n) (a + 1)) t v n s
         (row_next u r a o.cells ∙ ap (rows e k n (table t n)) (sym (add-one a)))
         (on_then M (rows e k n (table t n) a) (row e k (table u r) a n) t u v n r s o
-        (grew-on M (row e k (table u r) a n) u v r s g (subst (λ (x : ℕ). s ≤ x / 8) (sym o.size) room) row-least))
+        (grew-on M (row e k (table u r) a n) u v r s g row-least))
 
-    pub pass-over : (v : List ℤ) (s : ℕ) → Grew M (row e k (table u r) a n) u v r s → length t / 8 < s → Grew M (pass e k (table t n)) t v n s
-    pass-over v s g full =
-        over-then M (rows e k n (table t n) a) (row e k (table u r) a n) (pass e k (table t n)) t u v n r s o g full
+    pub pass-over : (v : List ℤ) → Grew M (row e k (table u r) a n) u v r None → Grew M (pass e k (table t n)) t v n None
+    pass-over v g =
+        over-then M (rows e k n (table t n) a) (row e k (table u r) a n) (pass e k (table t n)) t u v n r o g
         (λ l.
         let q : suc a + (n - suc a) ≡ n = omega arith in
         let m = rows-most e k n (table t n) (suc a) (n - suc a) (omega arith) (rw (length-table t n) (omega arith)) in
@@ -89,31 +90,28 @@ module _ (e : Engine) (k M : ℕ) (t u : List ℤ) (n r : ℕ) (what : List Cell
   formed : Formed M T
   formed = o.formed.cells
 
-  module _ (v : List ℤ) (s : ℕ) (g : Grew M (pass e k T) u v r s) where
-    pub evened-over : length t / 8 < s → Grew M (evened e k M (table t n)) t v n s
-    evened-over full =
-        over-then M what (pass e k T) (evened e k M (table t n)) t u v n r s o g full
-        (λ l. let m = evened-grown e k M (pass e k T) (pass-formed e k M T formed) in
-        omega (arith, ap length (evened-pass e k M T formed), ap length goal-same))
+  pub evened-over : (v : List ℤ) → Grew M (pass e k T) u v r None → Grew M (evened e k M (table t n)) t v n None
+  evened-over v g =
+      over-then M what (pass e k T) (evened e k M (table t n)) t u v n r o g
+      (λ l. let m = evened-grown e k M (pass e k T) (pass-formed e k M T formed) in
+      omega (arith, ap length (evened-pass e k M T formed), ap length goal-same))
 
-    room : s ≤ length t / 8 → s ≤ length u / 8
-    room h = subst (λ (x : ℕ). s ≤ x / 8) (sym o.size) h
+  pub evened-same : evened e k M (pass e k T) ≡ evened e k M (table t n)
+  evened-same = evened-pass e k M T formed ∙ goal-same
 
-    pub evened-turn : s ≤ length t / 8 → On M (pass e k T) t v n s
-    evened-turn h =
+  module _ (v : List ℤ) (s : ℕ) (g : Grew M (pass e k T) u v r (Some s)) where
+    pub evened-turn : On M (pass e k T) t v n s
+    evened-turn =
         on_then M what (pass e k T) t u v n r s o
-        (grew-on M (pass e k T) u v r s g (room h) (let p = pass-grown e k T in omega (arith, length-table u r)))
+        (grew-on M (pass e k T) u v r s g (let p = pass-grown e k T in omega (arith, length-table u r)))
 
-    pub evened-same : evened e k M (pass e k T) ≡ evened e k M (table t n)
-    evened-same = evened-pass e k M T formed ∙ goal-same
+    lengths : length (pass e k T) ≡ s
+    lengths = on-length M (pass e k T) t v n s evened-turn
 
-    lengths : s ≤ length t / 8 → length (pass e k T) ≡ s
-    lengths h = on-length M (pass e k T) t v n s (evened-turn h)
+    pub evened-less : (s ≡ r → ⊥) → splitsLeft M (pass e k T) < splitsLeft M T
+    evened-less ne = let p = pass-grown e k T in pass-left e k M T formed (omega (arith, length-table u r, lengths))
 
-    pub evened-less : s ≤ length t / 8 → (s ≡ r → ⊥) → splitsLeft M (pass e k T) < splitsLeft M T
-    evened-less h ne = let p = pass-grown e k T in pass-left e k M T formed (omega (arith, length-table u r, lengths h))
-
-    pub evened-done : s ≤ length t / 8 → s ≡ r → pass e k T ≡ evened e k M (table t n)
-    evened-done h q =
-        let d : length (pass e k T) ≡ length T = lengths h ∙ q ∙ sym (length-table u r) in
+    pub evened-done : s ≡ r → pass e k T ≡ evened e k M (table t n)
+    evened-done q =
+        let d : length (pass e k T) ≡ length T = lengths ∙ q ∙ sym (length-table u r) in
         pass_same e k T d ∙ sym (evened-stop e k M T formed d) ∙ goal-same

@@ -9,6 +9,7 @@ use native.Mathlib.Numerals.{add-one}
 use lib.Dec.{eqb}
 use lib.IntN.{ℤ}
 use lib.ListN.{length}
+use Rattle.std.specs.Prelude.{Some, None}
 use Rattle.cell.specs.Cells.{noCell}
 use Rattle.table.specs.Slots.{cell_at}
 use Rattle.table.specs.Mesh.{Cell, at, table, split, is_none, isLeaf}
@@ -39,19 +40,24 @@ pub record On (M : ℕ) (what : List Cell) (t u : List ℤ) (n r : ℕ) : Type 0
 pub on-start : (M : ℕ) (t : List ℤ) (n : ℕ) → WellFormed t n M → On M (table t n) t t n n
 on-start M t n w = record { formed = w; cells = refl; size = refl; more = omega arith; back = λ m h. refl }
 
-pub on_grew : (M : ℕ) (what : List Cell) (t u : List ℤ) (n r : ℕ) → On M what t u n r → Grew M what t u n r
+pub on_grew : (M : ℕ) (what : List Cell) (t u : List ℤ) (n r : ℕ) → On M what t u n r → Grew M what t u n (Some r)
 on_grew M what t u n r o =
-    let room : r ≤ length t / 8 = subst (λ (x : ℕ). r ≤ x / 8) o.size o.formed.count in
-    record { formed = λ h. o.formed; cells = λ h. o.cells; full = λ h. absurd (omega arith); size = o.size; back = o.back }
+    record {
+      formed = λ q e. subst (λ (x : ℕ). WellFormed u x M) (cc) o.formed;
+      cells = λ q e. subst (λ (x : ℕ). table u x ≡ what) (cc) o.cells;
+      full = λ e. (cc);
+      size = o.size;
+      back = o.back;
+    }
 
 -- the cells are as many as the count
 pub on-length : (M : ℕ) (what : List Cell) (t u : List ℤ) (n r : ℕ) → On M what t u n r → length what ≡ r
 on-length M what t u n r o = ap length (sym o.cells) ∙ length-table u r
 
 -- no room for what is to be done
-pub on-full : (M : ℕ) (what goal : List Cell) (t u : List ℤ) (n r : ℕ) → On M what t u n r → length t / 8 < length goal → Grew M goal t u n (length t / 8 + 1)
+pub on-full : (M : ℕ) (what goal : List Cell) (t u : List ℤ) (n r : ℕ) → On M what t u n r → length t / 8 < length goal → Grew M goal t u n None
 on-full M what goal t u n r o h =
-    record { formed = λ l. absurd (omega arith); cells = λ l. absurd (omega arith); full = λ l. h; size = o.size; back = o.back }
+    record { formed = λ q e. (cc); cells = λ q e. (cc); full = λ e. h; size = o.size; back = o.back }
 
 -- other names for the same cells
 pub on-as : (M : ℕ) (what other : List Cell) (t u : List ℤ) (n r : ℕ) → what ≡ other → On M what t u n r → On M other t u n r
@@ -59,7 +65,7 @@ on-as M what other t u n r e o = record { formed = o.formed; cells = o.cells ∙
 
 -- a row of pairs that splits nothing
 pub still : (e : Engine) (k M : ℕ) (t : List ℤ) (n a stop : ℕ) → WellFormed t n M → row e k (table t n) a stop ≡ table t n
-    → Rowed e k M t t n a stop n
+    → Rowed e k M t t n a stop (Some n)
 still e k M t n a stop w same = on_grew _ _ _ _ _ _ (on-as _ _ _ _ _ _ _ (sym same) (on-start _ _ _ w))
 
 -- what grew from a row that grew
@@ -130,7 +136,7 @@ module _ (e : Engine) (k M : ℕ) (T : List Cell) (t u : List ℤ) (n r a b : �
       (on-split M (row e k T a b) t u n r o (coarser e a b) both w.0 w.1 room)
 
   pub turn-full : (stop : ℕ) → a < stop → b < stop → stop ≤ length T → dueOf e k (row e k T a b) a b ≡ true → length t / 8 < r + 4
-      → Grew M (row e k T a stop) t u n (length t / 8 + 1)
+      → Grew M (row e k T a stop) t u n None
   turn-full stop la lb ls d full =
       let s : length (row e k T a (suc b)) ≡ r + 4 =
       ap length (row-due e k T a b d) ∙ length-split (row e k T a b) (coarser e a b) ∙ ap (λ (x : ℕ). x + 4) (on-length M (row e k T a b) t u n r o) in

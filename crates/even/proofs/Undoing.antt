@@ -1,17 +1,16 @@
 -- Taking splits back: what stands at each index, that a well-formed row is as it was, and that a split leaves no trace. Assumes nothing.
 use Prim.Native.Nat.{ℕ, zero, suc, ◌+◌, ◌*◌, ◌/◌, ◌%◌, ◌<◌, ◌≤◌}
 use mathlib.Core.Path.{◌≡◌, refl, sym, ap, ◌∙◌}
-use mathlib.Core.Bool.{Bool, true, false, ◌&&◌, cond}
+use mathlib.Core.Bool.{Bool, true, false, cond}
 use mathlib.Core.List.{List, [], ◌∷◌, ◌++◌, append-nil}
 use mathlib.Core.Logic.{◌≢◌, inl, by_cases}
 use native.Mathlib.Omega.{arith}
 use native.Mathlib.Decide.{dec_lt, ℕ_discrete}
 use native.Mathlib.Nat.{add-zero}
 use native.Mathlib.Numerals.{add-one}
-use lib.Dec.{eqb}
 use lib.IntN.{ℤ, pos}
 use lib.Signed.{le_z}
-use lib.ListN.{length, get_or, set, take, drop, length-append, length-take, length-drop}
+use lib.ListN.{length, get_or, set, take, drop}
 use lib.Seq.{ext_get_or, take_all, take-suc, drop-cons, drop-length, length-take-le, set_at, get_or_at, append_snoc}
 use borrow.Author.Tests.{le-leb, lt-leb, eq-eqb, ne_eqb, eqb-true}
 use Rattle.refusals.specs.Limits.{maxSlots}
@@ -74,14 +73,6 @@ module _ (n j : ℕ) where
   pub undone-other : (z : ℤ) → j < n * 8 → j % 8 ≢ 6 → undoneAt n j z ≡ z
   unfolding undoneAt
   undone-other z h o = simp (lt-leb (n * 8) j h, ne_eqb (j % 8) 6 o)
-
-  pub undone-marked : (z : ℤ) → j < n * 8 → (eqb (j % 8) 6 && le_z (pos n) z) ≡ true → undoneAt n j z ≡ pos noCell
-  unfolding undoneAt
-  undone-marked z h e = rw (lt-leb (n * 8) j h, e)
-
-  pub undone-left : (z : ℤ) → j < n * 8 → (eqb (j % 8) 6 && le_z (pos n) z) ≡ false → undoneAt n j z ≡ z
-  unfolding undoneAt
-  undone-left z h e = rw (lt-leb (n * 8) j h, e)
 
   module _ (inside : j < n * 8) (six : j % 8 ≡ 6) where
     undone-first : (z : ℤ) → undoneAt n j z ≡ cond (le_z (pos n) z) (pos noCell) z
@@ -188,20 +179,14 @@ abbrev pub undoing : ℕ → List ℤ → ℕ → List ℤ
 undoing n t j = take j (undone n t) ++ drop j t
 
 module _ (n : ℕ) (t : List ℤ) where
-  pub undoing-none : undoing n t 0 ≡ t
-  undoing-none = refl
-
-  pub length-undoing : (j : ℕ) → length (undoing n t j) ≡ length t
-  length-undoing j = simp (length-append, length-take, length-drop, length-undone) (omega arith)
-
   front : (j : ℕ) → j < length t → length (take j (undone n t)) ≡ j
   front j h = length-take-le j (undone n t) (rw length-undone (omega arith))
 
-  pub undoing-here : (j : ℕ) → j < length t → get_or (undoing n t j) j (pos 0) ≡ get_or t j (pos 0)
+  undoing-here : (j : ℕ) → j < length t → get_or (undoing n t j) j (pos 0) ≡ get_or t j (pos 0)
   undoing-here j h =
       rw (drop-cons t j (pos 0) h) (get_or_at (take j (undone n t)) (get_or t j (pos 0)) (drop (suc j) t) (pos 0) j (front j h))
 
-  pub undoing-next : (j : ℕ) → j < length t → set (undoing n t j) j (undoneAt n j (get_or t j (pos 0))) ≡ undoing n t (j + 1)
+  undoing-next : (j : ℕ) → j < length t → set (undoing n t j) j (undoneAt n j (get_or t j (pos 0))) ≡ undoing n t (j + 1)
   undoing-next j h =
       let z = undoneAt n j (get_or t j (pos 0)) in
       ap (λ (l : List ℤ). set (take j (undone n t) ++ l) j z) (drop-cons t j (pos 0) h)
@@ -211,7 +196,17 @@ module _ (n : ℕ) (t : List ℤ) where
       ∙ ap (λ (l : List ℤ). l ++ drop (suc j) t) (sym (take-suc (undone n t) j (pos 0) (rw length-undone h)))
       ∙ ap (undoing n t) (sym (add-one j))
 
-  pub undoing-all : undoing n t (length t) ≡ undone n t
+  undoing-all : undoing n t (length t) ≡ undone n t
   undoing-all =
       ap (λ (l : List ℤ). take (length t) (undone n t) ++ l) (drop-length t) ∙ append-nil (take (length t) (undone n t))
       ∙ take_all (length t) (undone n t) (rw length-undone (omega arith))
+
+-- a turn of the loop, and its end
+pub undo-turn : (n : ℕ) (t u : List ℤ) (j : ℕ) (z : ℤ) → u ≡ undoing n t j → j < length t → z ≡ undoneAt n j (get_or u j (pos 0))
+    → set u j z ≡ undoing n t (j + 1)
+undo-turn n t u j z e h d =
+    let s : get_or u j (pos 0) ≡ get_or t j (pos 0) = ap (λ (l : List ℤ). get_or l j (pos 0)) e ∙ undoing-here n t j h in
+    rw (d, s, e) (undoing-next n t j h)
+
+pub undo-ends : (n : ℕ) (t u : List ℤ) (j : ℕ) → u ≡ undoing n t j → j ≡ length t → u ≡ undone n t
+undo-ends n t u j e d = e ∙ ap (undoing n t) d ∙ undoing-all n t

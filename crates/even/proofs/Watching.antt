@@ -55,16 +55,6 @@ module _ (e : Engine) (k n : ℕ) (marks : List Bool) (T : List Cell) (long : n 
       let q : a + (r - a) ≡ r = omega arith in
       sym (ap (rows e k n T) q) ∙ rows_on a (r - a) (omega arith) (λ i g b. u i g (omega arith))
 
-pub unmarked-none : (marks : List Bool) (a : ℕ) → Unmarked marks a a
-unmarked-none marks a i g l = absurd (omega arith)
-
--- a block of eight without a mark
-pub unmarked-block : (marks : List Bool) (a i : ℕ) → Unmarked marks a i → get_or marks (i / 8) false ≡ false → Unmarked marks a (i / 8 * 8 + 8)
-unmarked-block marks a i u e j g l =
-    by_cases (dec_lt j i)
-    (λ h. u j g h)
-    (λ h. let q : j / 8 ≡ i / 8 = omega arith in ap (λ (x : ℕ). get_or marks x false) q ∙ e)
-
 -- where every mark is set
 pub watched-all : (e : Engine) (k : ℕ) (t : List Cell) (n m : ℕ) → n ≤ 8 * m → Watched e k (replicate m true) t n
 watched-all e k t n m h a b ha hb d = go m (a / 8) (omega arith)
@@ -104,9 +94,6 @@ module _ (e : Engine) (k M : ℕ) (t : List Cell) (formed : Formed M t) (p f low
         own = four.marked y (l, h) refl;
         others = λ a ha d. four.kept (a / 8) (near.marked a (omega arith) (wanted_by e spans q y a z (omega arith) d));
       }
-
-pub kept-both : (seen more wanted other : ℕ → Type 0) (old mid new : List Bool) → Marked seen wanted old mid → Marked more other mid new → Kept old new
-kept-both seen more wanted other old mid new x y = record { size = y.size ∙ x.size; kept = λ i e. y.kept i (x.kept i e) }
 
 -- more marks
 pub met-kept : (e : Engine) (k : ℕ) (old new : List Bool) (t : List Cell) (n y : ℕ) → Kept old new → Met e k old t n y → Met e k new t n y

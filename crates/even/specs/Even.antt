@@ -1,6 +1,7 @@
 -- What balance and conform say, what the row then holds, and demand 3 by names.
-use Rattle.std.specs.Prelude.{ℕ, ◌+◌, ◌*◌, ◌-◌, ◌/◌, ◌<◌, ◌≤◌, ◌≡◌, cond, List, [], ◌∷◌, leb, ℤ, length}
-use Rattle.refusals.specs.Said.{Said, accepted, refused, refusal}
+use Rattle.std.specs.Prelude.{ℕ, ◌+◌, ◌*◌, ◌-◌, ◌/◌, ◌<◌, ◌≤◌, ◌≡◌, cond, List, [], ◌∷◌, leb, ℤ, length, Result}
+use Rattle.refusals.specs.Said.{Said, accepted, refused, refusal, said}
+use Rattle.refusals.specs.declared.Refusal.{Refusal}
 use Rattle.refusals.specs.declared.Refusal.TheVariants.{BadTable, NoRoom}
 use Rattle.table.specs.Mesh.{Cell, table}
 use Rattle.table.specs.Formed.{WellFormed, wellFormed}
@@ -8,13 +9,11 @@ use Rattle.table.specs.Refine.{isAccepted}
 use Rattle.coarsest.specs.Passes.{Engine, evened}
 use Rattle.coarsest.specs.Names.{Evens, Needs}
 use Rattle.even.specs.declared.Evening.{Evening}
-use Rattle.even.specs.declared.Evening.TheVariants.{Done, Refused}
 use Rattle.even.specs.Rows.{rowOf}
 
 -- an answer's values: the number of splits, the new count and max_level
-abbrev pub eveningSaid : Evening → Said
-eveningSaid (Done splits h) = accepted (splits ∷ h.count ∷ h.max_level ∷ [])
-eveningSaid (Refused x) = refusal x
+abbrev pub eveningSaid : Result Evening Refusal → Said
+eveningSaid = said (λ e. e.splits ∷ e.head.count ∷ e.head.max_level ∷ [])
 
 -- the cells that the passes of document 01 end in, with unlimited room
 abbrev pub evenCells : Engine → ℕ → List ℤ → ℕ → ℕ → List Cell

@@ -15,23 +15,23 @@ ghost use Rattle.even.specs.Even.{eveningSaid, evenSays, evenRow, DemandThree};
 
 use cell::Cell;
 use descent::index::{BLOCKS, index};
-use descent::marks::{MARKS, clear, mark_four, mark_near};
+use descent::marks::{MARKS, mark_four, mark_near};
 use descent::{any_due, least_due, roots_end};
 use refusals::Refusal;
 use table::Head;
 use table::formed::well_formed;
 use table::refine::split_cell;
-use table::slots::{cell_at, first_at, level_at};
+use table::slots::{first_at, level_at, parent_at};
 
+// What was done: the number of splits, and the table's new head.
 #[derive(Clone, Copy)]
-pub enum Evening {
-    // The number of splits, and the table's new head.
-    Done(usize, Head),
-    Refused(Refusal),
+pub struct Evening {
+    pub splits: usize,
+    pub head: Head,
 }
 
-// Splits each of the first stop cells that a is too fine for, in the order of their ids; the new count, or more than
-// the slots. Most leaves are too coarse to ask anybody.
+// Splits each of the first stop cells that a is too fine for, in the order of their ids; the new count, or none for want
+// of room. Most leaves are too coarse to ask anybody.
 fn balance_row(
     t: &mut [i64],
     m: u64,
@@ -41,17 +41,17 @@ fn balance_row(
     boxes: &[[u64; 4]],
     a: usize,
     stop: usize,
-) -> usize
+) -> Option<usize>
     requires well_formed { WellFormed t.old n m }
     requires stop_le_n { (stop ≤ n) × (a < stop) }
     requires top_le_n { ((top ≤ n) × (length boxes.now ≡ 256)) × Indexed top boxes.now (table t.old n) }
     ensures { Rowed balancing k m t.old t.new n a stop result }
 {
     if level_at(t, a) <= k {
-        return n;
+        return Some(n);
     }
     if first_at(t, a) != Cell::NO_CELL {
-        return n;
+        return Some(n);
     }
     let slots = t.len() / 8;
     let mut count = n;
@@ -59,16 +59,16 @@ fn balance_row(
     while b < stop {
         let c = least_due(t, m, k, count, top, boxes, a, b, stop);
         if stop <= c {
-            return count;
+            return Some(count);
         }
         if slots - count < 4 {
-            return slots + 1;
+            return None;
         }
         split_cell(t, count, c);
         count += 4;
         b = c + 1;
     }
-    count
+    Some(count)
 }
 
 // Splits a if one of the first stop cells asks for it. A leaf at the finest level is never asked.
@@ -81,27 +81,26 @@ fn conform_row(
     boxes: &[[u64; 4]],
     a: usize,
     stop: usize,
-) -> usize
+) -> Option<usize>
     requires well_formed { WellFormed t.old n m }
     requires stop_le_n { (stop ≤ n) × (a < stop) }
     requires top_le_n { ((top ≤ n) × (length boxes.now ≡ 256)) × Indexed top boxes.now (table t.old n) }
     ensures { Rowed conforming k m t.old t.new n a stop result }
 {
     if first_at(t, a) != Cell::NO_CELL {
-        return n;
+        return Some(n);
     }
     if m <= level_at(t, a) {
-        return n;
+        return Some(n);
     }
     if !any_due(t, m, k, n, top, boxes, a, stop) {
-        return n;
+        return Some(n);
     }
-    let slots = t.len() / 8;
-    if slots - n < 4 {
-        return slots + 1;
+    if t.len() / 8 - n < 4 {
+        return None;
     }
     split_cell(t, n, a);
-    n + 4
+    Some(n + 4)
 }
 
 fn even_row(
@@ -114,16 +113,17 @@ fn even_row(
     boxes: &[[u64; 4]],
     a: usize,
     stop: usize,
-) -> usize
+) -> Option<usize>
     requires well_formed { WellFormed t.old n m }
     requires stop_le_n { (stop ≤ n) × (a < stop) }
     requires top_le_n { ((top ≤ n) × (length boxes.now ≡ 256)) × Indexed top boxes.now (table t.old n) }
     ensures { Rowed (engineOf conforms) k m t.old t.new n a stop result }
 {
     if conforms {
-        return conform_row(t, m, k, n, top, boxes, a, stop);
+        conform_row(t, m, k, n, top, boxes, a, stop)
+    } else {
+        balance_row(t, m, k, n, top, boxes, a, stop)
     }
-    balance_row(t, m, k, n, top, boxes, a, stop)
 }
 
 // The first id from a below n that has a mark; n, where there is none.
@@ -151,23 +151,19 @@ fn even_pass(
     top: usize,
     boxes: &[[u64; 4]],
     marks: &[bool],
-) -> usize
+) -> Option<usize>
     requires well_formed { WellFormed t.old n m }
     requires top_le_n { ((top ≤ n) × (length boxes.now ≡ 256)) × Indexed top boxes.now (table t.old n) }
     requires marks_len { (length marks.now ≡ 2048) × Watched (engineOf conforms) k marks.now (table t.old n) n }
     ensures { Passed (engineOf conforms) k m t.old t.new n result }
 {
-    let slots = t.len() / 8;
     let mut count = n;
     let mut a = next_row(marks, 0, n);
     while a < n {
-        count = even_row(t, conforms, m, k, count, top, boxes, a, n);
-        if slots < count {
-            return count;
-        }
+        count = even_row(t, conforms, m, k, count, top, boxes, a, n)?;
         a = next_row(marks, a + 1, n);
     }
-    count
+    Some(count)
 }
 
 // The levels of the leaves whose rows a new leaf of level l can concern.
@@ -181,18 +177,16 @@ fn concerned(conforms: bool, m: u64, k: u64, l: u64) -> Levels
     requires { (l ≤ 64) × (k ≤ 64) }
     ensures { (x : ℕ) → Reaches (engineOf conforms) k m l x → (result.low ≤ x) × (x ≤ result.high) }
 {
-    if !conforms {
-        return Levels {
+    if conforms {
+        Levels {
+            low: 0,
+            high: l.saturating_sub(k + 1),
+        }
+    } else {
+        Levels {
             low: l + k + 1,
             high: m,
-        };
-    }
-    if l <= k {
-        return Levels { low: 0, high: 0 };
-    }
-    Levels {
-        low: 0,
-        high: l - k - 1,
+        }
     }
 }
 
@@ -239,10 +233,10 @@ fn mark_new(
     requires settled { Settled (engineOf conforms) k (table t.now n) stop }
     ensures { Watched (engineOf conforms) k marks.new (table t.now n) n }
 {
-    clear(marks);
+    marks.fill(false);
     let mut x = stop;
     while x < n {
-        let p = cell_at(t, x).parent as usize;
+        let p = parent_at(t, x) as usize;
         let f = first_at(t, p) as usize;
         mark_kids(t, conforms, m, k, n, top, boxes, p, f, marks);
         x = f + 4;
@@ -259,22 +253,19 @@ fn passes(
     top: usize,
     boxes: &[[u64; 4]],
     marks: &mut [bool],
-) -> usize
+) -> Option<usize>
     requires well_formed { WellFormed t.old n m }
     requires top_le_n { ((top ≤ n) × (length boxes.now ≡ 256)) × Indexed top boxes.now (table t.old n) }
     requires marks_len { ((length marks.old ≡ 2048) × (k ≤ 64))
         × Watched (engineOf conforms) k marks.old (table t.old n) n }
     ensures { Evened (engineOf conforms) k m t.old t.new n result }
 {
-    let slots = t.len() / 8;
     let mut count = n;
-    loop {
-        let r = even_pass(t, conforms, m, k, count, top, boxes, marks);
-        if slots < r {
-            return r;
-        }
-        if r == count {
-            return r;
+    'passes: loop {
+        let r = even_pass(t, conforms, m, k, count, top, boxes, marks)?;
+        let calm = r == count;
+        if calm {
+            return Some(r);
         }
         mark_new(t, conforms, m, k, r, top, boxes, count, marks);
         count = r;
@@ -282,7 +273,7 @@ fn passes(
 }
 
 // All passes, with the index of the roots made once.
-fn even_out(t: &mut [i64], conforms: bool, m: u64, k: u64, n: usize) -> usize
+fn even_out(t: &mut [i64], conforms: bool, m: u64, k: u64, n: usize) -> Option<usize>
     requires well_formed { WellFormed t.old n m }
     requires k_bound { k ≤ 64 }
     ensures { Evened (engineOf conforms) k m t.old t.new n result }
@@ -294,17 +285,18 @@ fn even_out(t: &mut [i64], conforms: bool, m: u64, k: u64, n: usize) -> usize
     passes(t, conforms, m, k, n, top, &boxes, &mut marks)
 }
 
+#[tactic(auto, unfolding(crate::specs::Undo::undoneAt))]
 fn undone_at(n: usize, j: usize, z: i64) -> i64
     requires { n * 8 < 9223372036854775808 }
     ensures { result ≡ undoneAt n j z }
 {
     if n * 8 <= j {
-        return 0;
+        0
+    } else if (j % 8 == 6) & (n as i64 <= z) {
+        Cell::NO_CELL as i64
+    } else {
+        z
     }
-    if (j % 8 == 6) & (n as i64 <= z) {
-        return Cell::NO_CELL as i64;
-    }
-    z
 }
 
 // Takes back every split since the row had n cells, number by number.
@@ -312,42 +304,35 @@ fn undo(t: &mut [i64], n: usize)
     requires { n * 8 ≤ length t.old }
     ensures { t.new ≡ undone n t.old }
 {
-    let mut j = 0;
-    while j < t.len() {
-        t[j] = undone_at(n, j, t[j]);
-        j += 1;
+    for (j, z) in t.iter_mut().enumerate() {
+        *z = undone_at(n, j, *z);
     }
 }
 
 // Both calls: 7, 6, or the table evened out.
-fn even_table(t: &mut [i64], head: Head, conforms: bool, k: u64) -> Evening
+fn even_table(t: &mut [i64], head: Head, conforms: bool, k: u64) -> Result<Evening, Refusal>
     requires { k ≤ 64 }
     ensures result_value { eveningSaid result ≡ evenSays (engineOf conforms) k t.old head.count head.max_level }
     ensures t_after { t.new ≡ evenRow (engineOf conforms) k t.old head.count head.max_level }
     ensures demand_three { DemandThree k head.max_level t.old t.new head.count (eveningSaid result) }
 {
     if !well_formed(t, head) {
-        return Evening::Refused(Refusal::BadTable);
+        return Err(Refusal::BadTable);
     }
     let n = head.count;
     let m = head.max_level;
-    let slots = t.len() / 8;
-    let cells = even_out(t, conforms, m, k, n);
-    if slots < cells {
+    let Some(count) = even_out(t, conforms, m, k, n) else {
         undo(t, n);
-        return Evening::Refused(Refusal::NoRoom);
-    }
-    Evening::Done(
-        (cells - n) / 4,
-        Head {
-            count: cells,
-            max_level: m,
-        },
-    )
+        return Err(Refusal::NoRoom);
+    };
+    Ok(Evening {
+        splits: (count - n) / 4,
+        head: Head { count, ..head },
+    })
 }
 
 // No two leaves that share an edge differ by more than one level.
-pub fn balance(t: &mut [i64], head: Head) -> Evening
+pub fn balance(t: &mut [i64], head: Head) -> Result<Evening, Refusal>
     ensures result_value { eveningSaid result ≡ evenSays balancing 1 t.old head.count head.max_level }
     ensures t_after { t.new ≡ evenRow balancing 1 t.old head.count head.max_level }
     ensures demand_three { DemandThree 1 head.max_level t.old t.new head.count (eveningSaid result) }
@@ -356,7 +341,7 @@ pub fn balance(t: &mut [i64], head: Head) -> Evening
 }
 
 // No two leaves that share an edge differ in level.
-pub fn conform(t: &mut [i64], head: Head) -> Evening
+pub fn conform(t: &mut [i64], head: Head) -> Result<Evening, Refusal>
     ensures result_value { eveningSaid result ≡ evenSays conforming 0 t.old head.count head.max_level }
     ensures t_after { t.new ≡ evenRow conforming 0 t.old head.count head.max_level }
     ensures demand_three { DemandThree 0 head.max_level t.old t.new head.count (eveningSaid result) }

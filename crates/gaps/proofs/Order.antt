@@ -47,35 +47,35 @@ module _ (w : List ℕ) (n : ℕ) (L : Lined w n) where
   pub rank_is : (k : ℕ) → k < n → get_or w (n + k) 0 ≡ rank_at (part w 0 n) k
   rank_is k h = sym (part_at w n n k 0 h) ∙ ap (λ (z : List ℕ). get_or z k 0) L.order
 
-  pub rank-in : (k : ℕ) → k < n → get_or w (n + k) 0 < n
-  rank-in k h = let e = rank_is k h in let l = keys-long in let r = rank-low (part w 0 n) k (omega arith) in omega arith
+  pub rank_in : (k : ℕ) → k < n → get_or w (n + k) 0 < n
+  rank_in k h = let e = rank_is k h in let l = keys-long in let r = rank-low (part w 0 n) k (omega arith) in omega arith
 
   key-is : (k : ℕ) → k < n → get_or w (get_or w (n + k) 0) 0 ≡ key_at (part w 0 n) k
   key-is k h =
       ap (λ (z : ℕ). get_or w z 0) (sym (zero-add (get_or w (n + k) 0)))
-      ∙ sym (part_at w 0 n (get_or w (n + k) 0) 0 (rank-in k h))
+      ∙ sym (part_at w 0 n (get_or w (n + k) 0) 0 (rank_in k h))
       ∙ ap (λ (z : ℕ). get_or (part w 0 n) z 0) (rank_is k h)
 
   -- the next one, as the code counts it
   at_next : (k : ℕ) → get_or w (n + k + 1) 0 ≡ get_or w (n + suc k) 0
   at_next k = ap (λ (z : ℕ). get_or w z 0) (let e : n + k + 1 ≡ n + suc k = omega arith in e)
 
-  pub next-in : (k : ℕ) → suc k < n → get_or w (n + k + 1) 0 < n
-  next-in k h = let e = at_next k in let r = rank-in (suc k) h in omega arith
+  pub next_in : (k : ℕ) → suc k < n → get_or w (n + k + 1) 0 < n
+  next_in k h = let e = at_next k in let r = rank_in (suc k) h in omega arith
 
   next-key : (k : ℕ) → suc k < n → get_or w (get_or w (n + k + 1) 0) 0 ≡ key_at (part w 0 n) (suc k)
   next-key k h = ap (λ (z : ℕ). get_or w z 0) (at_next k) ∙ key-is (suc k) h
 
-  pub keys-rise : (k : ℕ) → suc k < n → get_or w (get_or w (n + k) 0) 0 ≤ get_or w (get_or w (n + k + 1) 0) 0
-  keys-rise k h =
+  pub keys_rise : (k : ℕ) → suc k < n → get_or w (get_or w (n + k) 0) 0 ≤ get_or w (get_or w (n + k + 1) 0) 0
+  keys_rise k h =
       let l = keys-long in
       let a = key-is k (omega arith) in
       let b = next-key k h in
       let r = (ranks-go (part w 0 n) k (suc k) (omega arith) (omega arith)).low in
       omega arith
 
-  pub last-rise : (k : ℕ) → n ≤ k + 1 → 0 ≡ riseAt (part w 0 n) k
-  last-rise k h = let l = keys-long in sym (rise-last (part w 0 n) k (omega arith))
+  pub last_rise : (k : ℕ) → n ≤ k + 1 → 0 ≡ riseAt (part w 0 n) k
+  last_rise k h = let l = keys-long in sym (rise-last (part w 0 n) k (omega arith))
 
   pub one_line : (k : ℕ) → suc k < n → get_or w (get_or w (n + k) 0) 0 / wide ≡ get_or w (get_or w (n + k + 1) 0) 0 / wide → get_or w (get_or w (n + k + 1) 0) 0 - get_or w (get_or w (n + k) 0) 0 ≡ riseAt (part w 0 n) k
   one_line k h e =
@@ -85,8 +85,8 @@ module _ (w : List ℕ) (n : ℕ) (L : Lined w n) where
       ap₂ (λ (u v : ℕ). u - v) b a
       ∙ sym (rise-is (part w 0 n) k (omega arith) (ap (λ (z : ℕ). z / wide) (sym a) ∙ (e ∙ ap (λ (z : ℕ). z / wide) b)))
 
-  pub two-lines : (k : ℕ) → suc k < n → (get_or w (get_or w (n + k) 0) 0 / wide ≡ get_or w (get_or w (n + k + 1) 0) 0 / wide → ⊥) → 0 ≡ riseAt (part w 0 n) k
-  two-lines k h f =
+  pub two_lines : (k : ℕ) → suc k < n → (get_or w (get_or w (n + k) 0) 0 / wide ≡ get_or w (get_or w (n + k + 1) 0) 0 / wide → ⊥) → 0 ≡ riseAt (part w 0 n) k
+  two_lines k h f =
       let l = keys-long in
       let a = key-is k (omega arith) in
       let b = next-key k h in

@@ -1,7 +1,7 @@
 // The gaps between nodes that are next to one another in a column or in a row, by sorts in place of maps.
 //
-// In front of the work room, for n nodes, stands a block of three parts of n numbers: keys, their order, and the first of equal key. The
-// gaps stand behind it.
+// In front of the work room, for n nodes, stands a block of three parts of n numbers: keys, their order, and the
+// first of equal key. The gaps stand behind it.
 #![tactic(auto)]
 
 ghost use Rattle.std.specs.Prelude.{◌≡◌, ◌+◌, ◌*◌, ◌<◌, ◌≤◌, length};
@@ -11,6 +11,8 @@ ghost use Rattle.rows.specs.Contract.{Small};
 ghost use Rattle.places.specs.Places.{wide};
 ghost use Rattle.node_rows.specs.Rows.{nodeIn, Noded, Gapped};
 ghost use Rattle.gaps.specs.Gaps.{facing, Rowed, line_key, alongKey, Lined, riseAt, Ranked, Risen, Spaced};
+
+use refusals::limits;
 
 // More than any coordinate of a node: keys are made by multiples of it.
 const WIDE: u64 = 274877906944;
@@ -24,9 +26,10 @@ fn line_at(nodes: &[i64], i: usize, across: bool) -> u64
     ensures { (result ≡ (facing across (nodeIn nodes.now i)).x) × (result < wide) }
 {
     if across {
-        return node_rows::y_at(nodes, i);
+        node_rows::y_at(nodes, i)
+    } else {
+        node_rows::x_at(nodes, i)
     }
-    node_rows::x_at(nodes, i)
 }
 
 // The coordinate along the line.
@@ -35,9 +38,10 @@ fn along_at(nodes: &[i64], i: usize, across: bool) -> u64
     ensures { (result ≡ (facing across (nodeIn nodes.now i)).y) × (result < wide) }
 {
     if across {
-        return node_rows::x_at(nodes, i);
+        node_rows::x_at(nodes, i)
+    } else {
+        node_rows::y_at(nodes, i)
     }
-    node_rows::y_at(nodes, i)
 }
 
 // The keys of the first round: layer and line of each node.
@@ -46,10 +50,8 @@ fn line_keys(nodes: &[i64], n: usize, work: &mut [u64], across: bool)
     requires n_in_bounds { 3 * n ≤ length work.old }
     ensures { work.new ≡ put work.old 0 (tab (line_key across nodes.now) n) }
 {
-    let mut i = 0;
-    while i < n {
+    for i in 0..n {
         work[i] = node_rows::layer_at(nodes, i) * WIDE + line_at(nodes, i, across);
-        i += 1;
     }
 }
 
@@ -61,11 +63,10 @@ fn along_keys(nodes: &[i64], n: usize, work: &mut [u64], across: bool)
     ensures { work.new ≡ put work.old 0 (tab (alongKey across nodes.now (part work.old (n + n) n)) n) }
 {
     let m = n + n;
-    let mut i = 0;
-    while i < n {
+    for i in 0..n {
         let first = work[m + i];
+        prove!(first < 4 * limits::SLOTS as u64);
         work[i] = first * WIDE + along_at(nodes, i, across);
-        i += 1;
     }
 }
 
@@ -83,6 +84,7 @@ fn sort_lines(nodes: &[i64], n: usize, work: &mut [u64], across: bool)
 }
 
 // How far the node that is k-th in the order is from the next one of its line; 0 for the last of a line.
+#[tactic(auto, using(crate::proofs::Order::rank_in, crate::proofs::Order::next_in, crate::proofs::Order::keys_rise, crate::proofs::Order::last_rise, crate::proofs::Order::one_line, crate::proofs::Order::two_lines))]
 fn rise_at(work: &[u64], n: usize, k: usize) -> u64
     requires lined { Lined work.now n }
     requires k_lt_n { k < n }
@@ -109,14 +111,13 @@ fn write_rises(work: &mut [u64], n: usize, l: usize, at: usize)
 {
     let behind = at + 4 * l;
     let mut fall = 0;
-    let mut k = 0;
-    while k < n {
+    for k in 0..n {
         let i = work[n + k] as usize;
+        prove!(i < n);
         let rise = rise_at(work, n, k);
         work[at + i] = rise;
         work[behind + i] = fall;
         fall = rise;
-        k += 1;
     }
 }
 

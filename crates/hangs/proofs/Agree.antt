@@ -20,7 +20,7 @@ use Rattle.places.specs.Places.{wide}
 use Rattle.places.proofs.Numbers.{first-of}
 use Rattle.node_rows.specs.Rows.{nodeIn, nodesIn, patchIn, way_of, Cornering}
 use Rattle.hangs.specs.Items.{cornerOf, boxIn, itemIn, keyX, keyY, keysX, placeKeys}
-use Rattle.hangs.proofs.Items.{corner-cell, corner-node, corner-low, item-x-small, item-y-small}
+use Rattle.hangs.proofs.Items.{corner-cell, corner-node, corner_low, item-x-small, item-y-small}
 use Rattle.hangs.proofs.Last.{last-node, last-inside}
 
 -- ---- keys
@@ -117,11 +117,11 @@ module _ (row : List ℤ) (cs : List ℕ) (n l : ℕ) (C : Cornering cs n l) whe
 
     sw-at : nth ns c.sw ≡ nodeIn row (cornerOf cs l i 0)
     unfolding patchIn
-    sw-at = ap (nth ns) (ap (λ (z : ℕ). get_or cs z 0) (sym (add-zero (4 * (i / 4)))) ∙ corner-cell cs l i 0 h) ∙ node_at (cornerOf cs l i 0) (corner-low cs l i 0 n C (omega arith) (omega arith))
+    sw-at = ap (nth ns) (ap (λ (z : ℕ). get_or cs z 0) (sym (add-zero (4 * (i / 4)))) ∙ corner-cell cs l i 0 h) ∙ node_at (cornerOf cs l i 0) (corner_low cs l i 0 n C (omega arith) (omega arith))
 
     ne-at : nth ns c.ne ≡ nodeIn row (cornerOf cs l i 2)
     unfolding patchIn
-    ne-at = ap (nth ns) (corner-cell cs l i 2 h) ∙ node_at (cornerOf cs l i 2) (corner-low cs l i 2 n C (omega arith) (omega arith))
+    ne-at = ap (nth ns) (corner-cell cs l i 2 h) ∙ node_at (cornerOf cs l i 2) (corner_low cs l i 2 n C (omega arith) (omega arith))
 
     box-is : boxOf ns c ≡ boxIn row cs l i
     box-is = λ t. record { x0 = (sw-at t).x; y0 = (sw-at t).y; x1 = (ne-at t).x; y1 = (ne-at t).y }

@@ -6,10 +6,10 @@ use Prim.Native.Nat.{ℕ, zero, suc, ◌+◌, ◌*◌, ◌-◌, ◌/◌, ◌%◌
 use native.Mathlib.Omega.{arith}
 use lib.ListN.{get_or}
 use lib.IntN.{ℤ, pos}
-use borrow.Author.Tests.{lt-ltb, le-ltb, eq-eqb, ne_eqb}
+use borrow.Author.Tests.{lt-ltb, le-ltb, ne_eqb}
 use Rattle.refusals.specs.Limits.{maxSlots}
 use Rattle.cell.specs.Boxes.{Box, mid}
-use Rattle.net.specs.Net.{midX, midY, size_of}
+use Rattle.net.specs.Net.{midX, midY}
 use Rattle.net.proofs.Find.{order}
 use Rattle.places.specs.Places.{wide}
 use Rattle.node_rows.specs.Rows.{nodeIn, way_of, Noded, Cornering}
@@ -26,26 +26,16 @@ module _ (cs : List ℕ) (l i s : ℕ) where
   unfolding cornerOf
   corner-node h = rw (le-ltb i (4 * l) h)
 
-  pub corner-low : (n : ℕ) → Cornering cs n l → i < 4 * l + n → s < 4 → cornerOf cs l i s < n
-  corner-low n C h g =
+  pub corner_low : (n : ℕ) → Cornering cs n l → i < 4 * l + n → s < 4 → cornerOf cs l i s < n
+  corner_low n C h g =
       ⊎_elim
       (λ (q : i < 4 * l). subst (λ (z : ℕ). z < n) (corner-cell q) (C.low (4 * (i / 4) + s) (omega arith)))
       (λ (q : 4 * l ≤ i). subst (λ (z : ℕ). z < n) (corner-node q) (omega arith))
       (order i (4 * l))
 
--- the three answers of `middle`
-module _ (a b q : ℕ) where
-  pub halfway : q < 2 → mid a b ≡ middle_of a b q
-  unfolding middle_of
-  halfway h = rw (lt-ltb q 2 h)
-
-  pub at_first : 2 ≤ q → q ≡ 2 → a ≡ middle_of a b q
-  unfolding middle_of
-  at_first h e = rw (le-ltb q 2 h, eq-eqb q 2 e)
-
-  pub at_second : 2 ≤ q → (q ≡ 2 → ⊥) → b ≡ middle_of a b q
-  unfolding middle_of
-  at_second h e = rw (le-ltb q 2 h, ne_eqb q 2 e)
+at_second : (a b q : ℕ) → 2 ≤ q → (q ≡ 2 → ⊥) → b ≡ middle_of a b q
+unfolding middle_of
+at_second a b q h e = rw (le-ltb q 2 h, ne_eqb q 2 e)
 
 -- the middle of side q, in x and in y
 pub mid-x : (q : ℕ) (r : Box) → middle_of r.x0 r.x1 q ≡ midX (way_of q) r
@@ -62,18 +52,6 @@ mid-y (suc zero) r h = refl
 mid-y (suc (suc zero)) r h = refl
 mid-y (suc (suc (suc zero))) r h = refl
 mid-y (suc (suc (suc (suc q)))) r h = absurd (omega arith)
-
--- the size away from side q
-pub size-high : (q : ℕ) (r : Box) → q < 2 → r.y1 - r.y0 ≡ size_of (way_of q) r
-size-high zero r h = refl
-size-high (suc zero) r h = refl
-size-high (suc (suc q)) r h = absurd (omega arith)
-
-pub size-wide : (q : ℕ) (r : Box) → 2 ≤ q → r.x1 - r.x0 ≡ size_of (way_of q) r
-size-wide zero r h = absurd (omega arith)
-size-wide (suc zero) r h = absurd (omega arith)
-size-wide (suc (suc zero)) r h = refl
-size-wide (suc (suc (suc q))) r h = refl
 
 -- coordinates are small
 module _ (row : List ℤ) (i : ℕ) where
@@ -105,13 +83,13 @@ packed-small : (a y k : ℕ) → a < k → y < wide → a * wide + y < k * wide
 packed-small a y k h g = omega arith
 
 module _ (row : List ℤ) (cs : List ℕ) (l i : ℕ) where
-  pub item-x : middle_of (nodeIn row (cornerOf cs l i 0)).x (nodeIn row (cornerOf cs l i 2)).x (i % 4) ≡ (itemIn row cs l i).x
+  pub item_x : middle_of (nodeIn row (cornerOf cs l i 0)).x (nodeIn row (cornerOf cs l i 2)).x (i % 4) ≡ (itemIn row cs l i).x
   unfolding itemIn
-  item-x = mid-x (i % 4) (boxIn row cs l i)
+  item_x = mid-x (i % 4) (boxIn row cs l i)
 
-  pub item-y : middle_of (nodeIn row (cornerOf cs l i 0)).y (nodeIn row (cornerOf cs l i 2)).y ((i % 4 + 2) % 4) ≡ (itemIn row cs l i).y
+  pub item_y : middle_of (nodeIn row (cornerOf cs l i 0)).y (nodeIn row (cornerOf cs l i 2)).y ((i % 4 + 2) % 4) ≡ (itemIn row cs l i).y
   unfolding itemIn
-  item-y = mid-y (i % 4) (boxIn row cs l i) (omega arith)
+  item_y = mid-y (i % 4) (boxIn row cs l i) (omega arith)
 
   pub item-layer : (nodeIn row (cornerOf cs l i 0)).layer ≡ (itemIn row cs l i).layer
   unfolding itemIn
@@ -127,7 +105,7 @@ module _ (row : List ℤ) (cs : List ℕ) (l i : ℕ) where
 
   pub item-layer-small : (n : ℕ) → Noded row n l → Cornering cs n l → i < 4 * l + n → (itemIn row cs l i).layer < 2 ^ 16
   unfolding itemIn
-  item-layer-small n N C h = N.layers (cornerOf cs l i 0) (corner-low cs l i 0 n C h (omega arith))
+  item-layer-small n N C h = N.layers (cornerOf cs l i 0) (corner_low cs l i 0 n C h (omega arith))
 
   pub key-x-small : (n : ℕ) → Noded row n l → Cornering cs n l → i < 4 * l + n → keyX row cs l i < 2 ^ 54
   unfolding keyX

@@ -27,12 +27,12 @@ use Rattle.hangs.proofs.Agree.{asks-is, last-low}
 
 -- ---- where the extents are
 
-pub way-low : (l q : ℕ) → q < 4 → 4 * l * q ≤ 12 * l
-way-low l zero h = omega arith
-way-low l (suc zero) h = omega arith
-way-low l (suc (suc zero)) h = omega arith
-way-low l (suc (suc (suc zero))) h = omega arith
-way-low l (suc (suc (suc (suc q)))) h = absurd (omega arith)
+pub way_low : (l q : ℕ) → q < 4 → 4 * l * q ≤ 12 * l
+way_low l zero h = omega arith
+way_low l (suc zero) h = omega arith
+way_low l (suc (suc zero)) h = omega arith
+way_low l (suc (suc (suc zero))) h = omega arith
+way_low l (suc (suc (suc (suc q)))) h = absurd (omega arith)
 
 apart : (l q k p j : ℕ) → k < 4 * l → j < 4 * l → 44 * l + 4 * l * q + k ≡ 44 * l + 4 * l * p + j → (q ≡ p) × (k ≡ j)
 apart l q k p j h g e =
@@ -139,7 +139,7 @@ module _ (row : List ℤ) (cs : List ℕ) (n l : ℕ) (N : Noded row n l) (C : C
       few = let z = last-low row cs n l C ss i h in omega arith
 
       pub place-low : place < 60 * l
-      place-low = let z = few in let y = way-low l (i % 4) (omega arith) in let x = N.most in omega arith
+      place-low = let z = few in let y = way_low l (i % 4) (omega arith) in let x = N.most in omega arith
 
       place_in : place < length w
       place_in = let z = place-low in let y = R.long in omega arith
@@ -175,7 +175,7 @@ module _ (row : List ℤ) (cs : List ℕ) (n l : ℕ) (N : Noded row n l) (w₀ 
       let m = N.most in
       let r = G.long in
       let s = A.long in
-      let y = way-low l q a in
+      let y = way_low l q a in
       B.kept (44 * l + 4 * l * q + k) (omega arith) (omega arith) ∙ (A.kept (44 * l + 4 * l * q + k) (omega arith) (omega arith) ∙ G.at q k a b)
 
   pub raised_all : (ss : List Float) → Extended row (patchesIn cs ss l) w₃ n l

@@ -1,6 +1,6 @@
-// What the cells ask for nodes at the middles of their sides: the second half of the extents. The Rust looks each middle up in a map from
-// places to nodes; here the middles, four to a cell, and behind them the nodes are sorted together by place, and the last of a place is
-// the node that the map would have.
+// What the cells ask for nodes at the middles of their sides: the second half of the extents. The Rust looks each
+// middle up in a map from places to nodes; here the middles, four to a cell, and behind them the nodes are sorted
+// together by place, and the last of a place is the node that the map would have.
 #![tactic(auto)]
 
 ghost use Rattle.std.specs.Prelude.{◌≡◌, List, ◌+◌, ◌*◌, ◌-◌, ◌%◌, ◌<◌, ◌≤◌, max, length, Float};
@@ -11,35 +11,41 @@ ghost use Rattle.places.specs.Places.{wide};
 ghost use Rattle.node_rows.specs.Rows.{Noded, Cornering, Gapped, Extended, way_of, patchesIn};
 ghost use Rattle.hangs.specs.Items.{cornerOf, boxIn, itemIn, middle_of, keyX, keysX, placeKeys, Answered, Raised};
 
+use refusals::limits;
+
 // More than any coordinate: keys are made by multiples of it.
 const WIDE: u64 = 274877906944;
 
 // Corner s of item i. A node counts as a cell of no size: each of its corners is the node itself.
+#[tactic(auto, using(crate::proofs::Items::corner_low), unfolding(crate::specs::Items::cornerOf))]
 fn corner_of(corners: &[u64], n: usize, l: usize, i: usize, s: usize) -> usize
     requires cornering { Cornering corners.now n l }
     requires i_bound { (i < 4 * l + n) × (s < 4) }
     ensures { (result ≡ cornerOf corners.now l i s) × (result < n) }
 {
     if i < 4 * l {
-        return corners[4 * (i / 4) + s] as usize;
+        corners[4 * (i / 4) + s] as usize
+    } else {
+        i - 4 * l
     }
-    i - 4 * l
 }
 
 // How far along between a and b side q has its middle: halfway, or at one end.
+#[tactic(auto, unfolding(crate::specs::Items::middle_of))]
 fn middle(a: u64, b: u64, q: usize) -> u64
     requires { (a < wide) × (b < wide) }
     ensures { (result ≡ middle_of a b q) × (result < wide) }
 {
     if q < 2 {
-        return (a + b) / 2;
+        (a + b) / 2
+    } else if q == 2 {
+        a
+    } else {
+        b
     }
-    if q == 2 {
-        return a;
-    }
-    b
 }
 
+#[tactic(auto, using(crate::proofs::Items::item_x))]
 fn x_of(nodes: &[i64], n: usize, corners: &[u64], l: usize, i: usize) -> u64
     requires noded { Noded nodes.now n l }
     requires cornering { Cornering corners.now n l }
@@ -52,6 +58,7 @@ fn x_of(nodes: &[i64], n: usize, corners: &[u64], l: usize, i: usize) -> u64
 }
 
 // In y the sides whose middles lie halfway are the other two.
+#[tactic(auto, using(crate::proofs::Items::item_y))]
 fn y_of(nodes: &[i64], n: usize, corners: &[u64], l: usize, i: usize) -> u64
     requires noded { Noded nodes.now n l }
     requires cornering { Cornering corners.now n l }
@@ -71,11 +78,9 @@ fn keys_x(nodes: &[i64], n: usize, corners: &[u64], work: &mut [u64], l: usize)
     ensures { work.new ≡ put work.old 0 (tab (keyX nodes.now corners.now l) (4 * l + n)) }
 {
     let m = 4 * l + n;
-    let mut i = 0;
-    while i < m {
+    for i in 0..m {
         let k = node_rows::layer_at(nodes, corner_of(corners, n, l, i, 0));
         work[i] = k * WIDE + x_of(nodes, n, corners, l, i);
-        i += 1;
     }
 }
 
@@ -89,11 +94,10 @@ fn keys_y(nodes: &[i64], n: usize, corners: &[u64], work: &mut [u64], l: usize)
 {
     let m = 4 * l + n;
     let from = 2 * m;
-    let mut i = 0;
-    while i < m {
+    for i in 0..m {
         let k = work[from + i];
+        prove!(k < 8 * limits::SLOTS as u64);
         work[i] = k * WIDE + y_of(nodes, n, corners, l, i);
-        i += 1;
     }
 }
 
@@ -124,26 +128,8 @@ fn sort_y(nodes: &[i64], n: usize, corners: &[u64], work: &mut [u64], l: usize)
     rows::lasts(&mut work[0..e], m, 55);
 }
 
-// Nothing says that a cell's corners stand in order: where they do not, its size is 0.
-fn span(a: u64, b: u64) -> u64
-    ensures { result ≡ b - a }
-{
-    if a < b {
-        return b - a;
-    }
-    0
-}
-
-fn larger(a: u64, b: u64) -> u64
-    ensures { result ≡ max a b }
-{
-    if a < b {
-        return b;
-    }
-    a
-}
-
-// The size of item i's cell away from its side.
+// The size of item i's cell away from its side. Nothing says that a cell's corners stand in order: where they do not,
+// its size is 0.
 fn size_of(nodes: &[i64], n: usize, corners: &[u64], l: usize, i: usize) -> u64
     requires noded { Noded nodes.now n l }
     requires cornering { Cornering corners.now n l }
@@ -153,12 +139,14 @@ fn size_of(nodes: &[i64], n: usize, corners: &[u64], l: usize, i: usize) -> u64
     let a = corner_of(corners, n, l, i, 0);
     let b = corner_of(corners, n, l, i, 2);
     if i % 4 < 2 {
-        return span(node_rows::y_at(nodes, a), node_rows::y_at(nodes, b));
+        node_rows::y_at(nodes, b).saturating_sub(node_rows::y_at(nodes, a))
+    } else {
+        node_rows::x_at(nodes, b).saturating_sub(node_rows::x_at(nodes, a))
     }
-    span(node_rows::x_at(nodes, a), node_rows::x_at(nodes, b))
 }
 
 // Each middle in turn: where a node is the last at its place, that node's extent becomes at least the cell's size.
+#[tactic(auto, using(crate::proofs::Raising::way_low))]
 fn raise_sides(nodes: &[i64], n: usize, corners: &[u64], work: &mut [u64], l: usize)
     requires noded { Noded nodes.now n l }
     requires cornering { Cornering corners.now n l }
@@ -168,14 +156,13 @@ fn raise_sides(nodes: &[i64], n: usize, corners: &[u64], work: &mut [u64], l: us
 {
     let m = 4 * l;
     let from = 2 * (m + n);
-    let mut i = 0;
-    while i < m {
+    for i in 0..m {
         let j = work[from + i] as usize;
+        prove!(j < m + n);
         if m <= j {
             let at = 44 * l + m * (i % 4) + (j - m);
-            work[at] = larger(work[at], size_of(nodes, n, corners, l, i));
+            work[at] = work[at].max(size_of(nodes, n, corners, l, i));
         }
-        i += 1;
     }
 }
 

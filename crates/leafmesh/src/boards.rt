@@ -1,21 +1,18 @@
 // Rings, boards and board records.
 ghost use Rattle.std.specs.Prelude.{◌≡◌, length};
 ghost use Rattle.refusals.specs.Said.{refusal};
-ghost use Rattle.strips.specs.Said.{strippedSaid, stripsSays, stripsLeave};
+ghost use Rattle.strips.specs.Said.{stripsSays, stripsLeave};
 ghost use Rattle.build.specs.Board.{board};
-ghost use Rattle.build.specs.Says.{builtSaid, buildSays, buildLeaves};
+ghost use Rattle.build.specs.Says.{buildSays, buildLeaves};
 ghost use Rattle.board.specs.Rows.{rows_of};
 ghost use Rattle.board.specs.Reading.{readSaid, readSays, readLeaves};
-ghost use Rattle.writing.specs.Written.{writeSaid, writeSays, writeLeaves};
+ghost use Rattle.writing.specs.Written.{writeSays, writeLeaves};
 ghost use Rattle.leafmesh.specs.Outcome.{outcomeOf, cutSettings, boardSettings};
 ghost use Rattle.leafmesh.specs.Reads.{readOutcomeOf};
 
-use crate::{Outcome, accept, refuse};
-use build::Built;
+use crate::{Outcome, of_count};
 use record::check::Read;
 use refusals::Refusal;
-use strips::Stripped;
-use writing::Written;
 
 // What a read answers: number and place as in an Outcome, then the settings and how many rows the board takes.
 #[repr(C)]
@@ -30,33 +27,6 @@ pub struct ReadOutcome {
     pub polygons: u64,
     pub points: u64,
     pub splits: u64,
-}
-
-fn of_stripped(answer: Stripped) -> Outcome
-    ensures { result ≡ outcomeOf (strippedSaid answer) }
-{
-    match answer {
-        Stripped::Done(n) => accept(n as u64),
-        Stripped::Refused(why) => refuse(why),
-    }
-}
-
-fn of_built(answer: Built) -> Outcome
-    ensures { result ≡ outcomeOf (builtSaid answer) }
-{
-    match answer {
-        Built::Done(n) => accept(n as u64),
-        Built::Refused(why) => refuse(why),
-    }
-}
-
-fn of_written(answer: Written) -> Outcome
-    ensures { result ≡ outcomeOf (writeSaid answer) }
-{
-    match answer {
-        Written::Done(n) => accept(n as u64),
-        Written::Refused(why) => refuse(why),
-    }
 }
 
 fn unread(why: Refusal) -> ReadOutcome
@@ -76,22 +46,22 @@ fn unread(why: Refusal) -> ReadOutcome
     }
 }
 
-fn of_read(answer: Read) -> ReadOutcome
+fn of_read(answer: Result<Read, Refusal>) -> ReadOutcome
     ensures { result ≡ readOutcomeOf (readSaid answer) }
 {
     match answer {
-        Read::Done(s, n) => ReadOutcome {
+        Ok(read) => ReadOutcome {
             number: 0,
             place: 0,
-            level: s.level,
-            cap: s.cap,
-            target: s.target,
-            layers: n.layers as u64,
-            polygons: n.polygons as u64,
-            points: n.points as u64,
-            splits: n.splits as u64,
+            level: read.settings.level,
+            cap: read.settings.cap,
+            target: read.settings.target,
+            layers: read.counts.layers as u64,
+            polygons: read.counts.polygons as u64,
+            points: read.counts.points as u64,
+            splits: read.counts.splits as u64,
         },
-        Read::Refused(why) => unread(why),
+        Err(why) => unread(why),
     }
 }
 
@@ -101,7 +71,7 @@ pub extern "C" fn leafmesh_strips(points: &[[i64; 2]], out: &mut [[i64; 4]]) -> 
     ensures value { result ≡ outcomeOf (stripsSays points.now (length out.old)) }
     ensures out_after { out.new ≡ stripsLeave points.now out.old }
 {
-    of_stripped(strips::strips(points, out))
+    of_count(strips::strips(points, out))
 }
 
 // The roots of a board: value is how many.
@@ -122,11 +92,11 @@ pub extern "C" fn leafmesh_build(
     ensures table_after { table.new ≡ buildLeaves (board (cutSettings max_level cap target) list.now layers.now counts.now points.now) components.now sheets.now table.old }
 {
     let s = build::Settings {
-        max_level: max_level,
-        cap: cap,
-        target: target,
+        max_level,
+        cap,
+        target,
     };
-    of_built(build::build(s, list, layers, components, sheets, counts, points, table))
+    of_count(build::build(s, list, layers, components, sheets, counts, points, table))
 }
 
 // A board record into lent rows.
@@ -161,10 +131,6 @@ pub extern "C" fn leafmesh_write(
     ensures value { result ≡ outcomeOf (writeSays (rows_of layers.now polygons.now sheets.now points.now splits.now) (length out.old)) }
     ensures out_after { out.new ≡ writeLeaves (boardSettings level cap target) (rows_of layers.now polygons.now sheets.now points.now splits.now) out.old }
 {
-    let s = record::Settings {
-        level: level,
-        cap: cap,
-        target: target,
-    };
-    of_written(writing::write(s, layers, polygons, sheets, points, splits, out))
+    let s = record::Settings { level, cap, target };
+    of_count(writing::write(s, layers, polygons, sheets, points, splits, out))
 }

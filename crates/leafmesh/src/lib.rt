@@ -4,10 +4,10 @@
 #![tactic(auto)]
 
 ghost use Rattle.std.specs.Prelude.{◌≡◌, [], ◌∷◌};
-ghost use Rattle.refusals.specs.Said.{accepted, refusal, bit};
+ghost use Rattle.refusals.specs.Said.{accepted, refusal, said, bit};
 ghost use Rattle.contact.specs.Contact.{contactSaid, contactSays};
 ghost use Rattle.table.specs.Formed.{wellFormed};
-ghost use Rattle.table.specs.Leaves.{leafIds, orderIds, listedSaid, leafCountSays, listSays, listRow};
+ghost use Rattle.table.specs.Leaves.{leafIds, orderIds, leafCountSays, listSays, listRow};
 ghost use Rattle.table.specs.Refine.{refinedSaid, refineSays, refineRow};
 ghost use Rattle.coarsest.specs.Passes.{balancing, conforming};
 ghost use Rattle.even.specs.Even.{eveningSaid, evenSays, evenRow};
@@ -16,12 +16,10 @@ ghost use Rattle.leafmesh.specs.Outcome.{outcomeOf, rectOf};
 pub mod boards;
 pub mod nets;
 
-use contact::{Contact, Rect};
+use contact::Rect;
 use even::Evening;
 use refusals::Refusal;
 use table::Head;
-use table::leaves::Listed;
-use table::refine::Refined;
 
 // number is 0 where the call was accepted, and value then its answer; otherwise the refusal's number, with its place.
 // In every answer of this library a field that does not apply is 0.
@@ -39,7 +37,7 @@ pub fn accept(value: u64) -> Outcome
     Outcome {
         number: 0,
         place: 0,
-        value: value,
+        value,
     }
 }
 
@@ -54,45 +52,40 @@ pub fn refuse(why: Refusal) -> Outcome
     }
 }
 
-fn bit_of(b: bool) -> u64
-    ensures { result ≡ bit b }
+// A call that answers with one number.
+pub fn of_count(answer: Result<usize, Refusal>) -> Outcome
+    ensures { result ≡ outcomeOf (said (λ n. n ∷ []) answer) }
 {
-    if b { 1 } else { 0 }
+    match answer {
+        Ok(n) => accept(n as u64),
+        Err(why) => refuse(why),
+    }
 }
 
-fn of_contact(answer: Contact) -> Outcome
+fn of_contact(answer: Result<bool, Refusal>) -> Outcome
     ensures { result ≡ outcomeOf (contactSaid answer) }
 {
     match answer {
-        Contact::Shares(shared) => accept(bit_of(shared)),
-        Contact::Refused(why) => refuse(why),
+        Ok(shared) => accept(u64::from(shared)),
+        Err(why) => refuse(why),
     }
 }
 
-fn of_listed(answer: Listed) -> Outcome
-    ensures { result ≡ outcomeOf (listedSaid answer) }
-{
-    match answer {
-        Listed::Count(n) => accept(n as u64),
-        Listed::Refused(why) => refuse(why),
-    }
-}
-
-fn of_refined(answer: Refined) -> Outcome
+fn of_refined(answer: Result<Head, Refusal>) -> Outcome
     ensures { result ≡ outcomeOf (refinedSaid answer) }
 {
     match answer {
-        Refined::Done(head) => accept(head.count as u64),
-        Refined::Refused(why) => refuse(why),
+        Ok(head) => accept(head.count as u64),
+        Err(why) => refuse(why),
     }
 }
 
-fn of_evening(answer: Evening) -> Outcome
+fn of_evening(answer: Result<Evening, Refusal>) -> Outcome
     ensures { result ≡ outcomeOf (eveningSaid answer) }
 {
     match answer {
-        Evening::Done(splits, _) => accept(splits as u64),
-        Evening::Refused(why) => refuse(why),
+        Ok(evening) => accept(evening.splits as u64),
+        Err(why) => refuse(why),
     }
 }
 
@@ -130,7 +123,7 @@ pub extern "C" fn leafmesh_contact(
 pub extern "C" fn leafmesh_leaf_count(table: &[i64], count: usize, max_level: u64) -> Outcome
     ensures { result ≡ outcomeOf (leafCountSays table.now count max_level) }
 {
-    of_listed(table::leaves::leaf_count(table, Head { count, max_level }))
+    of_count(table::leaves::leaf_count(table, Head { count, max_level }))
 }
 
 // The leaves' ids, rising, into the front of out: value is how many.
@@ -144,7 +137,7 @@ pub extern "C" fn leafmesh_leaves(
     ensures value { result ≡ outcomeOf (listSays (wellFormed table.now count max_level) (leafIds table.now count) out.old) }
     ensures out_after { out.new ≡ listRow (wellFormed table.now count max_level) (leafIds table.now count) out.old }
 {
-    of_listed(table::leaves::leaves(table, Head { count, max_level }, out))
+    of_count(table::leaves::leaves(table, Head { count, max_level }, out))
 }
 
 // The same by polygon, then id.
@@ -158,7 +151,7 @@ pub extern "C" fn leafmesh_leaf_order(
     ensures value { result ≡ outcomeOf (listSays (wellFormed table.now count max_level) (orderIds table.now count) out.old) }
     ensures out_after { out.new ≡ listRow (wellFormed table.now count max_level) (orderIds table.now count) out.old }
 {
-    of_listed(table::leaves::leaf_order(table, Head { count, max_level }, out))
+    of_count(table::leaves::leaf_order(table, Head { count, max_level }, out))
 }
 
 // Splits the leaf with this id: value is the new count.

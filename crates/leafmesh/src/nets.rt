@@ -11,11 +11,10 @@ ghost use Rattle.leafmesh.specs.Outcome.{outcomeOf};
 ghost use Rattle.leafmesh.specs.Nets.{netOutcomeOf, checkOutcomeOf};
 
 use crate::{Outcome, accept, refuse};
-use conforming::Checked;
-use network::Netted;
-use power::Power;
+use conforming::Fault;
 use refusals::Refusal;
 use table::Head;
+use unweighted::Counts;
 
 // How many nodes, edges and cells a net has; number and place as in an Outcome.
 #[repr(C)]
@@ -53,18 +52,18 @@ fn unmade(why: Refusal) -> NetOutcome
     }
 }
 
-fn of_netted(answer: Netted) -> NetOutcome
+fn of_netted(answer: Result<Counts, Refusal>) -> NetOutcome
     ensures { result ≡ netOutcomeOf (nettedSaid answer) }
 {
     match answer {
-        Netted::Done(c) => NetOutcome {
+        Ok(c) => NetOutcome {
             number: 0,
             place: 0,
             nodes: c.nodes as u64,
             edges: c.edges as u64,
             cells: c.cells as u64,
         },
-        Netted::Refused(why) => unmade(why),
+        Err(why) => unmade(why),
     }
 }
 
@@ -82,11 +81,11 @@ fn unchecked(why: Refusal) -> CheckOutcome
     }
 }
 
-fn of_checked(answer: Checked) -> CheckOutcome
+fn of_checked(answer: Result<Fault, Refusal>) -> CheckOutcome
     ensures { result ≡ checkOutcomeOf (Checks.checkedSaid answer) }
 {
     match answer {
-        Checked::Conforms => CheckOutcome {
+        Ok(Fault::Clear) => CheckOutcome {
             number: 0,
             place: 0,
             broken: 0,
@@ -94,7 +93,7 @@ fn of_checked(answer: Checked) -> CheckOutcome
             from: 0,
             to: 0,
         },
-        Checked::Broken(m, a, b) => CheckOutcome {
+        Ok(Fault::Hanging(m, a, b)) => CheckOutcome {
             number: 0,
             place: 0,
             broken: 1,
@@ -102,16 +101,16 @@ fn of_checked(answer: Checked) -> CheckOutcome
             from: a as u64,
             to: b as u64,
         },
-        Checked::Refused(why) => unchecked(why),
+        Err(why) => unchecked(why),
     }
 }
 
-fn of_power(answer: Power) -> Outcome
+fn of_power(answer: Result<(), Refusal>) -> Outcome
     ensures { result ≡ outcomeOf (powerSaid answer) }
 {
     match answer {
-        Power::Done => accept(0),
-        Power::Refused(why) => refuse(why),
+        Ok(()) => accept(0),
+        Err(why) => refuse(why),
     }
 }
 

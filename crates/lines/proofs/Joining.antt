@@ -1,5 +1,5 @@
 -- Laws of text put behind text. Assumes nothing.
-use Prim.Native.Nat.{ℕ, zero, suc, ◌+◌, ◌<◌, ◌≤◌}
+use Prim.Native.Nat.{ℕ, zero, suc, ◌+◌, ◌-◌, ◌<◌, ◌≤◌}
 use mathlib.Core.Path.{◌≡◌, refl, sym, ap, ap₂, subst, ◌∙◌}
 use mathlib.Core.List.{List, [], ◌∷◌, ◌++◌, append_assoc, append-nil}
 use native.Mathlib.Nat.{add-zero, add-suc, suc-add}
@@ -7,11 +7,13 @@ use native.Mathlib.Omega.{arith}
 use native.Mathlib.Numerals.{add-one}
 use lib.ListN.{length, get_or, take, drop, set, length-append}
 use lib.IntN.{ℤ, pos}
-use lib.Seq.{sets, sets-eq, length-sets, length-take-le, take-suc}
+use borrow.Rule.Slice.PartMut.{put_mid}
+use lib.Seq.{drop-drop, sets, sets-eq, length-sets, take-suc}
 use Rattle.io.specs.Counts.{IsPrefixLen}
 use Rattle.io.proofs.Counting.{prefix_len_of_le}
 use Rattle.lines.specs.Text.{newline, space, decimal, signed, numbers, line, edgeWord, named, written, Puts}
-use Rattle.lines.specs.Lines.{in_turn}
+use Rattle.std.proofs.lemmas.List.{drop_more}
+use Rattle.lines.specs.Lines.{in_turn, item}
 
 -- stores behind stores
 sets_more : (l : List ℕ) (k : ℕ) (xs ys : List ℕ) → sets (sets l k xs) (k + length xs) ys ≡ sets l k (xs ++ ys)
@@ -25,18 +27,16 @@ join at x s t u g p q = (
   q.1 ∙ ap₂ (λ k l. sets l k t) p.0 p.1 ∙ sets_more x at s t ∙ ap (sets x at) g,
 )
 
+-- a text that is copied over a part of a row
+pub pasted : (at : ℕ) (x text part : List ℕ) → at + length text ≤ length x → part ≡ text → put_mid at (at + length text - at) x part ≡ sets x at text
+pasted at x text part h e =
+    let k : at + length text - at ≡ length text = omega arith in
+    let d = ap (λ l. take at x ++ (text ++ l)) (drop-drop (length text) at x) in
+    rw (e, k) (d ∙ sym (sets-eq text x at h ∙ append_assoc (take at x) text (drop (at + length text) x)))
+
 -- the same text by another name
 pub renamed : {d : ℕ} {z : List ℕ} (at : ℕ) (x s t : List ℕ) → s ≡ t → Puts at s x d z → Puts at t x d z
 renamed {d} {z} at x s t e p = subst (λ l. Puts at l x d z) e p
-
--- one byte more
-pub one_byte : {y : List ℕ} (x text : List ℕ) (at i : ℕ) → i < length text → y ≡ sets x at (take i text)
-    → set y (at + i) (get_or text i 0) ≡ sets x at (take (i + 1) text)
-one_byte x text at i h e =
-    let v = get_or text i 0 in
-    ap₂ (λ l k. set l (at + k) v) e (sym (length-take-le i text (omega arith)))
-    ∙ sets_more x at (take i text) (v ∷ [])
-    ∙ ap (sets x at) (sym (take-suc text i 0 h) ∙ ap (λ j. take j text) (sym (add-one i)))
 
 -- one number more
 numbers-snoc : (zs : List ℤ) (z : ℤ) → numbers zs ++ (space ∷ signed z) ≡ numbers (zs ++ (z ∷ []))
@@ -51,6 +51,15 @@ numbers-turn row i h = numbers-snoc (take i row) (get_or row i (pos 0)) ∙ ap n
 pub alone : (n : ℕ) → space ∷ decimal n ≡ numbers (pos n ∷ [])
 unfolding numbers signed
 alone n = ap (λ l. space ∷ l) (sym (append-nil (decimal n)))
+
+-- four numbers of a row
+pub four : (row : List ℤ) (k : ℕ) → k + 4 ≤ length row → take (k + 4 - k) (drop k row) ≡ item row k ∷ item row (k + 1) ∷ item row (k + 2) ∷ item row (k + 3) ∷ []
+four row k h =
+    let n : k + 4 - k ≡ 4 = omega arith in
+    let more = λ (i : ℕ) (l : i < length row). drop_more row i (pos 0) l in
+    let two : k + 1 + 1 ≡ k + 2 = omega arith in
+    let three : k + 2 + 1 ≡ k + 3 = omega arith in
+    rw (n, more k (omega arith), more (k + 1) (omega arith), two, more (k + 2) (omega arith), three, more (k + 3) (omega arith)) refl
 
 -- a word and its first number, the others, and the end of the line
 pub lined : {a b c : ℕ} {x y z : List ℕ} (at : ℕ) (w word : List ℕ) (n : ℕ) (zs : List ℤ)

@@ -1,18 +1,15 @@
 -- Laws of numbers as text. Assumes nothing.
-use Prim.Native.Nat.{ℕ, zero, suc, ◌+◌, ◌*◌, ◌-◌, ◌/◌, ◌%◌, ◌^◌, ◌<◌, ◌≤◌}
+use Prim.Native.Nat.{ℕ, zero, suc, ◌+◌, ◌-◌, ◌/◌, ◌%◌, ◌^◌, ◌<◌, ◌≤◌}
 use mathlib.Core.Path.{◌≡◌, refl, sym, ap, ap₂, ◌∙◌}
-use mathlib.Core.Bool.{Bool, true, false, not, false≢true}
+use mathlib.Core.Bool.{Bool, true, false, false≢true}
 use mathlib.Core.List.{[], ◌∷◌, ◌++◌}
 use native.Mathlib.Nat.{pow-suc, pow-le-pow_right, one-le-pow}
 use native.Mathlib.Omega.{arith}
-use native.Mathlib.Numerals.{add-one}
-use lib.Dec.{T, ltb}
-use lib.Ieee.{Float, nan, inf, fin, up, down, binary64, to_bits, eq, is_nan}
-use lib.IntN.{ℤ, pos, negsuc, nat_abs, ◌-ℤ◌}
-use lib.Signed.{le_z, non_neg}
-use mir.Syntax.{w64}
-use mir.Val.{Fits, SFits}
-use borrow.Author.Tests.{lt-ltb, le-ltb, leb-false, ltb-true, ltb-false, eq-eqb}
+use lib.Dec.{ltb}
+use lib.Ieee.{Float, nan, inf, fin, binary64, to_bits, is_nan}
+use lib.IntN.{ℤ, pos, negsuc, nat_abs}
+use lib.Signed.{lt_z}
+use borrow.Author.Tests.{lt-ltb, le-ltb, leb-true, ltb-true, ltb-false}
 use Rattle.io.specs.Digits.{hex_digit_ascii, last_digits, IsDigitCount}
 use Rattle.lines.specs.Text.{tens, decimal, signed, minus}
 
@@ -56,36 +53,20 @@ pub decimal-digits : (k n : ℕ) → IsDigitCount 10 1 n k → last_digits 10 k 
 unfolding decimal
 decimal-digits k n f = tens-digits n k n (omega arith) f
 
--- ---- a float that differs from itself is a NaN
-
-pub no_nan : (x : Float) → eq x x ≡ true → T (not (is_nan x))
-unfolding is_nan eq
-no_nan nan h = absurd (false≢true h)
-no_nan (inf s) h = tt
-no_nan (fin s m e) h = tt
-
-pub nan-bits : (x : Float) → eq x x ≡ false → 9221120237041090560 ≡ to_bits binary64 x
-unfolding eq to_bits
-nan-bits nan h = refl
-nan-bits (inf true) h = absurd (false≢true (sym h))
-nan-bits (inf false) h = absurd (false≢true (sym h))
-nan-bits (fin true m e) h = absurd (false≢true (sym h ∙ rw (eq-eqb (m * up e * down e) (m * up e * down e) refl) refl))
-nan-bits (fin false m e) h = absurd (false≢true (sym h ∙ rw (eq-eqb (m * up e * down e) (m * up e * down e) refl) refl))
+pub nan_bits : (x : Float) → is_nan x ≡ true → 9221120237041090560 ≡ to_bits binary64 x
+unfolding is_nan to_bits
+nan_bits nan h = refl
+nan_bits (inf s) h = absurd (false≢true h)
+nan_bits (fin s m e) h = absurd (false≢true h)
 
 -- ---- a signed number's magnitude
 
-pub above : (z : ℤ) → le_z (pos 0) z ≡ true → SFits w64 z → T (non_neg z) × Fits w64 (nat_abs z) × (decimal (nat_abs z) ≡ signed z)
+pub at_least : (z : ℤ) → lt_z z (pos 0) ≡ false → decimal (nat_abs z) ≡ signed z
 unfolding signed
-above (pos n) h f = (tt, record { fits = omega (arith, f.sfits) }, refl)
-above (negsuc n) h f = absurd (false≢true h)
+at_least (pos n) h = refl
+at_least (negsuc n) h = absurd (false≢true (sym h))
 
-back : (n : ℕ) → negsuc 0 -ℤ negsuc n ≡ pos n
-back n = let h : 1 ≤ suc n = omega arith in simp (le-ltb (suc n) 1 h) (ap pos (omega arith))
-
-pub below : (z : ℤ) → le_z (pos 0) z ≡ false → SFits w64 z
-    → SFits w64 (negsuc 0 -ℤ z) × T (non_neg (negsuc 0 -ℤ z)) × (nat_abs (negsuc 0 -ℤ z) < 2 ^ 63) × (minus ∷ decimal (nat_abs (negsuc 0 -ℤ z) + 1) ≡ signed z)
+pub below : (z : ℤ) → lt_z z (pos 0) ≡ true → minus ∷ decimal (nat_abs z) ≡ signed z
 unfolding signed
-below (pos n) h f = absurd (omega (arith, leb-false 0 n h))
-below (negsuc n) h f =
-    let b = f.sfits in
-    rw (back n) (record { sfits = omega arith }, tt, omega arith, ap (λ m. minus ∷ decimal m) (add-one n))
+below (pos n) h = absurd (omega (arith, leb-true (suc n) 0 h))
+below (negsuc n) h = refl

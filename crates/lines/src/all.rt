@@ -13,10 +13,8 @@ pub fn leaf_lines(out: &mut [u8], at: usize, table: &[i64], order: &[u64], n: us
         out.old result out.new }
 {
     let mut end = at;
-    let mut v: usize = 0;
-    while v < n {
+    for v in 0..n {
         end = leaf_line(out, end, table, order[v]);
-        v += 1;
     }
     end
 }
@@ -27,10 +25,8 @@ pub fn node_lines(out: &mut [u8], at: usize, nodes: &[i64], n: usize) -> usize
     ensures puts { Puts at (nodeLines nodes.now n) out.old result out.new }
 {
     let mut end = at;
-    let mut i: usize = 0;
-    while i < n {
+    for i in 0..n {
         end = node_line(out, end, nodes, i);
-        i += 1;
     }
     end
 }
@@ -43,10 +39,8 @@ pub fn edge_lines(out: &mut [u8], at: usize, ends: &[u64], gs: &[f64], n: usize)
         out.old result out.new }
 {
     let mut end = at;
-    let mut j: usize = 0;
-    while j < n {
+    for j in 0..n {
         end = edge_line(out, end, ends, gs, j);
-        j += 1;
     }
     end
 }

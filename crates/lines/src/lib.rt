@@ -52,9 +52,8 @@ pub fn node_line(out: &mut [u8], at: usize, nodes: &[i64], i: usize) -> usize
     ensures puts { Puts at (nodeLine nodes.now i) out.old result out.new }
 {
     let s = 4 * i;
-    let node = [nodes[s], nodes[s + 1], nodes[s + 2], nodes[s + 3]];
     let a = put::named(out, at, b"node", i as u64);
-    let b = put::numbers(out, a, &node);
+    let b = put::numbers(out, a, &nodes[s..s + 4]);
     put::append(out, b, b"\n")
 }
 

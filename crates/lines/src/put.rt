@@ -9,12 +9,9 @@ pub fn append(out: &mut [u8], at: usize, text: &[u8]) -> usize
     requires { at + length text.now ≤ length out.old }
     ensures { Puts at text.now out.old result out.new }
 {
-    let mut i: usize = 0;
-    while i < text.len() {
-        out[at + i] = text[i];
-        i += 1;
-    }
-    at + i
+    let end = at + text.len();
+    out[at..end].copy_from_slice(text);
+    end
 }
 
 // A number's decimal digits: at most 20.
@@ -54,11 +51,12 @@ fn signed(out: &mut [u8], at: usize, z: i64) -> usize
     ensures upper_bound { result ≤ at + 22 }
     ensures puts { Puts at (space ∷ Text·signed z) out.old result out.new }
 {
-    if z >= 0 {
-        return natural(out, at, z as u64);
+    if z < 0 {
+        let a = append(out, at, b" -");
+        digits(out, a, z.unsigned_abs())
+    } else {
+        natural(out, at, z.unsigned_abs())
     }
-    let a = append(out, at, b" -");
-    digits(out, a, (-1 - z) as u64 + 1)
 }
 
 pub fn numbers(out: &mut [u8], at: usize, row: &[i64]) -> usize
@@ -67,10 +65,8 @@ pub fn numbers(out: &mut [u8], at: usize, row: &[i64]) -> usize
     ensures puts { Puts at (Text·numbers row.now) out.old result out.new }
 {
     let mut end = at;
-    let mut i: usize = 0;
-    while i < row.len() {
-        end = signed(out, end, row[i]);
-        i += 1;
+    for z in row {
+        end = signed(out, end, *z);
     }
     end
 }
@@ -91,8 +87,9 @@ pub fn hex(out: &mut [u8], at: usize, n: u64) -> usize
 const NAN: u64 = 9221120237041090560;
 
 // A float's bits. No net has a NaN; with an answer for it no caller owes a proof of that.
+#[tactic(auto, using(crate::proofs::Numerals::nan_bits))]
 pub fn bits(g: f64) -> u64
     ensures { result ≡ to_bits binary64 g }
 {
-    if g == g { f64::to_bits(g) } else { NAN }
+    if g.is_nan() { NAN } else { g.to_bits() }
 }

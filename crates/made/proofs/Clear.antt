@@ -1,13 +1,13 @@
 -- No edge of a leaf is a fault where the nodes at the middles of its sides are halved. Assumes nothing.
 use mathlib.Core.Path.{◌≡◌, refl, sym, ap, ◌∙◌}
 use mathlib.Core.Bool.{true, ◌&&◌, cond, or_comm}
-use mathlib.Core.Option.{Option, none, some}
 use mathlib.Core.List.{List, [], ◌∷◌}
 use Prim.Native.Nat.{ℕ, zero, suc, ◌<◌, ◌≤◌}
 use native.Mathlib.Omega.{arith}
 use lib.Dec.{eqb}
 use lib.ListN.{length, get_or}
 use borrow.Author.Tests.{lt-ltb}
+use Rattle.std.specs.Prelude.{Option, None, Some}
 use Rattle.cell.specs.declared.Cell.{Cell}
 use Rattle.cell.specs.Boxes.{mid}
 use Rattle.cell.specs.Cells.{boxOf}
@@ -44,7 +44,7 @@ none_of {a} {b} e f = ap (λ (z : List ℕ). or_else z b) e ∙ f
 module _ (ns so : List Node) (es : List Edge) (p : Poly) (w : Whose) (tells : Tells ns w p)
     (once : (i : ℕ) → i < length ns → number ns (nth ns i) ≡ i)
     (kept : (x y : ℕ) → In sameNode ns (nodeAt p x y) → In sameNode so (nodeAt p x y) × (number ns (nodeAt p x y) ≡ number so (nodeAt p x y))) where
-  numbered : (x y i : ℕ) → x ≤ top → y ≤ top → nodeFound (each nodeNums ns) w (on x) (on y) ≡ some i → In sameNode so (nodeAt p x y) × (number so (nodeAt p x y) ≡ i)
+  numbered : (x y i : ℕ) → x ≤ top → y ≤ top → nodeFound (each nodeNums ns) w (on x) (on y) ≡ Some i → In sameNode so (nodeAt p x y) × (number so (nodeAt p x y) ≡ i)
   numbered x y i h k e =
       let f = found ns w p tells once x y i h k e in
       let l = f.0 in
@@ -62,10 +62,10 @@ module _ (ns so : List Node) (es : List Edge) (p : Poly) (w : Whose) (tells : Te
 
       go : (o q r : Option ℕ) → nodeFound (each nodeNums ns) w (on mx) (on my) ≡ o → nodeFound (each nodeNums ns) w (on ax) (on ay) ≡ q
           → nodeFound (each nodeNums ns) w (on bx) (on by) ≡ r → fault (each endNums es) o q r ≡ []
-      go none q r e f g = refl
-      go (some m) none r e f g = refl
-      go (some m) (some a) none e f g = refl
-      go (some m) (some a) (some b) e f g =
+      go None q r e f g = refl
+      go (Some m) None r e f g = refl
+      go (Some m) (Some a) None e f g = refl
+      go (Some m) (Some a) (Some b) e f g =
           let u = numbered mx my m hmx hmy e in
           let v = numbered ax ay a hax hay f in
           let z = numbered bx by b hbx hby g in

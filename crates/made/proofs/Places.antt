@@ -1,7 +1,6 @@
 -- What the check finds at a place is the one node of the net there, and what it takes for joined is an edge of the net. Assumes nothing.
 use mathlib.Core.Path.{◌≡◌, refl, sym, ap, ap₂, subst, ◌∙◌}
 use mathlib.Core.Bool.{Bool, true, false, ◌&&◌, cond}
-use mathlib.Core.Option.{none, some}
 use mathlib.Core.List.{List}
 use Prim.Native.Nat.{ℕ, zero, suc, ◌+◌, ◌/◌, ◌<◌, ◌≤◌}
 use native.Mathlib.Omega.{arith}
@@ -9,10 +8,10 @@ use lib.Dec.{T, eqb, eqb→eq}
 use lib.IntN.{ℤ, pos}
 use lib.ListN.{length, get_or}
 use borrow.Author.Tests.{eq-eqb}
+use Rattle.std.specs.Prelude.{Some}
 use Rattle.refusals.specs.Limits.{coordinate}
 use Rattle.cell.specs.Ticks.{off, on}
 use Rattle.cell.proofs.Offsets.{off-on}
-use Rattle.table.proofs.Meshes.{not_some}
 use Rattle.sound_net.specs.Nets.{eqZ, nodeCount, layerAt, componentAt, xAt, yAt}
 use Rattle.sound_net.proofs.Tests.{yes, same, eqZ-true, eqZ-of}
 use Rattle.conforming.specs.declared.Whose.{Whose}
@@ -50,12 +49,12 @@ all-four : {a b c d : Bool} → a ≡ true → b ≡ true → c ≡ true → d �
 all-four {a} {b} {c} {d} e f g h = both_of a (b && (c && d)) e (both_of b (c && d) f (both_of c d g h))
 
 -- the last index that passes does pass
-pub last_some : (p : ℕ → Bool) (n i : ℕ) → lastBelow p n ≡ some i → (i < n) × (p i ≡ true)
+pub last_some : (p : ℕ → Bool) (n i : ℕ) → lastBelow p n ≡ Some i → (i < n) × (p i ≡ true)
 unfolding lastBelow
-last_some p zero i e = not_some none i refl e
+last_some p zero i e = let z : ◌≡◌ {A = ℕ} 0 1 = cc in absurd (omega arith)
 last_some p (suc n) i e = go (p n) refl e (last_some p n i)
   where
-    go : (b : Bool) → p n ≡ b → cond b (some n) (lastBelow p n) ≡ some i → (lastBelow p n ≡ some i → (i < n) × (p i ≡ true)) → (i < suc n) × (p i ≡ true)
+    go : (b : Bool) → p n ≡ b → cond b (Some n) (lastBelow p n) ≡ Some i → (lastBelow p n ≡ Some i → (i < n) × (p i ≡ true)) → (i < suc n) × (p i ≡ true)
     go true q f ih = let z : n ≡ i = cc in (omega arith, subst (λ (k : ℕ). p k ≡ true) z q)
     go false q f ih = let r = ih f in let l = r.0 in (omega arith, r.1)
 
@@ -65,7 +64,7 @@ Tells ns w p = (x y : ℕ) → x ≤ top → y ≤ top → (i : ℕ) → i < len
 
 -- the node that is found is the one whose number the net has
 pub found : (ns : List Node) (w : Whose) (p : Poly) → Tells ns w p → ((j : ℕ) → j < length ns → number ns (nth ns j) ≡ j) → (x y i : ℕ) → x ≤ top → y ≤ top
-    → nodeFound (each nodeNums ns) w (on x) (on y) ≡ some i → (i < length ns) × (number ns (nodeAt p x y) ≡ i)
+    → nodeFound (each nodeNums ns) w (on x) (on y) ≡ Some i → (i < length ns) × (number ns (nodeAt p x y) ≡ i)
 found ns w p tells once x y i xs ys e =
     let r = last_some (here (each nodeNums ns) w (on x) (on y)) (nodeCount (each nodeNums ns)) i e in
     let l = r.0 in

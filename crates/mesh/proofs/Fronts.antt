@@ -5,7 +5,7 @@ use mathlib.Core.List.{List, [], ◌∷◌, map, map-append}
 use native.Mathlib.Numerals.{add-one}
 use native.Mathlib.Omega.{arith}
 use lib.ListN.{length, get_or, set, take, drop, length-map}
-use lib.Seq.{sets, sets-eq, length-take-le, take-suc, take_all, take-append_seam}
+use lib.Seq.{sets, sets-eq, length-take-le, take-suc, take-append_seam}
 use Rattle.table.proofs.Ids.{sets_more}
 
 -- one item more
@@ -17,10 +17,6 @@ front-turn f row xs d i h =
     ap (λ k. set (sets row 0 ys) k (f (get_or xs i d))) (sym e)
     ∙ sets_more row 0 ys (f (get_or xs i d) ∷ [])
     ∙ ap (sets row 0) (sym (map-append f (take i xs) (get_or xs i d ∷ [])) ∙ ap (map f) (sym (take-suc xs i d h) ∙ ap (λ n. take n xs) (sym (add-one i))))
-
--- all of them
-pub front-all : {A B : Type 0} (f : A → B) (row : List B) (xs : List A) (i : ℕ) → length xs ≤ i → sets row 0 (map f (take i xs)) ≡ sets row 0 (map f xs)
-front-all f row xs i h = ap (λ ys. sets row 0 (map f ys)) (take_all i xs h)
 
 -- and read again
 pub front : {A : Type 0} (row xs : List A) → length xs ≤ length row → take (length xs) (sets row 0 xs) ≡ xs

@@ -15,7 +15,7 @@ use Rattle.board.specs.Rows.{sheetOf}
 use Rattle.table.specs.Formed.{wellFormed}
 use Rattle.table.specs.Leaves.{orderIds, listSays}
 use Rattle.mesh.specs.declared.Totals.{Totals}
-use Rattle.mesh.specs.declared.Meshed.TheVariants.{Done}
+use Rattle.std.specs.Prelude.{Ok}
 use Rattle.mesh.specs.Growing.{levelOf, value_at, balanceSay, balancedRow, growSays}
 use Rattle.mesh.specs.Says.{polygonRoom, leafRoom, inputRoom, meshedSaid, totalsSay, count_of, leafOrder, tableSays, boardIn, meshOf, meshSays, givenBy, Made}
 use Rattle.mesh.proofs.Fronts.{front-map}
@@ -49,7 +49,7 @@ pub record Told (b : Board) (x : Totals) : Type 0 where
   pub splits : x.splits ≡ value_at 0 (balanceSay (givenBy b))
   pub leaves : x.leaves ≡ length (leafOrder (givenBy b))
 
-pub told : (s : List ℕ) (x : Totals) (b : Board) (e : ℕ) → boardIn s ≡ value b e → meshedSaid (Done x) ≡ meshSays s → Told b x
+pub told : (s : List ℕ) (x : Totals) (b : Board) (e : ℕ) → boardIn s ≡ value b e → meshedSaid (Ok x) ≡ meshSays s → Told b x
 told s x b e p q =
     let g = givenBy b in
     let v : accepted (x.max_level ∷ x.count ∷ x.polygons ∷ x.splits ∷ x.leaves ∷ []) ≡ accepted (b.settings.level ∷ count_of g ∷ length (map pointsIn b.polygons) ∷ value_at 0 (balanceSay g) ∷ length (leafOrder g) ∷ []) =

@@ -1,9 +1,10 @@
 -- What the call says of a record's bytes, and what it leaves in the lent rows.
-use Rattle.std.specs.Prelude.{ℕ, ◌*◌, ◌≤◌, ◌≡◌, Bool, cond, ◌&&◌, List, [], ◌∷◌, map, leb, Float, ℤ, length, take, replicate}
+use Rattle.std.specs.Prelude.{ℕ, ◌*◌, ◌≤◌, ◌≡◌, Bool, cond, ◌&&◌, List, [], ◌∷◌, map, leb, Float, ℤ, length, take, replicate, Result}
 use Rattle.std.proofs.lemmas.List.Edits.{sets}
+use Rattle.refusals.specs.declared.Refusal.{Refusal}
 use Rattle.refusals.specs.declared.Refusal.TheVariants.{NoRoom}
 use Rattle.refusals.specs.Limits.{maxPolygons}
-use Rattle.refusals.specs.Said.{Said, accepted, refused, refusal}
+use Rattle.refusals.specs.Said.{Said, accepted, refused, refusal, said}
 use Rattle.table.specs.Formed.{wellFormed}
 use Rattle.table.specs.Leaves.{orderIds, written, listSays}
 use Rattle.build.specs.declared.Settings as Build
@@ -14,8 +15,7 @@ use Rattle.record.specs.Fields.{Out, value, stop, ◌then◌, require}
 use Rattle.record.specs.Board.{Board, board, pointsIn}
 use Rattle.record.specs.Answers.{countsOf}
 use Rattle.board.specs.Rows.{Rows, entryRow, sheetOf, pointRow, rings}
-use Rattle.mesh.specs.declared.Meshed.{Meshed}
-use Rattle.mesh.specs.declared.Meshed.TheVariants.{Done, Refused}
+use Rattle.mesh.specs.declared.Totals.{Totals}
 use Rattle.mesh.specs.Polygons.{column, Narrow}
 use Rattle.mesh.specs.Growing.{also, value_at, Given, given, levelOf, balanceSay, balancedRow, growSays}
 
@@ -45,9 +45,8 @@ inputRoom = 16384
 -- ---- a table's totals
 
 -- an answer's values: max_level, the count, the polygons, balance's splits and the leaves
-abbrev pub meshedSaid : Meshed → Said
-meshedSaid (Done t) = accepted (t.max_level ∷ t.count ∷ t.polygons ∷ t.splits ∷ t.leaves ∷ [])
-meshedSaid (Refused x) = refusal x
+abbrev pub meshedSaid : Result Totals Refusal → Said
+meshedSaid = said (λ t. t.max_level ∷ t.count ∷ t.polygons ∷ t.splits ∷ t.leaves ∷ [])
 
 -- the totals of a table with n cells, once its leaves are in a row of this room: 7, then 6
 unfoldable pub totalsSay : List ℤ → ℕ → ℕ → ℕ → ℕ → ℕ → Said

@@ -14,12 +14,11 @@ ghost use Rattle.mesh.specs.Growing.{growSays, growLeaves};
 ghost use Rattle.mesh.specs.Says.{meshedSaid, totalsSay, rowsGiven, Within, Lent, Made, meshSays};
 
 use even::Evening;
-use record::check::Read;
 use record::{Counts, Settings};
 use refusals::Refusal;
 use refusals::limits::{LAYERS, POLYGONS};
 use table::Head;
-use table::leaves::{Listed, leaf_order};
+use table::leaves::leaf_order;
 
 pub mod polygons;
 pub mod steps;
@@ -42,12 +41,6 @@ pub struct Totals {
     pub leaves: usize,
 }
 
-#[derive(Clone, Copy)]
-pub enum Meshed {
-    Done(Totals),
-    Refused(Refusal),
-}
-
 // The balanced table of a board that was read to these rows, with the polygons' layers and components in rows of their
 // own.
 fn grow_board(
@@ -61,7 +54,7 @@ fn grow_board(
     layers: &mut [u16],
     components: &mut [u32],
     table: &mut [i64],
-) -> Evening
+) -> Result<Evening, Refusal>
     requires { Within n (rows_of list.now polygons.now sheets.now points.now splits.now)
         (length layers.old) (length components.old) }
     ensures result_value { eveningSaid result ≡ growSays (rowsGiven g n (rows_of list.now polygons.now
@@ -105,23 +98,20 @@ fn order_leaves(
     polygons: usize,
     splits: usize,
     order: &mut [u64],
-) -> Meshed
+) -> Result<Totals, Refusal>
     ensures result_value { meshedSaid result ≡ totalsSay table.now head.count head.max_level polygons splits
         (length order.old) }
     ensures order_after { order.new ≡ listRow (wellFormed table.now head.count head.max_level)
         (orderIds table.now head.count) order.old }
 {
-    let listed = leaf_order(table, head, order);
-    match listed {
-        Listed::Refused(x) => Meshed::Refused(x),
-        Listed::Count(n) => Meshed::Done(Totals {
-            max_level: head.max_level,
-            count: head.count,
-            polygons: polygons,
-            splits: splits,
-            leaves: n,
-        }),
-    }
+    let leaves = leaf_order(table, head, order)?;
+    Ok(Totals {
+        max_level: head.max_level,
+        count: head.count,
+        polygons,
+        splits,
+        leaves,
+    })
 }
 
 // From a record's bytes to the balanced table, its leaf order, and each polygon's layer, component and r_sheet, which
@@ -133,7 +123,7 @@ pub fn mesh(
     layers: &mut [u16],
     components: &mut [u32],
     sheets: &mut [f64],
-) -> Meshed
+) -> Result<Totals, Refusal>
     requires { Lent (length table.old) (length order.old) (length layers.old) (length components.old)
         (length sheets.old) }
     ensures result_value { meshedSaid result ≡ meshSays s.now }
@@ -142,30 +132,32 @@ pub fn mesh(
         components.new sheets.old sheets.new }
 {
     if INPUT < s.len() {
-        return Meshed::Refused(Refusal::NoRoom);
+        return Err(Refusal::NoRoom);
     }
     let mut list = [[0u64; 2]; LAYERS];
     let mut polygons = [[0u64; 3]; POLYGONS];
     let mut points = [[0i64; 2]; POINTS];
     let mut splits = [0u64; SPLITS];
-    let answer = board::read(
+    let read = board::read(
         s,
         &mut list,
         &mut polygons,
         sheets,
         &mut points,
         &mut splits,
-    );
-    match answer {
-        Read::Refused(x) => Meshed::Refused(x),
-        Read::Done(g, n) => {
-            let grown = grow_board(
-                g, n, &list, &polygons, sheets, &points, &splits, layers, components, table,
-            );
-            match grown {
-                Evening::Refused(x) => Meshed::Refused(x),
-                Evening::Done(k, head) => order_leaves(table, head, n.polygons, k, order),
-            }
-        }
-    }
+    )?;
+    let n = read.counts;
+    let grown = grow_board(
+        read.settings,
+        n,
+        &list,
+        &polygons,
+        sheets,
+        &points,
+        &splits,
+        layers,
+        components,
+        table,
+    )?;
+    order_leaves(table, grown.head, n.polygons, grown.splits, order)
 }

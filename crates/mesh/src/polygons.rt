@@ -18,11 +18,9 @@ pub fn split_polygons(
     ensures components_after { components.new ≡ sets components.old 0 (column 1 polygons.now) }
     ensures counts_after { counts.new ≡ sets counts.old 0 (column 2 polygons.now) }
 {
-    let mut i = 0;
-    while i < polygons.len() {
+    for i in 0..polygons.len() {
         layers[i] = polygons[i][0] as u16;
         components[i] = polygons[i][1] as u32;
         counts[i] = polygons[i][2];
-        i += 1;
     }
 }

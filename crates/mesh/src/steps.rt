@@ -5,29 +5,24 @@ ghost use Rattle.even.specs.Even.{eveningSaid};
 ghost use Rattle.mesh.specs.Refining.{refineAllSays, refineAllRow};
 ghost use Rattle.mesh.specs.Growing.{given, growSays, growLeaves};
 
-use build::{Built, Settings};
+use build::Settings;
 use even::{Evening, balance};
+use refusals::Refusal;
 use table::Head;
-use table::refine::{Refined, refine};
+use table::refine::refine;
 
 // Splits the leaf of each id in order. The first refusal ends it, and what was split before that stays split.
-pub fn refine_all(table: &mut [i64], head: Head, splits: &[u64]) -> Refined
+pub fn refine_all(table: &mut [i64], head: Head, splits: &[u64]) -> Result<Head, Refusal>
     ensures result_value { refinedSaid result ≡ refineAllSays table.old head.count head.max_level
         splits.now }
     ensures table_after { table.new ≡ refineAllRow table.old head.count head.max_level
         splits.now }
 {
     let mut latest = head;
-    let mut i = 0;
-    while i < splits.len() {
-        let r = refine(table, latest, splits[i] as usize);
-        let Refined::Done(next) = r else {
-            return r;
-        };
-        latest = next;
-        i += 1;
+    for id in splits {
+        latest = refine(table, latest, *id as usize)?;
     }
-    Refined::Done(latest)
+    Ok(latest)
 }
 
 // The roots of a board, its splits and balance, in one table.
@@ -41,7 +36,7 @@ pub fn grow(
     points: &[[i64; 2]],
     splits: &[u64],
     table: &mut [i64],
-) -> Evening
+) -> Result<Evening, Refusal>
     ensures result_value { eveningSaid result ≡ growSays (given s list.now layers.now
         components.now sheets.now counts.now points.now
         splits.now (length table.old)) }
@@ -49,22 +44,11 @@ pub fn grow(
         components.now sheets.now counts.now points.now
         splits.now (length table.old)) table.old }
 {
-    let built = build::build(s, list, layers, components, sheets, counts, points, table);
-    match built {
-        Built::Refused(x) => Evening::Refused(x),
-        Built::Done(n) => {
-            let refined = refine_all(
-                table,
-                Head {
-                    count: n,
-                    max_level: s.max_level,
-                },
-                splits,
-            );
-            match refined {
-                Refined::Refused(x) => Evening::Refused(x),
-                Refined::Done(head) => balance(table, head),
-            }
-        }
-    }
+    let count = build::build(s, list, layers, components, sheets, counts, points, table)?;
+    let roots = Head {
+        count,
+        max_level: s.max_level,
+    };
+    let refined = refine_all(table, roots, splits)?;
+    balance(table, refined)
 }

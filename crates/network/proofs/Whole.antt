@@ -36,9 +36,9 @@ unfolding each weighed
 ends_stay ns cs [] = refl
 ends_stay ns cs (e ∷ es) = ap (λ (z : List ℕ). e.a ∷ e.b ∷ z) (ends_stay ns cs es)
 
-module _ (t : List ℤ) (n M : ℕ) (layers components : List ℕ) (sheets : List Float) (G : Given t n M layers components sheets)
+module _ {t : List ℤ} {n M : ℕ} {layers components : List ℕ} {sheets : List Float} (G : Given t n M layers components sheets)
     (long : length components ≡ length layers) (low : Small (2 ^ 16) layers)
-    (l : ℕ) (count : l ≡ length (leafIds t n)) (r : Rows) (room : Roomy l r) where
+    {l : ℕ} (count : l ≡ length (leafIds t n)) {r : Rows} (room : Roomy l r) where
   abbrev qs : List Piece
   qs = pieces (table t n) (polysOf layers components sheets) 0
 
@@ -62,7 +62,7 @@ module _ (t : List ℤ) (n M : ℕ) (layers components : List ℕ) (sheets : Lis
   leaves-require = (total, (room.corners, (let w = room.work in omega arith)))
 
   -- ---- once the leaves stand in the rows
-  module _ (corners₁ work₁ : List ℕ) (e : corners₁ ≡ put r.corners 0 (boxRow t n)) (f : work₁ ≡ put r.work 0 (polyRow t n))
+  module _ {corners₁ work₁ : List ℕ} (e : corners₁ ≡ put r.corners 0 (boxRow t n)) (f : work₁ ≡ put r.work 0 (polyRow t n))
       (long₁ : length corners₁ ≡ length r.corners) (long₂ : length work₁ ≡ length r.work) where
     held-leaves : Filled t n l (part work₁ 0 l) (take (4 * l) corners₁)
     held-leaves = Leaf.filled t n l r.corners r.work corners₁ work₁ total room.corners leaves-require.1.1 e f

@@ -1,8 +1,9 @@
 -- What the network call says of a table, its polygons and the lent rows, in document 01's order, and what it leaves in the rows.
-use Rattle.std.specs.Prelude.{ℕ, zero, suc, ◌*◌, ◌/◌, ◌%◌, ◌≤◌, Bool, ◌&&◌, cond, List, [], ◌∷◌, map, leb, eqb, ℤ, Float, length, get_or, replicate}
+use Rattle.std.specs.Prelude.{ℕ, zero, suc, ◌*◌, ◌/◌, ◌%◌, ◌≤◌, Bool, ◌&&◌, cond, List, [], ◌∷◌, map, leb, eqb, ℤ, Float, length, get_or, replicate, Result, Ok, Err, ⊤}
 use Rattle.std.specs.Float.{nan}
 use Rattle.refusals.specs.Limits.{maxPolygons}
-use Rattle.refusals.specs.Said.{Said, accepted, refused, refusal}
+use Rattle.refusals.specs.declared.Refusal.{Refusal}
+use Rattle.refusals.specs.Said.{Said, accepted, refused, refusal, said}
 use Rattle.table.specs.Mesh.{table}
 use Rattle.table.specs.Formed.{wellFormed}
 use Rattle.table.specs.Leaves.{leafIds}
@@ -13,10 +14,6 @@ use Rattle.net.specs.Net.{Edge, Patch, each}
 use Rattle.places.specs.Places.{nodeNums, cornerNums, endNums}
 use Rattle.leafrows.specs.Rows.{polysOf, polysBelow}
 use Rattle.unweighted.specs.declared.Counts.{Counts}
-use Rattle.network.specs.declared.Netted.{Netted}
-use Rattle.network.specs.declared.Netted.TheVariants.{Done, Refused}
-use Rattle.network.specs.declared.judge.Sheet.{Sheet}
-use Rattle.network.specs.declared.judge.Sheet.TheVariants.{Fine, Bad}
 
 -- the polygons: layer, component and sheet resistance, a row each
 pub record Polygons : Type 0 where
@@ -44,9 +41,8 @@ rows nodes ends conductances corners sheets work =
 abbrev pub countsSaid : Counts → Said
 countsSaid c = accepted (c.nodes ∷ c.edges ∷ c.cells ∷ [])
 
-abbrev pub nettedSaid : Netted → Said
-nettedSaid (Done c) = countsSaid c
-nettedSaid (Refused x) = refusal x
+abbrev pub nettedSaid : Result Counts Refusal → Said
+nettedSaid = said (λ c. c.nodes ∷ c.edges ∷ c.cells ∷ [])
 
 -- 7: a bad table, a polygon index at or past the polygon count (`polysBelow`), or rows of unequal length
 -- by their lengths: the polygons' three rows, then nodes, ends, conductances, corners and sheets
@@ -66,9 +62,9 @@ sheetsFrom ss i zero otherwise = otherwise
 sheetsFrom ss i (suc n) otherwise = cond (inSheet (get_or ss i nan)) (sheetsFrom ss (suc i) n otherwise) (refused 3 i)
 
 -- what the judgement of the sheets says: nothing, or its refusal
-abbrev pub sheetFault : Sheet → Said → Said
-sheetFault Fine otherwise = otherwise
-sheetFault (Bad p) otherwise = refused 3 p
+abbrev pub sheetFault : Result ⊤ Refusal → Said → Said
+sheetFault (Ok _) otherwise = otherwise
+sheetFault (Err why) otherwise = refusal why
 
 -- 6: "fewer than 4 node rows, 8 edge rows, 1 cell row or 64 work numbers of 64 bits for each leaf"
 abbrev pub roomy : ℕ → ℕ → ℕ → ℕ → ℕ → Bool

@@ -4,19 +4,18 @@ ghost use Rattle.refusals.specs.Said.{Said};
 ghost use Rattle.leafrows.specs.Rows.{polysBelow};
 ghost use Rattle.network.specs.Says.{rowsFit, roomy, sheetsFrom, sheetFault};
 
-use refusals::limits;
+use refusals::{Refusal, limits};
 
 // Whether each cell's polygon is one of so many. Internal: the cells stand in the table.
+#[tactic(auto, unfolding(leafrows::specs::Rows::polysBelow))]
 pub fn polygons_below(t: &[i64], n: usize, count: usize) -> bool
     requires { n * 8 ≤ length t.now }
     ensures { result ≡ polysBelow t.now n count }
 {
-    let mut i = 0;
-    while i < n {
+    for i in 0..n {
         if count as u64 <= table::slots::poly_at(t, i) {
             return false;
         }
-        i += 1;
     }
     true
 }
@@ -39,24 +38,16 @@ pub fn rows_fit(
         & ((nodes % 4 == 0) & ((ends == conductances * 2) & (corners == cells * 4)))
 }
 
-// The first polygon whose sheet resistance is out of range.
-#[derive(Clone, Copy)]
-pub enum Sheet {
-    Fine,
-    Bad(usize),
-}
-
-pub fn judge_sheets(sheets: &[f64]) -> Sheet
+// Refuses the first polygon whose sheet resistance is out of range.
+pub fn judge_sheets(sheets: &[f64]) -> Result<(), Refusal>
     ensures { (o : Said) → sheetFault result o ≡ sheetsFrom sheets.now 0 (length sheets.now) o }
 {
-    let mut p = 0;
-    while p < sheets.len() {
-        if !floats::sheet_in_range(sheets[p]) {
-            return Sheet::Bad(p);
+    for (p, sheet) in sheets.iter().enumerate() {
+        if !floats::sheet_in_range(*sheet) {
+            return Err(Refusal::OutOfRange(p));
         }
-        p += 1;
     }
-    Sheet::Fine
+    Ok(())
 }
 
 // Whether rows of these lengths have room for l leaves. Internal: a table has no more.

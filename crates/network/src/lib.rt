@@ -1,7 +1,7 @@
 // The net of a table: build_network and apply_fv_weights of the Rust, from a lent table into lent rows.
 //
-// nodes: four numbers a node: layer, component, x, y. ends: two numbers an edge. conductances: one an edge. corners: four numbers a cell:
-// its nodes SW, SE, NE, NW. cells: one a cell, its sheet resistance.
+// nodes: four numbers a node: layer, component, x, y. ends: two numbers an edge. conductances: one an edge. corners:
+// four numbers a cell: its nodes SW, SE, NE, NW. cells: one a cell, its sheet resistance.
 #![tactic(auto)]
 
 ghost use Rattle.std.specs.Prelude.{◌≡◌, length};
@@ -14,12 +14,6 @@ pub mod judge;
 use refusals::{Refusal, limits};
 use table::Head;
 use unweighted::Counts;
-
-#[derive(Clone, Copy)]
-pub enum Netted {
-    Done(Counts),
-    Refused(Refusal),
-}
 
 // The net into the rows. Internal: all is judged, and there are l leaves.
 fn fill(
@@ -70,6 +64,7 @@ fn fill(
 }
 
 // The net of a table's leaves. Unused rows keep what they held; the work room is zero afterwards.
+#[tactic(auto, unfolding(crate::specs::Says::networkSays, crate::specs::Says::fits, crate::specs::Says::networkLeaves))]
 pub fn network(
     t: &[i64],
     head: Head,
@@ -82,12 +77,12 @@ pub fn network(
     corners: &mut [u64],
     cells: &mut [f64],
     work: &mut [u64],
-) -> Netted
+) -> Result<Counts, Refusal>
     ensures result_value { nettedSaid result ≡ networkSays t.now head.count head.max_level (polygons layers.now components.now sheets.now) (rows nodes.old ends.old conductances.old corners.old cells.old work.old) }
     ensures work_after { rows nodes.new ends.new conductances.new corners.new cells.new work.new ≡ networkLeaves t.now head.count head.max_level (polygons layers.now components.now sheets.now) (rows nodes.old ends.old conductances.old corners.old cells.old work.old) }
 {
     if !table::formed::well_formed(t, head) {
-        return Netted::Refused(Refusal::BadTable);
+        return Err(Refusal::BadTable);
     }
     let fit = judge::polygons_below(t, head.count, layers.len())
         & judge::rows_fit(
@@ -101,19 +96,17 @@ pub fn network(
             cells.len(),
         );
     if !fit {
-        return Netted::Refused(Refusal::BadTable);
+        return Err(Refusal::BadTable);
     }
     if limits::POLYGONS < layers.len() {
-        return Netted::Refused(Refusal::OutOfRange(0));
+        return Err(Refusal::OutOfRange(0));
     }
-    if let judge::Sheet::Bad(p) = judge::judge_sheets(sheets) {
-        return Netted::Refused(Refusal::OutOfRange(p));
-    }
+    judge::judge_sheets(sheets)?;
     let l = table::leaves::count_leaves(t, head.count);
     if !judge::roomy(l, nodes.len(), conductances.len(), cells.len(), work.len()) {
-        return Netted::Refused(Refusal::NoRoom);
+        return Err(Refusal::NoRoom);
     }
-    Netted::Done(fill(
+    Ok(fill(
         t,
         head,
         l,

@@ -13,7 +13,7 @@ use Rattle.refusals.specs.Limits.{maxSlots, maxPolygons}
 use Rattle.rows.specs.Order as Rows
 use Rattle.rows.specs.Parts.{part, put, tab}
 use Rattle.rows.specs.Contract.{Small}
-use Rattle.rows.proofs.Parts.{length_part, part_at, length-put, part-put-other, part-put, lent_back}
+use Rattle.rows.proofs.Parts.{length_part, part_at, part-put-other, part-put, lent_back}
 use Rattle.rows.proofs.Fill.{length-tab, tab-at, tab-same, tab-only, filled-long, filled-part, filled-other}
 use Rattle.rows.proofs.Lent.{block-long, block-other, block-third}
 use Rattle.net.specs.First.{key, first_of, rank, numberBy, rankIn, Firsts}
@@ -203,9 +203,6 @@ module _ (w₀ w ks : List ℕ) (l : ℕ) (S : Stage w₀ w l) (room : 26 * l �
         let n = last-long in
         ap (λ (z : List ℕ). part z c m) done-is
         ∙ part-put-other w (18 * l) last fits c m 0 h (⊎_elim (λ (q : c + m ≤ 18 * l). inl q) (λ (q : 22 * l ≤ c). inr (omega arith)) o)
-
-    pub numbered-long : length done ≡ length w₀
-    numbered-long = ap length done-is ∙ (length-put w (18 * l) last fits ∙ S.long)
 
     pub numbered : Numbered ks (part w₀ 0 l) done l r
     numbered =

@@ -25,38 +25,42 @@ pub record Numbering (fs row : List ℕ) (count i : ℕ) : Type 0 where
   pub inside : i ≤ length fs
   pub counted : count ≡ rankIn fs i
   pub few : count ≤ i
+  pub low : i < length fs → get_or row i 0 < length row
   pub filled : row ≡ put fs 0 (tab (number_in fs) i)
 
-pub numbering-begins : (fs : List ℕ) → Numbering fs fs 0 0
-numbering-begins fs = record { inside = omega arith; counted = sym (in-none fs); few = omega arith; filled = fill_begins 0 fs 0 (length fs) (number_in fs) (omega arith) }
+low-at : (fs row : List ℕ) (i : ℕ) → Firsts fs → row ≡ put fs 0 (tab (number_in fs) i) → i < length fs → get_or row i 0 < length row
+low-at fs row i F e h =
+    let l = fill-long 0 fs 0 (length fs) (number_in fs) (omega arith) row i e (omega arith) in
+    let a = fill-above 0 fs 0 (length fs) (number_in fs) (omega arith) row i e (omega arith) i (omega arith) in
+    let b = F.low i h in
+    omega arith
+
+pub numbering-begins : (fs : List ℕ) → Firsts fs → Numbering fs fs 0 0
+numbering-begins fs F = record { inside = omega arith; counted = sym (in-none fs); few = omega arith; low = λ h. let b = F.low 0 h in omega arith; filled = fill_begins 0 fs 0 (length fs) (number_in fs) (omega arith) }
 
 module _ (fs row : List ℕ) (count i : ℕ) (F : Firsts fs) (N : Numbering fs row count i) where
   room : 0 + length fs ≤ length fs
   room = omega arith
 
-  pub numbering-long : length row ≡ length fs
-  numbering-long = fill-long 0 fs 0 (length fs) (number_in fs) room row i N.filled N.inside
-
-  pub numbering-here : get_or row i 0 ≡ get_or fs i 0
+  numbering-here : get_or row i 0 ≡ get_or fs i 0
   numbering-here = fill-above 0 fs 0 (length fs) (number_in fs) room row i N.filled N.inside i (omega arith)
 
   module _ (h : i < length fs) where
     turned : (v : ℕ) → v ≡ number_in fs i → set row i v ≡ put fs 0 (tab (number_in fs) (i + 1))
     turned v e = ap (λ (k : ℕ). set row k v) (sym (zero-add i)) ∙ fill-turn 0 fs 0 (length fs) (number_in fs) room row i N.filled h v e
 
-    pub first-in : get_or row i 0 < length row
-    first-in = let l = numbering-long in let e = numbering-here in let b = F.low i h in omega arith
-
     pub numbering-new : get_or row i 0 ≡ i → Numbering fs (set row i count) (count + 1) (i + 1)
     numbering-new e =
         let c = N.counted in
         let l = N.few in
         let q : get_or fs i 0 ≡ i = sym numbering-here ∙ e in
+        let w = turned count (c ∙ ap (rankIn fs) (sym q)) in
         record {
           inside = omega arith;
           counted = omega (arith, in-new fs i q, ap (rankIn fs) (add-one i));
           few = omega arith;
-          filled = turned count (c ∙ ap (rankIn fs) (sym q));
+          low = low-at fs _ (i + 1) F w;
+          filled = w;
         }
 
     pub numbering-old : (get_or row i 0 ≡ i → ⊥) → Numbering fs (set row i (get_or row (get_or row i 0) 0)) count (i + 1)
@@ -65,14 +69,16 @@ module _ (fs row : List ℕ) (count i : ℕ) (F : Firsts fs) (N : Numbering fs r
         let l = N.few in
         let b = F.low i h in
         let q : get_or fs i 0 ≡ i → ⊥ = λ z. e (numbering-here ∙ z) in
+        let w = turned (get_or row (get_or row i 0) 0)
+        (ap (λ (k : ℕ). get_or row k 0) (numbering-here ∙ sym (zero-add (get_or fs i 0)))
+        ∙ fill_done 0 fs 0 (length fs) (number_in fs) room row i N.filled N.inside (get_or fs i 0) (below b q)
+        ∙ ap (rankIn fs) (F.own i h)) in
         record {
           inside = omega arith;
           counted = omega (arith, in-old fs i q, ap (rankIn fs) (add-one i));
           few = omega arith;
-          filled = turned (get_or row (get_or row i 0) 0)
-              (ap (λ (k : ℕ). get_or row k 0) (numbering-here ∙ sym (zero-add (get_or fs i 0)))
-              ∙ fill_done 0 fs 0 (length fs) (number_in fs) room row i N.filled N.inside (get_or fs i 0) (below b q)
-              ∙ ap (rankIn fs) (F.own i h));
+          low = low-at fs _ (i + 1) F w;
+          filled = w;
         }
       where
         below : {a : ℕ} → a ≤ i → (a ≡ i → ⊥) → a < i

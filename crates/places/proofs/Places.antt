@@ -1,19 +1,19 @@
 -- The places of a leaf, and the rows of classes and keys. Assumes nothing.
-use mathlib.Core.Path.{◌≡◌, refl, sym, ap, ap₂, ◌∙◌}
+use mathlib.Core.Path.{◌≡◌, refl, sym, ap, ap₂, subst, ◌∙◌}
 use mathlib.Core.Bool.{true, false, ◌&&◌}
-use mathlib.Core.Logic.{⊎_elim}
+use mathlib.Core.Logic.{◌⊎◌, ⊎_elim}
 use mathlib.Core.List.{List}
 use Prim.Native.Nat.{ℕ, zero, suc, ◌+◌, ◌*◌, ◌^◌, ◌<◌, ◌≤◌}
 use native.Mathlib.Omega.{arith}
 use native.Mathlib.Nat.{zero-add}
 use lib.Dec.{eqb}
-use lib.ListN.{length, get_or}
+use lib.ListN.{length, get_or, set}
 use borrow.Author.Tests.{lt-ltb, le-ltb, eq-eqb}
 use Rattle.cell.specs.Boxes.{Box}
-use Rattle.rows.specs.Parts.{part, tab}
+use Rattle.rows.specs.Parts.{part, put, tab}
 use Rattle.rows.specs.Contract.{Small}
 use Rattle.rows.proofs.Parts.{length_part, part_at}
-use Rattle.rows.proofs.Fill.{length-tab, tab-at}
+use Rattle.rows.proofs.Fill.{length-tab, tab-at, fill_begins, fill-turn, fill-long, fill-part}
 use Rattle.net.specs.First.{key, first_of}
 use Rattle.net.specs.Flat.{placeX, placeY}
 use Rattle.net.proofs.Find.{order, find-is}
@@ -101,3 +101,27 @@ front_low w l n v r s h =
     let e = front_at w l v h in
     let b = s v (omega arith) in
     omega arith
+
+-- a row that is being filled from a on: the part at c stays, and its entries are small
+pub record Filling (w₀ w : List ℕ) (a : ℕ) (f : ℕ → ℕ) (c n k i : ℕ) : Type 0 where
+  pub here : w ≡ put w₀ a (tab f i)
+  pub kept : (v : ℕ) → v < n → get_or w (c + v) 0 ≡ get_or (part w₀ c n) v 0
+  pub small : (v : ℕ) → v < n → get_or w (c + v) 0 < k
+
+module _ (w₀ : List ℕ) (a m : ℕ) (f : ℕ → ℕ) (c n k : ℕ) (room : a + m ≤ length w₀) (inside : c + n ≤ length w₀) (apart : (c + n ≤ a) ⊎ (a + m ≤ c)) (low : Small k (part w₀ c n)) where
+  filling : (w : List ℕ) (i : ℕ) → i ≤ m → w ≡ put w₀ a (tab f i) → Filling w₀ w a f c n k i
+  filling w i h e =
+      let l = fill-long 0 w₀ a m f room w i e h in
+      let s = fill-part 0 w₀ a m f room w i e h c n inside apart in
+      let z : Small k (part w c n) = subst (Small k) (sym s) low in
+      record {
+        here = e;
+        kept = λ v q. sym (part_at w c n v 0 q) ∙ ap (λ (x : List ℕ). get_or x v 0) s;
+        small = λ v q. part_low w c n k v (omega arith) z q;
+      }
+
+  pub filling-begins : Filling w₀ w₀ a f c n k 0
+  filling-begins = filling w₀ 0 (omega arith) (fill_begins 0 w₀ a m f room)
+
+  pub filling-turn : (w : List ℕ) (i : ℕ) → Filling w₀ w a f c n k i → i < m → (v : ℕ) → v ≡ f i → Filling w₀ (set w (a + i) v) a f c n k (i + 1)
+  filling-turn w i F h v e = filling (set w (a + i) v) (i + 1) (omega arith) (fill-turn 0 w₀ a m f room w i F.here h v e)

@@ -39,6 +39,7 @@ next-old ks i e = ⊎_elim (λ t. absurd (e (ap (rank ks) (eqb-true (first_of ks
 
 pub record Writing {A : Type 0} (ks : List ℕ) (g : ℕ → List A) (w₀ w : List A) (c i : ℕ) : Type 0 where
   pub count : c ≡ rank ks i
+  pub few : c ≤ i
   pub here : w ≡ put w₀ 0 (each g (news ks i))
 
 module _ {A : Type 0} (ks : List ℕ) (g : ℕ → List A) (k m : ℕ) (size : (i : ℕ) → length (g i) ≡ k) (w₀ : List A) (room : m * k ≤ length w₀) where
@@ -58,7 +59,7 @@ module _ {A : Type 0} (ks : List ℕ) (g : ℕ → List A) (k m : ℕ) (size : (
 
   pub writing_begins : Writing ks g w₀ w₀ 0 0
   unfolding news rank each
-  writing_begins = record { count = refl; here = sym (put-nil w₀ 0) }
+  writing_begins = record { count = refl; few = omega arith; here = sym (put-nil w₀ 0) }
 
   module _ (w : List A) (c i : ℕ) (W : Writing ks g w₀ w c i) where
     pub writing-long : i ≤ m → length w ≡ length w₀
@@ -77,6 +78,7 @@ module _ {A : Type 0} (ks : List ℕ) (g : ℕ → List A) (k m : ℕ) (size : (
         let s = written-size i in
         record {
           count = omega (arith, ap (rank ks) (add-one i), rank-new ks i t);
+          few = let l = W.few in omega arith;
           here = e
               ∙ (ap₂ {C = List A} (λ u z. put u z (g i)) W.here (ap (λ (z : ℕ). z * k) n ∙ (sym s ∙ sym (zero-add (length (each g (news ks i))))))
               ∙ (put-more w₀ 0 (each g (news ks i)) (g i) (omega (arith, size i, written-room (suc i) h, ap (λ (z : ℕ). z * k) (rank-new ks i t)))
@@ -90,6 +92,7 @@ module _ {A : Type 0} (ks : List ℕ) (g : ℕ → List A) (k m : ℕ) (size : (
     writing-old t =
         record {
           count = W.count ∙ (sym (rank-old ks i t) ∙ ap (rank ks) (sym (add-one i)));
+          few = let l = W.few in omega arith;
           here = W.here ∙ ap (λ (z : List ℕ). put w₀ 0 (each g z)) (sym (ap (news ks) (add-one i) ∙ news-old ks i t));
         }
 

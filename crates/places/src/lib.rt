@@ -1,5 +1,5 @@
-// The places of the leaves, corners and middles, numbered as nodes: the first part of the Rust's build_network, with one sort in place of
-// every map.
+// The places of the leaves, corners and middles, numbered as nodes: the first part of the Rust's build_network, with
+// one sort in place of every map.
 //
 // The rows of work room, for l leaves: the polygon of each leaf, its class, and blocks of places and of parts of edges.
 #![tactic(auto)]
@@ -13,6 +13,9 @@ ghost use Rattle.net.specs.First.{rank, news, numberBy, rankIn, Firsts};
 ghost use Rattle.net.specs.Flat.{placeX, placeY};
 ghost use Rattle.places.specs.Places.{wide, classOf, boxAt, leafOf, side_of, xOf, yOf, keyX, keyY, placeKeys, Laid, Numbered, nodeNums, node_of};
 
+// More than any coordinate of a cell: keys are made by multiples of it.
+const WIDE: u64 = 1 << 38;
+
 // The first polygon of the same layer and component as polygon k.
 fn class_of(layers: &[u16], components: &[u32], k: usize) -> usize
     requires components_len { length components.now ≡ length layers.now }
@@ -21,12 +24,10 @@ fn class_of(layers: &[u16], components: &[u32], k: usize) -> usize
 {
     let a = layers[k];
     let b = components[k];
-    let mut j = 0;
-    while j < k {
+    for j in 0..k {
         if (layers[j] == a) & (components[j] == b) {
             return j;
         }
-        j += 1;
     }
     k
 }
@@ -38,30 +39,25 @@ fn class_row(layers: &[u16], components: &[u32], work: &mut [u64], l: usize)
     requires small { Small (length layers.now) (part work.old 0 l) }
     ensures { work.new ≡ put work.old l (tab (λ v. classOf layers.now components.now (get_or work.old v 0)) l) }
 {
-    let mut v = 0;
-    while v < l {
+    for v in 0..l {
         let k = work[v] as usize;
         work[l + v] = class_of(layers, components, k) as u64;
-        v += 1;
     }
 }
 
+#[tactic(auto, unfolding(crate::specs::Places::leafOf))]
 fn leaf_of(m: usize, i: usize) -> usize
-    ensures { result ≡ leafOf m i }
+    ensures value { result ≡ leafOf m i }
+    ensures low { i < m + m → 4 * result < m }
 {
-    if i < m {
-        return i / 4;
-    }
-    (i - m) / 4
+    if i < m { i / 4 } else { (i - m) / 4 }
 }
 
+#[tactic(auto, unfolding(crate::specs::Places::side_of))]
 fn side_of(m: usize, i: usize) -> usize
     ensures { result ≡ side_of m i }
 {
-    if i < m {
-        return i % 4;
-    }
-    (i - m) % 4 + 4
+    if i < m { i % 4 } else { (i - m) % 4 + 4 }
 }
 
 // The x of place s of leaf v.
@@ -73,23 +69,11 @@ fn place_x(boxes: &[u64], v: usize, s: usize) -> u64
     let b = 4 * v;
     let x0 = boxes[b];
     let x1 = boxes[b + 2];
-    let middle = (x0 + x1) / 2;
-    if s == 0 {
-        return x0;
+    match s {
+        0 | 3 | 6 => x0,
+        4 | 5 => (x0 + x1) / 2,
+        _ => x1,
     }
-    if s == 3 {
-        return x0;
-    }
-    if s == 6 {
-        return x0;
-    }
-    if s == 4 {
-        return middle;
-    }
-    if s == 5 {
-        return middle;
-    }
-    x1
 }
 
 fn place_y(boxes: &[u64], v: usize, s: usize) -> u64
@@ -100,23 +84,11 @@ fn place_y(boxes: &[u64], v: usize, s: usize) -> u64
     let b = 4 * v;
     let y0 = boxes[b + 1];
     let y1 = boxes[b + 3];
-    let middle = (y0 + y1) / 2;
-    if s == 0 {
-        return y0;
+    match s {
+        0 | 1 | 4 => y0,
+        2 | 3 | 5 => y1,
+        _ => (y0 + y1) / 2,
     }
-    if s == 1 {
-        return y0;
-    }
-    if s == 4 {
-        return y0;
-    }
-    if s == 6 {
-        return middle;
-    }
-    if 6 < s {
-        return middle;
-    }
-    y1
 }
 
 fn x_of(boxes: &[u64], l: usize, i: usize) -> u64
@@ -143,14 +115,10 @@ fn keys_x(boxes: &[u64], work: &mut [u64], l: usize)
     requires small { Small maxPolygons (part work.old l l) }
     ensures { work.new ≡ put work.old (l + l) (tab (keyX (part work.old l l) boxes.now (4 * l)) (8 * l)) }
 {
-    let m = 4 * l;
-    let n = m + m;
     let at = l + l;
-    let mut i = 0;
-    while i < n {
-        let k = work[l + leaf_of(m, i)];
-        work[at + i] = k * 274877906944 + x_of(boxes, l, i);
-        i += 1;
+    for i in 0..8 * l {
+        let k = work[l + leaf_of(4 * l, i)];
+        work[at + i] = k * WIDE + x_of(boxes, l, i);
     }
 }
 
@@ -160,28 +128,23 @@ fn keys_y(boxes: &[u64], work: &mut [u64], l: usize)
     requires small { Small (8 * maxSlots) (part work.old (18 * l) (8 * l)) }
     ensures { work.new ≡ put work.old (l + l) (tab (keyY (part work.old (18 * l) (8 * l)) boxes.now (4 * l)) (8 * l)) }
 {
-    let m = 4 * l;
-    let n = m + m;
     let at = l + l;
     let from = 18 * l;
-    let mut i = 0;
-    while i < n {
+    for i in 0..8 * l {
         let k = work[from + i];
-        work[at + i] = k * 274877906944 + y_of(boxes, l, i);
-        i += 1;
+        work[at + i] = k * WIDE + y_of(boxes, l, i);
     }
 }
 
-// A row of first places becomes the row of their numbers: how many places before the first one are their own first. Answers how many are.
+// A row of first places becomes the row of their numbers: how many places before the first one are their own first.
+// Answers how many are.
 fn number_row(row: &mut [u64]) -> usize
     requires { Firsts row.old }
     ensures value { result ≡ rankIn row.old (length row.old) }
     ensures row_after { row.new ≡ tab (λ i. rankIn row.old (get_or row.old i 0)) (length row.old) }
 {
-    let n = row.len();
     let mut count: usize = 0;
-    let mut i = 0;
-    while i < n {
+    for i in 0..row.len() {
         let f = row[i] as usize;
         if f == i {
             row[i] = count as u64;
@@ -189,13 +152,12 @@ fn number_row(row: &mut [u64]) -> usize
         } else {
             row[i] = row[f];
         }
-        i += 1;
     }
     count
 }
 
-// Numbers the places: classes, two rounds of keys and sorts, numbers. Answers how many nodes there are. Internal: the row has room for the
-// blocks, and each leaf's polygon, in front of it, is one of the polygons.
+// Numbers the places: classes, two rounds of keys and sorts, numbers. Answers how many nodes there are. Internal: the
+// row has room for the blocks, and each leaf's polygon, in front of it, is one of the polygons.
 pub fn number_places(
     layers: &[u16],
     components: &[u32],
@@ -257,7 +219,8 @@ fn write_node(
     put_node(nodes, at, a, b, x, y);
 }
 
-// The nodes in the order of their numbers: a corner is a new node if its number is the next one. Internal: the places are numbered.
+// The nodes in the order of their numbers: a corner is a new node if its number is the next one. Internal: the places
+// are numbered.
 pub fn write_nodes(
     layers: &[u16],
     components: &[u32],
@@ -272,16 +235,13 @@ pub fn write_nodes(
     requires l_value { part work.now (18 * l) (4 * l) ≡ tab (numberBy (placeKeys layers.now components.now (part work.now 0 l) boxes.now l)) (4 * l) }
     ensures { (result ≡ rank (placeKeys layers.now components.now (part work.now 0 l) boxes.now l) (4 * l)) × (nodes.new ≡ put nodes.old 0 (each (λ i. nodeNums (node_of layers.now components.now (part work.now 0 l) boxes.now l i)) (news (placeKeys layers.now components.now (part work.now 0 l) boxes.now l) (4 * l)))) }
 {
-    let m = 4 * l;
     let from = 18 * l;
     let mut c: usize = 0;
-    let mut i = 0;
-    while i < m {
+    for i in 0..4 * l {
         if work[from + i] == c as u64 {
             write_node(layers, components, boxes, work, l, i, nodes, 4 * c);
             c += 1;
         }
-        i += 1;
     }
     c
 }

@@ -25,11 +25,7 @@ listed_at f (suc n) i d h =
     (λ (l : i < n). get_or-append (listed f n) (f n ∷ []) d i (rw (listed-length f n) l) ∙ listed_at f n i d l)
     (eq-or-lt_of_le (omega arith))
 
--- the row before the first turn, after one more, and after two more
-pub front-none : (f : ℕ → Float) (row : List Float) → row ≡ listed f 0 ++ drop 0 row
-unfolding listed
-front-none f row = refl
-
+-- the row after one more turn, and after two more
 front-more : (f : ℕ → Float) (row : List Float) (i : ℕ) (d : Float) → i < length row → set (listed f i ++ drop i row) i (f i) ≡ listed f (i + 1) ++ drop (i + 1) row
 unfolding listed
 front-more f row i d h =

@@ -1,7 +1,7 @@
--- What the call says and leaves in each of its four cases, and what an accepted call may go by. Assumes nothing.
+-- What an accepted call says and leaves, and what it may go by. Assumes nothing.
 use Prim.Native.Nat.{ℕ, ◌<◌}
 use mathlib.Core.Path.{◌≡◌}
-use mathlib.Core.Bool.{true, false, ◌&&◌}
+use mathlib.Core.Bool.{true, ◌&&◌}
 use mathlib.Core.List.{List, []}
 use native.Mathlib.Omega.{arith}
 use lib.ListN.{length}
@@ -9,7 +9,7 @@ use lib.Dec.{T, eqb, eqb→eq, leb}
 use lib.IntN.{ℤ}
 use lib.Ieee.{Float}
 use lib.Ieee.Fits.{and_l, and_r}
-use Rattle.refusals.specs.Said.{accepted, refused}
+use Rattle.refusals.specs.Said.{accepted}
 use Rattle.floats.specs.Fractions.{inSheet, inPotential}
 use Rattle.sound_net.specs.Nets.{Net, all_below, nodeCount, soundNet}
 use Rattle.sound_net.proofs.Tests.{all-at}
@@ -17,22 +17,11 @@ use Rattle.sound_net.proofs.Sound.{net-facts}
 use Rattle.sound_net.proofs.Gaps.{sides}
 use Rattle.power.specs.Powers.{value_at, powered, inRanges, powerSays, powerRow, Sloped}
 
-module _ (n : Net) (us answers : List Float) where
-  pub bad : soundNet n ≡ false → (refused 7 0 ≡ powerSays n us answers) × (answers ≡ powerRow n us answers)
-  unfolding powerSays powerRow
-  bad e = (rw e, rw e)
-
-  pub unfit : soundNet n ≡ true → inRanges n.nodes n.sheets us ≡ false → (refused 3 0 ≡ powerSays n us answers) × (answers ≡ powerRow n us answers)
-  unfolding powerSays powerRow
-  unfit e f = (rw (e, f), rw (e, f))
-
-  pub short : soundNet n ≡ true → inRanges n.nodes n.sheets us ≡ true → leb (length n.sheets) (length answers) ≡ false → (refused 6 0 ≡ powerSays n us answers) × (answers ≡ powerRow n us answers)
-  unfolding powerSays powerRow
-  short e f g = (rw (e, f, g), rw (e, f, g))
-
-  pub done : soundNet n ≡ true → inRanges n.nodes n.sheets us ≡ true → leb (length n.sheets) (length answers) ≡ true → (accepted [] ≡ powerSays n us answers) × (powered n.nodes n.corners n.sheets us answers ≡ powerRow n us answers)
-  unfolding powerSays powerRow
-  done e f g = (rw (e, f, g), rw (e, f, g))
+pub done : (n : Net) (us answers : List Float)
+    → soundNet n ≡ true → inRanges n.nodes n.sheets us ≡ true → leb (length n.sheets) (length answers) ≡ true
+    → (accepted [] ≡ powerSays n us answers) × (powered n.nodes n.corners n.sheets us answers ≡ powerRow n us answers)
+unfolding powerSays powerRow
+done n us answers e f g = (rw (e, f, g), rw (e, f, g))
 
 -- every potential and every sheet resistance is in range, and there is a potential for each node
 pub record Ranged (nodes : List ℤ) (sheets us : List Float) : Type 0 where

@@ -1,15 +1,14 @@
 -- What the power call says, and what the row of answers holds afterwards.
-use Rattle.std.specs.Prelude.{ℕ, zero, suc, ◌+◌, ◌*◌, ◌≤◌, ◌≡◌, Bool, ◌&&◌, cond, List, [], ◌∷◌, ◌++◌, length, get_or, drop, eqb, leb, ℤ, nat_abs, ◌-ℤ◌, Float}
+use Rattle.std.specs.Prelude.{ℕ, zero, suc, ◌+◌, ◌*◌, ◌≤◌, ◌≡◌, Bool, ◌&&◌, cond, List, [], ◌∷◌, ◌++◌, length, get_or, drop, eqb, leb, ℤ, nat_abs, ◌-ℤ◌, Float, Result}
 use Rattle.std.specs.Float.{nan}
-use Rattle.refusals.specs.Said.{Said, accepted, refused, refusal}
+use Rattle.refusals.specs.declared.Refusal.{Refusal}
+use Rattle.refusals.specs.Said.{Said, accepted, refused, said}
 use Rattle.cell.specs.Ticks.{metresOf}
 use Rattle.floats.specs.Fractions.{inSheet, inPotential}
 use Rattle.sound_net.specs.Nets.{Net, all_below, nodeCount, xAt, yAt, swAt, seAt, neAt, nwAt, soundNet}
 use Rattle.sound_net.specs.Facts.{SoundCell, Sides}
 use Rattle.power.specs.declared.Values.{Values}
 use Rattle.power.specs.declared.Slope.{Slope}
-use Rattle.power.specs.declared.Power.{Power}
-use Rattle.power.specs.declared.Power.TheVariants.{Done, Refused}
 use Rattle.power.specs.Formulas.{slopeOf, powerOf}
 
 abbrev pub value_at : List Float → ℕ → Float
@@ -57,9 +56,8 @@ inRanges nodes sheets potentials =
     && all_below (λ i. inSheet (value_at sheets i)) (length sheets)
 
 -- an answer's number and values
-abbrev pub powerSaid : Power → Said
-powerSaid Done = accepted []
-powerSaid (Refused x) = refusal x
+abbrev pub powerSaid : Result Unit Refusal → Said
+powerSaid = said (λ u. [])
 
 -- document 01: "Power: 7, 3 (a cell's r_sheet too, place 0), 6", where 6 is fewer answers than cells
 unfoldable pub powerSays : Net → List Float → List Float → Said

@@ -1,4 +1,4 @@
-// The power of a net's cells from the potentials of its nodes: cell_grad and cell_power of the Rust.
+// The power of a net's cells from the potentials of its nodes: cell_grad (`Values::grad`) and cell_power of the Rust.
 //
 // The rows of a net are those of `sound_net`. Lengths are in metres.
 #![tactic(auto)]
@@ -24,6 +24,23 @@ pub struct Values {
     pub height: u64,
 }
 
+impl Values {
+    // A cell's slope and extents from its values. Internal: the sides are those of a sound cell.
+    fn grad(self) -> Slope
+        requires { (self.width < 2 ^ 53) × (self.height < 2 ^ 53) }
+        ensures { result ≡ slopeOf self.u0 self.u1 self.u2 self.u3 (metresOf self.width) (metresOf self.height) }
+    {
+        let dx = cell::ticks::metres(self.width);
+        let dy = cell::ticks::metres(self.height);
+        Slope {
+            gx: ((self.u1 + self.u2) - (self.u0 + self.u3)) / (2.0 * dx),
+            gy: ((self.u2 + self.u3) - (self.u0 + self.u1)) / (2.0 * dy),
+            dx,
+            dy,
+        }
+    }
+}
+
 // A cell's slope and extents.
 #[derive(Clone, Copy)]
 pub struct Slope {
@@ -33,31 +50,12 @@ pub struct Slope {
     pub dy: f64,
 }
 
-#[derive(Clone, Copy)]
-pub enum Power {
-    Done,
-    Refused(Refusal),
-}
-
-// A cell's slope and extents from its values. Internal: the sides are those of a sound cell.
-fn cell_grad(v: Values) -> Slope
-    requires { (v.width < 2 ^ 53) × (v.height < 2 ^ 53) }
-    ensures { result ≡ slopeOf v.u0 v.u1 v.u2 v.u3 (metresOf v.width) (metresOf v.height) }
-{
-    let dx = cell::ticks::metres(v.width);
-    let dy = cell::ticks::metres(v.height);
-    Slope {
-        gx: ((v.u1 + v.u2) - (v.u0 + v.u3)) / (2.0 * dx),
-        gy: ((v.u2 + v.u3) - (v.u0 + v.u1)) / (2.0 * dy),
-        dx: dx,
-        dy: dy,
+impl Slope {
+    fn power(self, sheet: f64) -> f64
+        ensures { result ≡ powerOf self sheet }
+    {
+        (((self.gx * self.gx + self.gy * self.gy) * self.dx) * self.dy) / sheet
     }
-}
-
-fn power_of(s: Slope, sheet: f64) -> f64
-    ensures { result ≡ powerOf s sheet }
-{
-    (((s.gx * s.gx + s.gy * s.gy) * s.dx) * s.dy) / sheet
 }
 
 // The ticks from one number of the row to a larger one. Internal: both are coordinates in range.
@@ -66,9 +64,7 @@ fn gap(nodes: &[i64], i: usize, j: usize) -> u64
     requires gap { Gap (get_or nodes.now j (pos 0) -ℤ get_or nodes.now i (pos 0)) }
     ensures { result ≡ nat_abs (get_or nodes.now j (pos 0) -ℤ get_or nodes.now i (pos 0)) }
 {
-    let a = nodes[i];
-    let b = nodes[j];
-    (b - a) as u64
+    (nodes[j] - nodes[i]) as u64
 }
 
 // The values of cell c. Internal: the cell is one of a sound net, with a potential for each node.
@@ -82,45 +78,43 @@ fn cell_values(nodes: &[i64], corners: &[u64], potentials: &[f64], c: usize) -> 
     let se = corners[at + 1] as usize;
     let ne = corners[at + 2] as usize;
     let nw = corners[at + 3] as usize;
-    let width = gap(nodes, sw * 4 + 2, se * 4 + 2);
-    let height = gap(nodes, sw * 4 + 3, nw * 4 + 3);
     Values {
         u0: potentials[sw],
         u1: potentials[se],
         u2: potentials[ne],
         u3: potentials[nw],
-        width: width,
-        height: height,
+        width: gap(nodes, sw * 4 + 2, se * 4 + 2),
+        height: gap(nodes, sw * 4 + 3, nw * 4 + 3),
     }
 }
 
+#[tactic(auto, unfolding(sound_net::specs::Nets::all_below))]
 fn potentials_in_range(potentials: &[f64]) -> bool
     ensures { result ≡ all_below (λ i. inPotential (value_at potentials.now i)) (length potentials.now) }
 {
     let mut good = true;
-    let mut i = 0usize;
-    while i < potentials.len() {
-        good = good & floats::potential_in_range(potentials[i]);
-        i += 1;
+    for &u in potentials {
+        good &= floats::potential_in_range(u);
     }
     good
 }
 
+#[tactic(auto, unfolding(sound_net::specs::Nets::all_below))]
 fn sheets_in_range(sheets: &[f64]) -> bool
     ensures { result ≡ all_below (λ i. inSheet (value_at sheets.now i)) (length sheets.now) }
 {
     let mut good = true;
-    let mut i = 0usize;
-    while i < sheets.len() {
-        good = good & floats::sheet_in_range(sheets[i]);
-        i += 1;
+    for &r in sheets {
+        good &= floats::sheet_in_range(r);
     }
     good
 }
 
 // Puts the power of each cell in its answer, two cells a turn: both are loaded before either is divided, so that the divisions go together. Internal: the net is sound, with a potential for each node and room for the answers.
+#[tactic(auto, unfolding(crate::specs::Powers::valuesAt, crate::specs::Powers::listed))]
 fn fill(nodes: &[i64], corners: &[u64], sheets: &[f64], potentials: &[f64], answers: &mut [f64])
-    requires { (length sheets.now ≤ length answers.old) × ((c : ℕ) → c < length sheets.now → Sloped nodes.now corners.now potentials.now c) }
+    requires room { length sheets.now ≤ length answers.old }
+    requires sloped { (c : ℕ) → c < length sheets.now → Sloped nodes.now corners.now potentials.now c }
     ensures { answers.new ≡ powered nodes.now corners.now sheets.now potentials.now answers.old }
 {
     let mut c = 0usize;
@@ -128,12 +122,12 @@ fn fill(nodes: &[i64], corners: &[u64], sheets: &[f64], potentials: &[f64], answ
         let first = cell_values(nodes, corners, potentials, c);
         // The last of an odd number.
         if c + 1 == sheets.len() {
-            answers[c] = power_of(cell_grad(first), sheets[c]);
+            answers[c] = first.grad().power(sheets[c]);
             return;
         }
         let second = cell_values(nodes, corners, potentials, c + 1);
-        let p = power_of(cell_grad(first), sheets[c]);
-        let q = power_of(cell_grad(second), sheets[c + 1]);
+        let p = first.grad().power(sheets[c]);
+        let q = second.grad().power(sheets[c + 1]);
         answers[c] = p;
         answers[c + 1] = q;
         c += 2;
@@ -151,6 +145,7 @@ fn in_ranges(nodes: &[i64], sheets: &[f64], potentials: &[f64]) -> bool
 }
 
 // Document 01's cell_power: refusal 7 for a bad net, 3 for a value out of range, 6 for fewer answers than cells.
+#[tactic(auto, unfolding(crate::specs::Powers::powerSays, crate::specs::Powers::powerRow))]
 pub fn cell_power(
     nodes: &[i64],
     ends: &[u64],
@@ -159,19 +154,19 @@ pub fn cell_power(
     sheets: &[f64],
     potentials: &[f64],
     answers: &mut [f64],
-) -> Power
+) -> Result<(), Refusal>
     ensures said { powerSaid result ≡ powerSays (netOf nodes.now ends.now conductances.now corners.now sheets.now) potentials.now answers.old }
     ensures row { answers.new ≡ powerRow (netOf nodes.now ends.now conductances.now corners.now sheets.now) potentials.now answers.old }
 {
     if !sound_net::is_sound(nodes, ends, conductances, corners, sheets) {
-        return Power::Refused(Refusal::BadTable);
+        return Err(Refusal::BadTable);
     }
     if !in_ranges(nodes, sheets, potentials) {
-        return Power::Refused(Refusal::OutOfRange(0));
+        return Err(Refusal::OutOfRange(0));
     }
     if answers.len() < sheets.len() {
-        return Power::Refused(Refusal::NoRoom);
+        return Err(Refusal::NoRoom);
     }
     fill(nodes, corners, sheets, potentials, answers);
-    Power::Done
+    Ok(())
 }

@@ -23,7 +23,7 @@ use Rattle.leafrows.proofs.Ids.{leaf-id}
 use Rattle.network.specs.Says as Network
 use Rattle.lines.specs.Lines.{Slotted}
 use Rattle.mesh.specs.declared.Totals.{Totals}
-use Rattle.mesh.specs.declared.Meshed.TheVariants.{Done}
+use Rattle.std.specs.Prelude.{Ok}
 use Rattle.mesh.specs.Growing.{value_at, Given, levelOf, balanceSay, balancedRow, growSays}
 use Rattle.mesh.specs.Says.{polygonRoom, leafRoom, inputRoom, meshedSaid, totalsSay, count_of, leafOrder, tableSays, givenBy, boardIn, meshOf, meshSays, Made}
 use Rattle.mesh.proofs.Fronts.{front-map}
@@ -53,7 +53,7 @@ record Told (g : Given) (t : Totals) : Type 0 where
   formed : wellFormed (balancedRow g) (count_of g) (levelOf g) ≡ true
   room : length (leafOrder g) ≤ leafRoom
 
-told : (g : Given) (t : Totals) → meshedSaid (Done t) ≡ tableSays g leafRoom → Told g t
+told : (g : Given) (t : Totals) → meshedSaid (Ok t) ≡ tableSays g leafRoom → Told g t
 unfolding tableSays totalsSay
 told g t e =
     let us = levelOf g ∷ count_of g ∷ polygons g.board ∷ value_at 0 (balanceSay g) ∷ length (leafOrder g) ∷ [] in
@@ -88,7 +88,7 @@ pub refused-text : (s : List ℕ) (x : Refusal) → refusal x ≡ meshSays s →
 unfolding outputText
 refused-text s x e = refusal-text x (boardText (boardIn s)) ∙ ap (λ (a : Said). unlessRefused a (boardText (boardIn s))) e
 
-module _ (s : List ℕ) (t : Totals) (e : meshedSaid (Done t) ≡ meshSays s) {table : List ℤ} {o o' l l' c c' : List ℕ} {r r' : List Float} (m : Made s table o o' l l' c c' r r') where
+module _ (s : List ℕ) (t : Totals) (e : meshedSaid (Ok t) ≡ meshSays s) {table : List ℤ} {o o' l l' c c' : List ℕ} {r r' : List Float} (m : Made s table o o' l l' c c' r r') where
   abbrev b : Board
   b = m.board
 

@@ -16,7 +16,6 @@ use Rattle.places.specs.Places.{nodeNums, endNums}
 use Rattle.node_rows.proofs.Lists.{items-long, item-at}
 use Rattle.weighing.proofs.Held.{row-begins}
 use Rattle.network.specs.Says.{Polygons, Rows, netOf, filled, countsSaid, networkSays, networkLeaves}
-use Rattle.network.proofs.Verdict.{leaves-yes}
 use Rattle.unweighted.specs.declared.Counts.{Counts}
 use Rattle.lines.specs.Text.{totalsText, nodeText, edgeText}
 use Rattle.lines.specs.Lines.{nodeLine, edgeLine, leafLines, nodeLines, edgeLines}
@@ -124,7 +123,8 @@ module _ (t : Totals) (table : List ℤ) (order : List ℕ) (p : Polygons) where
     w = netOf table t.count p
 
     held : r ≡ filled w netRoom
-    held = left ∙ sym (leaves-yes table t.count t.max_level p netRoom (c.nodes ∷ c.edges ∷ c.cells ∷ []) (sym e))
+    unfolding networkLeaves
+    held = left ∙ rw (← e) refl
 
     counts : accepted (length w.nodes ∷ length w.edges ∷ length w.patches ∷ []) ≡ countsSaid c
     counts = net-accepted table t.count t.max_level p netRoom (c.nodes ∷ c.edges ∷ c.cells ∷ []) (sym e)

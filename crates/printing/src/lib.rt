@@ -10,8 +10,7 @@ ghost use Rattle.network.specs.Says.{polygons};
 ghost use Rattle.printing.specs.Output.{saidText, tableText, outputText};
 ghost use Rattle.printing.specs.Lent.{TableRows, NetRows, rowsText};
 
-use mesh::{Meshed, Totals};
-use network::Netted;
+use mesh::Totals;
 use refusals::Refusal;
 use table::Head;
 use unweighted::Counts;
@@ -73,12 +72,13 @@ fn table_text(
     let mut corners = [0u64; 256];
     let mut cells = [0f64; 64];
     let mut work = [0u64; 4096];
+    let head = Head {
+        count: t.count,
+        max_level: t.max_level,
+    };
     let net = network::network(
         table,
-        Head {
-            count: t.count,
-            max_level: t.max_level,
-        },
+        head,
         layers,
         components,
         sheets,
@@ -90,8 +90,8 @@ fn table_text(
         &mut work,
     );
     match net {
-        Netted::Refused(why) => refuse(out, why),
-        Netted::Done(c) => put_lines(out, t, c, table, order, &nodes, &ends, &gs),
+        Err(why) => refuse(out, why),
+        Ok(c) => put_lines(out, t, c, table, order, &nodes, &ends, &gs),
     }
 }
 
@@ -117,15 +117,14 @@ pub fn text(bytes: &[u8], out: &mut [u8; TEXT]) -> usize
         &mut sheets,
     );
     match answer {
-        Meshed::Refused(why) => refuse(row, why),
-        Meshed::Done(t) => {
-            let l = t.leaves;
+        Err(why) => refuse(row, why),
+        Ok(t) => {
             let p = t.polygons;
             table_text(
                 row,
                 t,
                 &table,
-                &order[..l],
+                &order[..t.leaves],
                 &layers[..p],
                 &components[..p],
                 &sheets[..p],

@@ -1,87 +1,24 @@
--- What the fields of an item come to together, as the code reads them. Assumes nothing.
+-- What the fields of an item and the lists come to together. Assumes nothing.
 use Prim.Native.Nat.{ℕ, ◌+◌, ◌-◌, ◌≤◌, ◌<◌}
 use native.Mathlib.Nat.{add_assoc}
-use lib.ListN.{length}
-use mathlib.Core.Path.{◌≡◌, refl, sym, ap, ◌∙◌}
 use native.Mathlib.Omega.{arith}
+use mathlib.Core.Path.{◌≡◌, refl, sym, ap, ◌∙◌}
+use mathlib.Core.Bool.{Bool, true, false}
 use mathlib.Core.List.{List}
-use lib.IntN.{ℤ}
+use lib.Dec.{eqb}
+use lib.ListN.{length}
+use Rattle.std.specs.Prelude.{Result, Ok, Err}
 use Rattle.refusals.specs.declared.Refusal.{Refusal}
-use Rattle.refusals.specs.Limits.{maxLevel, maxCap, maxCell, maxPoints}
-use lib.Dec.{leb, eqb}
-use mathlib.Core.Bool.{◌||◌}
-use Rattle.refusals.specs.declared.Refusal.TheVariants.{WrongVersion, WrongLength, OutOfRange}
-use Rattle.record.specs.Fields.{Out, value, stop, bigEndian, field, ranged}
-use Rattle.record.proofs.Walks.{then-value, field-value, ranged-value, Ends, within, then-ends, require-ends, field-ends, ranged-ends, point-ends, several-ends, several-length, several-go}
-use Rattle.record.specs.declared.check.Walk.TheVariants as W
-use Rattle.record.specs.Answers.{went}
-use Rattle.record.specs.Board.{lastLayer, asDefault, level, settings, sheetLow, sheetHigh, entry, Point, point, coordinate, ring, Polygon, polygon, shapes, pointsIn, points_of}
-
-module _ (s : List ℕ) (at : ℕ) where
-  pub entry_value : (least : ℕ) {l v : ℕ} → ranged least lastLayer 2 s at ≡ value l (at + 2) → ranged 0 maxCell 8 s (at + 2) ≡ value v (at + 2 + 8)
-      → entry s least at ≡ value (record { layer = l; cell = v }) (at + 10)
-  unfolding entry
-  entry_value least p q = let e : at + 2 + 8 ≡ at + 10 = omega arith in rw (p, q, e) refl
-
-  pub entry-no-layer : (least : ℕ) {x : Refusal} → ranged least lastLayer 2 s at ≡ stop x → entry s least at ≡ stop x
-  unfolding entry
-  entry-no-layer least p = rw p refl
-
-  pub entry-no-cell : (least : ℕ) {l : ℕ} {x : Refusal} → ranged least lastLayer 2 s at ≡ value l (at + 2) → ranged 0 maxCell 8 s (at + 2) ≡ stop x → entry s least at ≡ stop x
-  unfolding entry
-  entry-no-cell least p q = rw (p, q) refl
-
-  pub point-value : {x y : ℤ} → coordinate s at ≡ value x (at + 8) → coordinate s (at + 8) ≡ value y (at + 8 + 8) → point s at ≡ value (record { x = x; y = y }) (at + 16)
-  unfolding point
-  point-value p q = let e : at + 8 + 8 ≡ at + 16 = omega arith in rw (p, q, e) refl
-
-  pub point-no-x : {r : Refusal} → coordinate s at ≡ stop r → point s at ≡ stop r
-  unfolding point
-  point-no-x p = rw p refl
-
-  pub point-no-y : {x : ℤ} {r : Refusal} → coordinate s at ≡ value x (at + 8) → coordinate s (at + 8) ≡ stop r → point s at ≡ stop r
-  unfolding point
-  point-no-y p q = rw (p, q) refl
-
--- a polygon, field by field
-module _ (s : List ℕ) (at : ℕ) where
-  six : at + 2 + 4 ≡ at + 6
-  six = omega arith
-
-  fourteen : at + 6 + 8 ≡ at + 14
-  fourteen = omega arith
-
-  sixteen : at + 14 + 2 ≡ at + 16
-  sixteen = omega arith
-
-  pub polygon-no-layer : {x : Refusal} → field 2 s at ≡ stop x → polygon s at ≡ stop x
-  unfolding polygon
-  polygon-no-layer p = rw p refl
-
-  module _ {layer : ℕ} (p : field 2 s at ≡ value layer (at + 2)) where
-    pub polygon-no-component : {x : Refusal} → field 4 s (at + 2) ≡ stop x → polygon s at ≡ stop x
-    unfolding polygon
-    polygon-no-component q = rw (p, q) refl
-
-    module _ {component : ℕ} (q : field 4 s (at + 2) ≡ value component (at + 2 + 4)) where
-      pub polygon-no-sheet : {x : Refusal} → ranged sheetLow sheetHigh 8 s (at + 6) ≡ stop x → polygon s at ≡ stop x
-      unfolding polygon
-      polygon-no-sheet r = rw (p, q, six, r) refl
-
-      module _ {sheet : ℕ} (r : ranged sheetLow sheetHigh 8 s (at + 6) ≡ value sheet (at + 6 + 8)) where
-        pub polygon-no-count : {x : Refusal} → ranged 0 maxPoints 2 s (at + 14) ≡ stop x → polygon s at ≡ stop x
-        unfolding polygon
-        polygon-no-count t = rw (p, q, six, r, fourteen, t) refl
-
-        module _ {n : ℕ} (t : ranged 0 maxPoints 2 s (at + 14) ≡ value n (at + 14 + 2)) where
-          pub polygon-no-ring : {x : Refusal} → ring s n (at + 16) ≡ stop x → polygon s at ≡ stop x
-          unfolding polygon
-          polygon-no-ring u = rw (p, q, six, r, fourteen, t, sixteen, u) refl
-
-          pub polygon-value : {points : List Point} {e : ℕ} → ring s n (at + 16) ≡ value points e
-              → polygon s at ≡ value (record { layer = layer; component = component; sheet = sheet; points = points }) e
-          unfolding polygon
-          polygon-value u = rw (p, q, six, r, fourteen, t, sixteen, u) refl
+use Rattle.refusals.specs.declared.Refusal.TheVariants.{WrongLength}
+use Rattle.refusals.specs.Limits.{maxLayers, maxPolygons, maxPoints}
+use Rattle.record.specs.declared.Settings.{Settings}
+use Rattle.record.specs.declared.check.Read.{Read}
+use Rattle.record.specs.Fields.{Out, value, stop, ◌then◌, require, bigEndian, field, ranged}
+use Rattle.record.specs.Board.{Board, lists, layerList, entries, entry, polygonList, shapes, splitList, ids}
+use Rattle.record.specs.Board.{sheetLow, sheetHigh, Polygon, polygon, ring, point, pointsIn, points_of}
+use Rattle.record.specs.Answers.{went, nothing, countsOf, checked}
+use Rattle.record.proofs.Walks.{then-value, field-value, ranged-value, many-length, several-length}
+use Rattle.record.proofs.Each.{go}
 
 -- what an accepted polygon is made of
 pub record Made (s : List ℕ) (at : ℕ) (p : Polygon) (e : ℕ) : Type 0 where
@@ -127,39 +64,77 @@ polygon-made s at {p} {e} h =
           ∙ ap (λ (x : Polygon). value x.points e) (sym made);
     }
 
-pub polygon-ends : (s : List ℕ) (at : ℕ) → Ends s (polygon s at)
-unfolding polygon
-polygon-ends s at =
-    then-ends (field-ends 2 s at) (λ l e h.
-    then-ends (field-ends 4 s e) (λ c e h.
-    then-ends (ranged-ends sheetLow sheetHigh 8 s e) (λ r e h.
-    then-ends (ranged-ends 0 maxPoints 2 s e) (λ n e h.
-    then-ends (several-ends (point s) s (point-ends s) n e h) (λ m e h. within h)))))
-
 pub polygon-few : (s : List ℕ) (at : ℕ) {p : Polygon} {e : ℕ} → polygon s at ≡ value p e → pointsIn p ≤ maxPoints
 polygon-few s at {p} h =
     let m = polygon-made s at h in
     rw (several-length (point s) (bigEndian 2 s (at + 14)) (at + 16) m.points) m.few
 
 pub went-ext : {A : Type 0} {f g : A → ℕ} → ((a : A) → f a ≡ g a) → (o : Out A) → went f o ≡ went g o
-went-ext h (value a e) = ap (W.To e) (h a)
+went-ext h (value a e) = ap (λ k. value k e) (h a)
 went-ext h (stop x) = refl
 
 -- one polygon more, with its points added to the k before it
 pub shapes-go : (s : List ℕ) (n i at k : ℕ) {p : Polygon} {next : ℕ} → i < n → polygon s at ≡ value p next
-    → went (λ ps. k + points_of ps) (shapes s (n - i) at) ≡ went (λ ps. k + pointsIn p + points_of ps) (shapes s (n - (i + 1)) next)
+    → went (λ ps. k + points_of ps) (shapes s (n - i) at)
+    ≡ went (λ ps. k + pointsIn p + points_of ps) (shapes s (n - (i + 1)) next)
 unfolding points_of
 shapes-go s n i at k {p} {next} h q =
-    several-go (polygon s) (λ ps. k + points_of ps) n i at h q
+    go (polygon s) (λ ps. k + points_of ps) n i at h q
     ∙ went-ext (λ ps. sym (add_assoc k (pointsIn p) (points_of ps))) (shapes s (n - (i + 1)) next)
 
-pub settings-ends : (s : List ℕ) → Ends s (settings s)
-unfolding settings level
-settings-ends s =
-    then-ends (field-ends 1 s 0) (λ v e h. require-ends (eqb v 1) WrongVersion _
-    (then-ends (field-ends 4 s e) (λ n e' h. require-ends (eqb n (length s - e')) (WrongLength e) _
-    (then-ends
-    (then-ends (field-ends 1 s e') (λ l e h. require-ends (leb l maxLevel || eqb l asDefault) (OutOfRange e') _ (within h)))
-    (λ l e h.
-    then-ends (ranged-ends 1 maxCap 2 s e) (λ c e h.
-    then-ends (ranged-ends 1 maxCell 8 s e) (λ t e h. within h)))))))
+-- ---- the lists, by what a walk over them keeps
+
+abbrev pub answered : {A : Type 0} → Out A → Result A Refusal
+answered (value a e) = Ok a
+answered (stop x) = Err x
+
+abbrev read_of : Board → Read
+read_of b = record { settings = b.settings; counts = countsOf b }
+
+checked-went : (o : Out Board) → checked o ≡ answered (went read_of o)
+checked-went (value b e) = refl
+checked-went (stop x) = refl
+
+-- a number, and then items of which only what the walk keeps counts
+module _ {A B C D : Type 0} (some : List A → B) (keep : C → D) (f : List A → ℕ → Out C) (g : ℕ → B → ℕ → Out D)
+    (same : (xs : List A) (e : ℕ) → went keep (f xs e) ≡ g (length xs) (some xs) e) where
+  items-went : (n : ℕ) (o : Out (List A)) → ((xs : List A) (e : ℕ) → o ≡ value xs e → length xs ≡ n)
+      → went keep (o then f) ≡ (went some o then g n)
+  items-went n (value xs e) many = rw (← many xs e refl) (same xs e)
+  items-went n (stop x) many = refl
+
+  listed-went : (count : Out ℕ) (items : ℕ → ℕ → Out (List A))
+      → ((n at : ℕ) (xs : List A) (e : ℕ) → items n at ≡ value xs e → length xs ≡ n)
+      → went keep ((count then items) then f) ≡ (count then λ n at. went some (items n at) then g n)
+  listed-went (value n at) items many = items-went n (items n at) (many n at)
+  listed-went (stop x) items many = refl
+
+require-went : {A B : Type 0} (keep : A → B) (ok : Bool) (x : Refusal) (a : A) (e : ℕ)
+    → went keep (require ok x (value a e)) ≡ require ok x (value (keep a) e)
+require-went keep true x a e = refl
+require-went keep false x a e = refl
+
+-- the lists as the code walks them
+abbrev pub walked : List ℕ → Settings → ℕ → Out Read
+walked s g at =
+    ranged 0 maxLayers 2 s at then λ l at.
+    went nothing (entries s l at) then λ _ at.
+    ranged 0 maxPolygons 2 s at then λ p at.
+    went points_of (shapes s p at) then λ points at.
+    field 2 s at then λ k at.
+    went nothing (ids s k at) then λ _ at.
+    require (eqb at (length s)) (WrongLength at)
+    (value (record { settings = g; counts = record { layers = l; polygons = p; points = points; splits = k } }) at)
+
+pub lists_walked : (s : List ℕ) (g : Settings) (at : ℕ) → checked (lists s g at) ≡ answered (walked s g at)
+unfolding lists layerList polygonList splitList
+lists_walked s g at =
+    checked-went (lists s g at) ∙ ap answered (
+    listed-went nothing read_of _ _ (λ ls at.
+    listed-went points_of read_of _ _ (λ ps at.
+    listed-went nothing read_of _ _ (λ ks at.
+    require-went read_of (eqb at (length s)) (WrongLength at)
+    (record { settings = g; layers = ls; polygons = ps; splits = ks }) at)
+    (field 2 s at) (ids s) (λ n at xs e. several-length (field 4 s) n at))
+    (ranged 0 maxPolygons 2 s at) (shapes s) (λ n at xs e. several-length (polygon s) n at))
+    (ranged 0 maxLayers 2 s at) (entries s) (λ n at xs e. many-length (entry s) (λ e. e.layer + 1) n 0 at))

@@ -2,4 +2,5 @@
 pub mod Numbers
 pub mod Walks
 pub mod Items
-pub mod Said
+pub mod Turns
+pub mod Each

@@ -32,6 +32,12 @@ number-below s at bytes (suc k) =
 pub fits-64 : (k n : ℕ) → k ≤ 8 → n < 256 ^ k → n < 2 ^ 64
 fits-64 k n h l = le_trans l (pow-le-pow_right (lit< tt) h)
 
+-- so a number of less than 8 bytes has room for the next byte
+pub next-fits : (s : List ℕ) (at : ℕ) → ((i : ℕ) → get_or s i 0 < 256) → {n k : ℕ} → n ≡ bigEndian k s at → k < 8
+    → n * 256 + get_or s (at + k) 0 < 2 ^ 64
+next-fits s at bytes {k} e h =
+    rw (e, ← byte_more s at k) (fits-64 (k + 1) _ (omega arith) (number-below s at bytes (k + 1)))
+
 -- ---- two's complement
 
 pub below-zero : (k : ℕ) → negsuc 0 -ℤ pos k ≡ negsuc k

@@ -1,47 +1,62 @@
-// A reader that carries the lent record and its offset, put over the reader by plain offset.
-//
-// The borrow checker covers no function over a struct that holds a slice, so these are proved by hand, and kept thin:
-// `next` takes the reader apart and calls `field_at`, which is covered. A caller of `read` meets no reader at all.
-ghost use Rattle.std.specs.Prelude.{◌≡◌, ◌+◌, ◌≤◌};
-ghost use Rattle.record.specs.Fields.{field};
+// A reader that carries the lent record and its offset: each field that it reads moves it on.
+ghost use Rattle.std.specs.Prelude.{◌≡◌, ◌≤◌};
+ghost use Rattle.record.specs.Fields.{field, ranged, signed};
 ghost use Rattle.record.specs.Answers.{told, fieldSaid, fieldSays};
 
-use crate::fields::{Field, field_at};
+use crate::fields::{number, ticks};
+use refusals::Refusal;
 
-#[derive(Clone, Copy)]
+#[derive(Drop)]
 pub struct Reader<'a> {
     pub src: &'a [u8],
     pub at: usize,
 }
 
-// A reader at the record's start.
-pub fn new<'a>(src: &'a [u8]) -> Reader<'a>
-    ensures { (result.src ≡ src.entry) × (result.at ≡ 0) }
-{
-    Reader { src, at: 0 }
-}
+impl<'a> Reader<'a> {
+    // A reader at the record's start.
+    pub fn new(src: &'a [u8]) -> Reader<'a>
+        ensures { (result.src ≡ src.entry) × (result.at ≡ 0) }
+    {
+        Reader { src, at: 0 }
+    }
 
-// The same record, from another offset on.
-pub fn moved<'a>(r: Reader<'a>, at: usize) -> Reader<'a>
-    ensures { (result.src ≡ r.entry.src) × (result.at ≡ at) }
-{
-    Reader { src: r.src, at }
-}
+    // The field of `width` bytes where the reader stands, or its refusal and place. Internal: of at most 8.
+    #[tactic(auto, unfolding(crate::specs::Fields::field))]
+    pub fn next(&mut self, width: usize) -> Result<u64, Refusal>
+        requires { width ≤ 8 }
+        ensures field { told result self.new.at ≡ field width self.old.src.now self.old.at }
+        ensures result_value { fieldSaid result ≡ fieldSays (field width self.old.src.now self.old.at) }
+        ensures same_record { self.new.src ≡ self.old.src }
+    {
+        let at = self.at;
+        if self.src.len() < at || self.src.len() - at < width {
+            return Err(Refusal::WrongLength(at));
+        }
+        self.at += width;
+        Ok(number(self.src, at, width))
+    }
 
-// The field of `width` bytes where the reader stands, or its refusal and place. Internal: of at most 8.
-pub fn next<'a>(r: Reader<'a>, width: usize) -> Field
-    requires { width ≤ 8 }
-    ensures { (told result (r.entry.at + width) ≡ field width r.entry.src.now r.entry.at)
-        × (fieldSaid result ≡ fieldSays (field width r.entry.src.now r.entry.at)) }
-{
-    field_at(r.src, r.at, width)
-}
+    // A field of `width` bytes whose value lies from `low` to `high`. Internal: of at most 8 bytes.
+    #[tactic(auto, unfolding(crate::specs::Fields::ranged))]
+    pub fn ranged(&mut self, width: usize, low: u64, high: u64) -> Result<u64, Refusal>
+        requires { width ≤ 8 }
+        ensures field { told result self.new.at ≡ ranged low high width self.old.src.now self.old.at }
+        ensures same_record { self.new.src ≡ self.old.src }
+    {
+        let at = self.at;
+        let v = self.next(width)?;
+        if (low <= v) & (v <= high) {
+            Ok(v)
+        } else {
+            Err(Refusal::OutOfRange(at))
+        }
+    }
 
-// A field of a record, through a reader. It answers what `field_at` does.
-pub fn read(s: &[u8], at: usize, width: usize) -> Field
-    requires { width ≤ 8 }
-    ensures { (told result (at + width) ≡ field width s.now at)
-        × (fieldSaid result ≡ fieldSays (field width s.now at)) }
-{
-    next(moved(new(s), at), width)
+    #[tactic(auto, unfolding(crate::specs::Fields::signed))]
+    pub fn signed(&mut self) -> Result<i64, Refusal>
+        ensures field { told result self.new.at ≡ signed self.old.src.now self.old.at }
+        ensures same_record { self.new.src ≡ self.old.src }
+    {
+        Ok(ticks(self.next(8)?))
+    }
 }

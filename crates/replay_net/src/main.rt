@@ -5,13 +5,12 @@
 #![tactic(auto)]
 
 use cases::{Cases, print};
-use conforming::Checked;
-use network::Netted;
-use power::Power;
+use conforming::Fault;
 use std::alloc::{AllocError, Global};
 use std::fmt::Write;
 use std::io;
 use table::Head;
+use unweighted::Counts;
 
 const POWER: u64 = 1;
 
@@ -50,27 +49,16 @@ fn read_head(cases: &mut Cases) -> Head {
     Head { count, max_level }
 }
 
-fn print_power(out: &mut String, answer: Power) -> Result<(), AllocError> {
-    match answer {
-        Power::Done => writeln!(out),
-        Power::Refused(why) => print::refused(out, why),
-    }
-}
-
 // The hanging node and the two ends of the edge that it hangs on, or nothing.
-fn print_checked(out: &mut String, answer: Checked) -> Result<(), AllocError> {
-    match answer {
-        Checked::Conforms => writeln!(out),
-        Checked::Broken(node, from, to) => writeln!(out, " {node} {from} {to}"),
-        Checked::Refused(why) => print::refused(out, why),
+fn print_fault(out: &mut String, fault: Fault) -> Result<(), AllocError> {
+    match fault {
+        Fault::Clear => writeln!(out),
+        Fault::Hanging(node, from, to) => writeln!(out, " {node} {from} {to}"),
     }
 }
 
-fn print_netted(out: &mut String, answer: Netted) -> Result<(), AllocError> {
-    match answer {
-        Netted::Done(n) => writeln!(out, " {} {} {}", n.nodes, n.edges, n.cells),
-        Netted::Refused(why) => print::refused(out, why),
-    }
+fn print_counts(out: &mut String, n: Counts) -> Result<(), AllocError> {
+    writeln!(out, " {} {} {}", n.nodes, n.edges, n.cells)
 }
 
 // Potentials and answers stand next.
@@ -92,7 +80,7 @@ fn run_power(
         &potentials,
         &mut answers,
     );
-    print_power(out, answer)?;
+    print::answered(out, answer, |out, ()| writeln!(out))?;
     print::fractions(out, &answers)
 }
 
@@ -117,7 +105,7 @@ fn run_network_conforming(
         &net.sheets,
         &mut work,
     );
-    print_checked(out, answer)?;
+    print::answered(out, answer, print_fault)?;
     print::work(out, &work)
 }
 
@@ -146,7 +134,7 @@ fn run_by_layer(
         &components,
         &mut work,
     );
-    print_checked(out, answer)?;
+    print::answered(out, answer, print_fault)?;
     print::work(out, &work)
 }
 
@@ -177,7 +165,7 @@ fn run_network(alloc: Global, cases: &mut Cases, out: &mut String) -> Result<(),
         &mut cells,
         &mut work,
     );
-    print_netted(out, answer)?;
+    print::answered(out, answer, print_counts)?;
     print::row(out, &nodes)?;
     print::row(out, &ends)?;
     print::fractions(out, &conductances)?;

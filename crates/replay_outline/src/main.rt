@@ -4,35 +4,20 @@
 //!     oracle/replays.sh
 #![tactic(auto)]
 
-use build::{Built, Settings};
+use build::Settings;
 use cases::{Cases, print};
 use std::alloc::{AllocError, Global};
 use std::fmt::Write;
 use std::io;
-use strips::Stripped;
 
 const STRIPS: u64 = 1;
-
-fn print_stripped(out: &mut String, answer: Stripped) -> Result<(), AllocError> {
-    match answer {
-        Stripped::Done(n) => writeln!(out, " {n}"),
-        Stripped::Refused(why) => print::refused(out, why),
-    }
-}
-
-fn print_built(out: &mut String, answer: Built) -> Result<(), AllocError> {
-    match answer {
-        Built::Done(n) => writeln!(out, " {n}"),
-        Built::Refused(why) => print::refused(out, why),
-    }
-}
 
 // A ring and the row for its strips stand next.
 fn run_strips(alloc: Global, cases: &mut Cases, out: &mut String) -> Result<(), AllocError> {
     let points: Vec<[i64; 2]> = cases.row(alloc)?;
     let mut row: Vec<[i64; 4]> = cases.row(alloc)?;
     write!(out, "strips")?;
-    print_stripped(out, strips::strips(&points, &mut row))?;
+    print::counted(out, strips::strips(&points, &mut row))?;
     print::rectangles(out, &row)
 }
 
@@ -68,7 +53,7 @@ fn run_build(alloc: Global, cases: &mut Cases, out: &mut String) -> Result<(), A
         &points,
         &mut table,
     );
-    print_built(out, answer)?;
+    print::counted(out, answer)?;
     print::row(out, &table)
 }
 

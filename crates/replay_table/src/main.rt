@@ -6,14 +6,12 @@
 
 use cases::stored::Stored;
 use cases::{Cases, print};
-use contact::{Contact, Rect};
+use contact::Rect;
 use even::Evening;
 use std::alloc::{AllocError, Global};
 use std::fmt::Write;
 use std::io;
 use table::Head;
-use table::leaves::Listed;
-use table::refine::Refined;
 
 const CONTACT: u64 = 1;
 
@@ -35,35 +33,13 @@ fn print_head(out: &mut String, head: Head) -> Result<(), AllocError> {
     writeln!(out, " {} {}", head.count, head.max_level)
 }
 
-fn print_contact(out: &mut String, answer: Contact) -> Result<(), AllocError> {
-    match answer {
-        Contact::Shares(shared) => writeln!(out, " {}", u8::from(shared)),
-        Contact::Refused(why) => print::refused(out, why),
-    }
+fn print_shared(out: &mut String, shared: bool) -> Result<(), AllocError> {
+    writeln!(out, " {}", u8::from(shared))
 }
 
-fn print_listed(out: &mut String, answer: Listed) -> Result<(), AllocError> {
-    match answer {
-        Listed::Count(n) => writeln!(out, " {n}"),
-        Listed::Refused(why) => print::refused(out, why),
-    }
-}
-
-fn print_refined(out: &mut String, answer: Refined) -> Result<(), AllocError> {
-    match answer {
-        Refined::Done(head) => print_head(out, head),
-        Refined::Refused(why) => print::refused(out, why),
-    }
-}
-
-fn print_evening(out: &mut String, answer: Evening) -> Result<(), AllocError> {
-    match answer {
-        Evening::Done(splits, head) => {
-            write!(out, " {splits}")?;
-            print_head(out, head)
-        }
-        Evening::Refused(why) => print::refused(out, why),
-    }
+fn print_evening(out: &mut String, evening: Evening) -> Result<(), AllocError> {
+    write!(out, " {}", evening.splits)?;
+    print_head(out, evening.head)
 }
 
 fn rectangle(cases: &mut Cases) -> Rect {
@@ -75,42 +51,42 @@ fn run_contact(cases: &mut Cases, out: &mut String) -> Result<(), AllocError> {
     let a = rectangle(cases);
     let b = rectangle(cases);
     write!(out, "contact")?;
-    print_contact(out, contact::between(a, b))
+    print::answered(out, contact::between(a, b), print_shared)
 }
 
 fn list_leaves(out: &mut String, t: &[i64], head: Head, ids: &mut [u64]) -> Result<(), AllocError> {
     write!(out, "leaves")?;
-    print_listed(out, table::leaves::leaves(t, head, ids))?;
+    print::counted(out, table::leaves::leaves(t, head, ids))?;
     print::row(out, ids)
 }
 
 fn list_order(out: &mut String, t: &[i64], head: Head, ids: &mut [u64]) -> Result<(), AllocError> {
     write!(out, "leaf_order")?;
-    print_listed(out, table::leaves::leaf_order(t, head, ids))?;
+    print::counted(out, table::leaves::leaf_order(t, head, ids))?;
     print::row(out, ids)
 }
 
 fn run_refine(out: &mut String, t: &mut [i64], head: Head, id: usize) -> Result<(), AllocError> {
     write!(out, "refine")?;
-    print_refined(out, table::refine::refine(t, head, id))?;
+    print::answered(out, table::refine::refine(t, head, id), print_head)?;
     print::row(out, t)
 }
 
 fn run_balance(out: &mut String, t: &mut [i64], head: Head) -> Result<(), AllocError> {
     write!(out, "balance")?;
-    print_evening(out, even::balance(t, head))?;
+    print::answered(out, even::balance(t, head), print_evening)?;
     print::row(out, t)
 }
 
 fn run_conform(out: &mut String, t: &mut [i64], head: Head) -> Result<(), AllocError> {
     write!(out, "conform")?;
-    print_evening(out, even::conform(t, head))?;
+    print::answered(out, even::conform(t, head), print_evening)?;
     print::row(out, t)
 }
 
 fn run_leaf_count(out: &mut String, t: &[i64], head: Head) -> Result<(), AllocError> {
     write!(out, "leaf_count")?;
-    print_listed(out, table::leaves::leaf_count(t, head))
+    print::counted(out, table::leaves::leaf_count(t, head))
 }
 
 fn read_head(cases: &mut Cases) -> Head {

@@ -156,11 +156,14 @@ pub join-below : (w : ℕ) {z : ℤ} → w < 2 ^ 64 → SFits w64 z → bit_or w
 join-below w {z} h f = or_lt 64 w (of_z w64 z) h (word_below f)
 
 -- the edges by their ends, one by one
-pub each-end : (count : ℕ) (ends : List ℕ) (n : ℕ) → all_below (λ i. ltb (get_or ends i 0) count) (n * 2) ≡ all_below (soundEdge count ends) n
+pub edge_ends : (count : ℕ) (ends : List ℕ) (n : ℕ) → all_below (soundEdge count ends) n ≡ all_below (λ i. ltb (get_or ends i 0) count) (n * 2)
 unfolding soundEdge
-each-end count ends zero = sym (all_none (λ i. ltb (get_or ends i 0) count)) ∙ all_none (soundEdge count ends)
-each-end count ends (suc n) =
+edge_ends count ends zero = sym (all_none (soundEdge count ends)) ∙ all_none (λ i. ltb (get_or ends i 0) count)
+edge_ends count ends (suc n) =
     let p : ℕ → Bool = λ i. ltb (get_or ends i 0) count in
     let e : suc n * 2 ≡ n * 2 + 1 + 1 = omega arith in
     let f : suc n ≡ n + 1 = omega arith in
-    ap (all_below p) e ∙ all_more p (n * 2 + 1) ∙ ap (λ (b : Bool). b && p (n * 2 + 1)) (all_more p (n * 2)) ∙ and_assoc (all_below p (n * 2)) (p (n * 2)) (p (n * 2 + 1)) ∙ ap (λ (b : Bool). b && (p (n * 2) && p (n * 2 + 1))) (each-end count ends n) ∙ sym (ap (all_below (soundEdge count ends)) f ∙ all_more (soundEdge count ends) n)
+    ap (all_below (soundEdge count ends)) f
+    ∙ all_more (soundEdge count ends) n
+    ∙ ap (λ (b : Bool). b && (p (n * 2) && p (n * 2 + 1))) (edge_ends count ends n)
+    ∙ sym (ap (all_below p) e ∙ all_more p (n * 2 + 1) ∙ ap (λ (b : Bool). b && p (n * 2 + 1)) (all_more p (n * 2)) ∙ and_assoc (all_below p (n * 2)) (p (n * 2)) (p (n * 2 + 1)))

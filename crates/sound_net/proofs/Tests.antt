@@ -1,7 +1,12 @@
 -- Laws of the tests: a walk over indices, `&&`, and equality of signed numbers. Assumes nothing.
-use Rattle.std.proofs.Common.{◌≡◌, ℕ, zero, suc, ◌+◌, ◌<◌, ◌≤◌, Bool, true, false, ◌&&◌, T, eqb, ℤ, pos, negsuc, sym, refl, ap, ◌∙◌, subst, ⊎_elim, eq-or-lt_of_le, add-one, arith, to_z-of_z, w64, SFits, to_z, of_z}
+use Rattle.std.proofs.Common.{◌≡◌, ℕ, zero, suc, ◌+◌, ◌<◌, ◌≤◌, Bool, true, false, ◌&&◌, T, eqb, ℤ, pos, negsuc, sym, refl, ap, ap₂, ◌∙◌, subst, ⊎_elim, eq-or-lt_of_le, add-one, arith, to_z-of_z, w64, SFits, to_z, of_z}
+use mathlib.Core.List.{map}
+use mathlib.Core.Bool.{and-true}
 use lib.Dec.{eqb_refl}
 use lib.Ieee.Fits.{and_l, and_r, and_i}
+use Rattle.std.specs.List.{list_all, range_with_len}
+use Rattle.std.proofs.lemmas.List.Folds.{list_all-append, list_all-map}
+use Rattle.std.proofs.lemmas.List.FromFn.{map-range_with_len_more}
 use Rattle.sound_net.specs.Nets.{all_below, eqZ}
 
 -- ---- a test that is true, as a fact
@@ -56,6 +61,17 @@ fails p n i h e = no (all_below p n) (λ t. absurd (subst T e (all-at p n t i h)
 pub all-fewer : (p : ℕ → Bool) (m n : ℕ) → m ≤ n → all_below p m ≡ false → all_below p n ≡ false
 all-fewer p m n h e =
     no (all_below p n) (λ (t : T (all_below p n)). absurd (subst T e (all_of p m (λ i k. all-at p n t i (omega arith)))))
+
+-- std's walk over a range of indices is the same
+all-mapped : (p : ℕ → Bool) (n : ℕ) → list_all p (map (λ (i : ℕ). i) (range_with_len 0 n)) ≡ all_below p n
+unfolding all_below
+all-mapped p zero = refl
+all-mapped p (suc n) =
+    let e = rw add-one at (map-range_with_len_more (λ (i : ℕ). i) 0 n n (omega arith)) in
+    ap (list_all p) e ∙ list_all-append p _ _ ∙ ap₂ ◌&&◌ (all-mapped p n) (and-true (p n))
+
+pub all-range : (p : ℕ → Bool) (n : ℕ) → list_all p (range_with_len 0 n) ≡ all_below p n
+all-range p n = sym (list_all-map p (λ (i : ℕ). i) (range_with_len 0 n)) ∙ all-mapped p n
 
 -- two tests at each index, each walked by itself
 pub turn : (p q r s : Bool) → ((p && r) && (q && s)) ≡ ((p && q) && (r && s))

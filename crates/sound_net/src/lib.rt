@@ -23,26 +23,22 @@ fn is_placed(nodes: &[i64], n: usize) -> bool
     requires { n * 4 + 4 ≤ length nodes.now }
     ensures { result ≡ (in_range (xAt nodes.now n) && in_range (yAt nodes.now n)) }
 {
-    if !cell::ticks::in_range(nodes[n * 4 + 2]) {
-        return false;
-    }
-    cell::ticks::in_range(nodes[n * 4 + 3])
+    cell::ticks::in_range(nodes[n * 4 + 2]) && cell::ticks::in_range(nodes[n * 4 + 3])
 }
 
 // Internal: the node stands in the row.
+#[tactic(auto, unfolding(crate::specs::Nets::soundNode))]
 fn node_is_sound(nodes: &[i64], n: usize) -> bool
     requires { n * 4 + 4 ≤ length nodes.now }
     ensures { result ≡ soundNode nodes.now n }
 {
     let layer = nodes[n * 4];
     let component = nodes[n * 4 + 1];
-    if !((0 <= layer) & (layer < LAYERS)) {
-        return false;
-    }
-    if !((0 <= component) & (component < COMPONENTS)) {
-        return false;
-    }
-    is_placed(nodes, n)
+    (0 <= layer)
+        && (layer < LAYERS)
+        && (0 <= component)
+        && (component < COMPONENTS)
+        && is_placed(nodes, n)
 }
 
 // Whether the first pairs of nodes are sound. Internal: they stand in the row.
@@ -52,21 +48,19 @@ fn pairs_are_sound(nodes: &[i64], pairs: usize) -> bool
 {
     let mut layers = 0i64;
     let mut components = 0i64;
-    let mut p = 0usize;
-    while p < pairs {
+    for p in 0..pairs {
         let n = p * 2;
-        layers = layers | nodes[n * 4];
-        components = components | nodes[n * 4 + 1];
+        layers |= nodes[n * 4];
+        components |= nodes[n * 4 + 1];
         if !is_placed(nodes, n) {
             return false;
         }
         let m = n + 1;
-        layers = layers | nodes[m * 4];
-        components = components | nodes[m * 4 + 1];
+        layers |= nodes[m * 4];
+        components |= nodes[m * 4 + 1];
         if !is_placed(nodes, m) {
             return false;
         }
-        p += 1;
     }
     (0 <= layers) & (layers < LAYERS) & (0 <= components) & (components < COMPONENTS)
 }
@@ -75,13 +69,7 @@ fn nodes_are_sound(nodes: &[i64]) -> bool
     ensures { result ≡ all_below (soundNode nodes.now) (nodeCount nodes.now) }
 {
     let count = nodes.len() / 4;
-    if !pairs_are_sound(nodes, count / 2) {
-        return false;
-    }
-    if count % 2 == 0 {
-        return true;
-    }
-    node_is_sound(nodes, count - 1)
+    pairs_are_sound(nodes, count / 2) && (count % 2 == 0 || node_is_sound(nodes, count - 1))
 }
 
 // What a count lacks of MANY. It is always the difference: the test keeps the compiler from subtracting the count from each number
@@ -106,12 +94,9 @@ fn all_below(count: usize, row: &[u64]) -> bool
     let rest = lack(count);
     let mut seen = 0u64;
     let mut made = 0u64;
-    let mut i = 0usize;
-    while i < row.len() {
-        let e = row[i];
-        seen = seen | e;
-        made = made | std::num::wrapping_add_u64(e, rest);
-        i += 1;
+    for &e in row {
+        seen |= e;
+        made |= e.wrapping_add(rest);
     }
     (seen < MANY) & (made < MANY)
 }
@@ -120,16 +105,7 @@ fn all_below(count: usize, row: &[u64]) -> bool
 fn are_known(count: usize, sw: usize, se: usize, ne: usize, nw: usize) -> bool
     ensures { result ≡ known count sw se ne nw }
 {
-    if count <= sw {
-        return false;
-    }
-    if count <= se {
-        return false;
-    }
-    if count <= ne {
-        return false;
-    }
-    nw < count
+    sw < count && se < count && ne < count && nw < count
 }
 
 // Whether the one node is to the west and to the south of the other. Internal: both stand in the row.
@@ -137,14 +113,7 @@ fn is_southwest(nodes: &[i64], sw: usize, ne: usize) -> bool
     requires { (sw < nodeCount nodes.now) × (ne < nodeCount nodes.now) }
     ensures { result ≡ (int_lt (xAt nodes.now sw) (xAt nodes.now ne) && int_lt (yAt nodes.now sw) (yAt nodes.now ne)) }
 {
-    let west = nodes[sw * 4 + 2];
-    let east = nodes[ne * 4 + 2];
-    if !(west < east) {
-        return false;
-    }
-    let south = nodes[sw * 4 + 3];
-    let north = nodes[ne * 4 + 3];
-    south < north
+    nodes[sw * 4 + 2] < nodes[ne * 4 + 2] && nodes[sw * 4 + 3] < nodes[ne * 4 + 3]
 }
 
 // 0 exactly if two numbers of the row are equal. Internal: both stand in the row.
@@ -174,26 +143,22 @@ fn cells_are_sound(nodes: &[i64], corners: &[u64], cells: usize) -> bool
 {
     let count = nodes.len() / 4;
     let mut astray = 0i64;
-    let mut c = 0usize;
-    while c < cells {
+    for c in 0..cells {
         let at = c * 4;
         let sw = corners[at] as usize;
         let se = corners[at + 1] as usize;
         let ne = corners[at + 2] as usize;
         let nw = corners[at + 3] as usize;
-        if !are_known(count, sw, se, ne, nw) {
+        if !are_known(count, sw, se, ne, nw) || !is_southwest(nodes, sw, ne) {
             return false;
         }
-        if !is_southwest(nodes, sw, ne) {
-            return false;
-        }
-        astray = astray | misfit(nodes, sw, se, ne, nw);
-        c += 1;
+        astray |= misfit(nodes, sw, se, ne, nw);
     }
     astray == 0
 }
 
 // Whether the rows are a sound net: document 01's refusal 7 of a net is that they are not.
+#[tactic(auto, using(crate::proofs::Marks::edge_ends), unfolding(crate::specs::Nets::soundNet))]
 pub fn is_sound(
     nodes: &[i64],
     ends: &[u64],
@@ -203,23 +168,10 @@ pub fn is_sound(
 ) -> bool
     ensures { result ≡ soundNet (netOf nodes.now ends.now conductances.now corners.now sheets.now) }
 {
-    let edges = conductances.len();
-    let cells = sheets.len();
-    if nodes.len() % 4 != 0 {
-        return false;
-    }
-    if ends.len() != edges * 2 {
-        return false;
-    }
-    if corners.len() != cells * 4 {
-        return false;
-    }
-    let count = nodes.len() / 4;
-    if !nodes_are_sound(nodes) {
-        return false;
-    }
-    if !all_below(count, ends) {
-        return false;
-    }
-    cells_are_sound(nodes, corners, cells)
+    nodes.len() % 4 == 0
+        && ends.len() == conductances.len() * 2
+        && corners.len() == sheets.len() * 4
+        && nodes_are_sound(nodes)
+        && all_below(nodes.len() / 4, ends)
+        && cells_are_sound(nodes, corners, sheets.len())
 }

@@ -1,7 +1,5 @@
 -- Laws that belong to no one function.
 pub mod Orders
-pub mod Merges
-pub mod Halves
 pub mod Tallies
 pub mod Picking
 pub mod Walks

@@ -1,8 +1,8 @@
 -- Numbers counted up and picked by a test. Assumes nothing.
 use Prim.Native.Nat.{ℕ, zero, suc, ◌+◌, ◌<◌}
-use mathlib.Core.Path.{◌≡◌, refl, sym, ◌∙◌}
+use mathlib.Core.Path.{◌≡◌, refl, ◌∙◌}
 use mathlib.Core.Bool.{Bool, true, false, ◌&&◌, ◌||◌}
-use mathlib.Core.List.{List, [], ◌∷◌, ◌++◌, map, map-append, append-nil}
+use mathlib.Core.List.{List, [], ◌∷◌, ◌++◌, append-nil}
 use native.Mathlib.Omega.{arith}
 use native.Mathlib.Numerals.{add-one}
 use lib.ListN.{length, take, set, length-append}
@@ -61,6 +61,3 @@ more_no p f i e = rw (upTo-more i, picked-append p f (up_to i) (i ∷ []), picke
 -- a row that is written from the front
 pub front : (row : List ℕ) (l : List ℕ) (n x : ℕ) → n < length row → take n row ≡ l → take (n + 1) (set row n x) ≡ l ++ (x ∷ [])
 front row l n x h e = rw (add-one n, take-suc-set row n x h, e) refl
-
-pub map_more : (f : ℕ → ℕ) (i : ℕ) → map f (up_to i) ++ (f i ∷ []) ≡ map f (up_to (i + 1))
-map_more f i = rw (upTo-more i) (sym (map-append f (up_to i) (i ∷ [])))

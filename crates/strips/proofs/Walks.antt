@@ -10,7 +10,7 @@ use native.Mathlib.Nat.{suc-mul, mul-le-mul_right}
 use lib.IntN.{ℤ}
 use lib.Dec.{ltb}
 use lib.ListN.{length, take, drop, get_or, drop_of_length-le, length-drop, length-append, length-map}
-use lib.Seq.{drop-cons, take_at, take_all, take-append-le}
+use lib.Seq.{drop-cons, take_at}
 use borrow.Author.Tests.{lt-ltb, le-ltb}
 use Rattle.cell.proofs.Offsets.{below?}
 use Rattle.refusals.specs.Limits.{maxPoints}
@@ -165,18 +165,6 @@ resorted row l part n g p =
       count = g.count ∙ sym (length-sorted l);
       fits = simp (length-append) (omega arith);
     }
-
--- a row that begins with one that has the list at its front
-pub front-more : (l row rest : List ℕ) (n : ℕ) → Gathered l row n → Gathered l (row ++ rest) n
-front-more l row rest n g =
-    record {
-      front = take-append-le n row rest g.fits ∙ g.front;
-      count = g.count;
-      fits = simp length-append (omega (arith, g.fits));
-    }
-
-pub front-whole : (l row : List ℕ) (n : ℕ) → row ≡ l → length l ≡ n → Gathered l row n
-front-whole l row n e h = record { front = take_all n row (omega (arith, ap length e)) ∙ e; count = sym h; fits = omega (arith, ap length e) }
 
 pub length-heights : (ps : List (List ℤ)) → length (heightsOf ps) ≡ length ps
 unfolding heightsOf

@@ -4,6 +4,5 @@ pub mod Rings
 pub mod Strips
 pub mod Said
 pub mod Levels
-pub mod Merging
 pub mod Tally
 pub mod Walk

@@ -1,16 +1,14 @@
 -- What the public call says, and what it leaves in the lent row.
-use Rattle.std.specs.Prelude.{ℕ, cond, List, [], ◌∷◌, ◌++◌, map, length, take, drop, ℤ, ltb}
-use Rattle.refusals.specs.Said.{Said, accepted, refused, refusal}
+use Rattle.std.specs.Prelude.{ℕ, cond, List, [], ◌∷◌, ◌++◌, map, length, take, drop, ℤ, ltb, Result}
+use Rattle.refusals.specs.declared.Refusal.{Refusal}
+use Rattle.refusals.specs.Said.{Said, accepted, refused, said}
 use Rattle.cell.specs.Ticks.{on}
 use Rattle.strips.specs.Rings.{ringInRange, ringSlants}
 use Rattle.strips.specs.Strips.{stripsOf}
 use Rattle.strips.specs.declared.walk.Strip.{Strip}
-use Rattle.strips.specs.declared.Stripped.{Stripped}
-use Rattle.strips.specs.declared.Stripped.TheVariants.{Done, Refused}
 
-abbrev pub strippedSaid : Stripped → Said
-strippedSaid (Done n) = accepted (n ∷ [])
-strippedSaid (Refused x) = refusal x
+abbrev pub strippedSaid : Result ℕ Refusal → Said
+strippedSaid = said (λ n. n ∷ [])
 
 -- a strip as the caller reads it, in signed ticks: x0, y0, x1, y1
 abbrev pub stripRow : Strip → List ℤ

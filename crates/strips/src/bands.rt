@@ -63,11 +63,12 @@ fn put(out: &mut [[i64; 4]], k: usize, s: Strip)
     requires { k < length out.old }
     ensures { out.new ≡ set out.old k (stripRow s) }
 {
-    let x0 = ticks::ticks(s.x0);
-    let y0 = ticks::ticks(s.y0);
-    let x1 = ticks::ticks(s.x1);
-    let y1 = ticks::ticks(s.y1);
-    out[k] = [x0, y0, x1, y1];
+    out[k] = [
+        ticks::ticks(s.x0),
+        ticks::ticks(s.y0),
+        ticks::ticks(s.x1),
+        ticks::ticks(s.y1),
+    ];
 }
 
 // A band's strips from position at on. Answers the position behind them. There is room for them.
@@ -98,9 +99,9 @@ fn put_band(
                 out,
                 n,
                 Strip {
-                    x0: x0,
+                    x0,
                     y0: lo,
-                    x1: x1,
+                    x1,
                     y1: hi,
                 },
             );

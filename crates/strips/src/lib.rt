@@ -5,95 +5,102 @@ ghost use Rattle.std.specs.Prelude.{◌≡◌, ◌≤◌, length};
 ghost use Rattle.refusals.specs.Limits.{maxPoints};
 ghost use Rattle.strips.specs.Said.{strippedSaid, stripsSays, stripsLeave, laid, counted, ifAccepted};
 ghost use Rattle.strips.specs.Strips.{stripsOf};
-ghost use Rattle.strips.specs.Walk.{all_of, Roomy, fewPoints};
+ghost use Rattle.strips.specs.Walk.{all_of, edgesOf, fewPoints};
 
-use crate::order::FEW;
 use refusals::Refusal;
 use refusals::limits::RING_POINTS;
 
 pub mod bands;
-pub mod order;
 pub mod ring;
 pub mod tally;
 pub mod walk;
 
-// How many strips there are, or why there is no answer.
-#[derive(Clone, Copy)]
-pub enum Stripped {
-    Done(usize),
-    Refused(Refusal),
-}
+// A ring of at most so many points has short work rows.
+const FEW: usize = 16;
 
-// The strips into the row if there is room for them. Internal: what `walk::prepare` has made ready is lent.
-fn lay(points: &[[i64; 2]], heights: &[u64], edges: &[u64], out: &mut [[i64; 4]]) -> Stripped
+// The strips into the row if there is room for them. Internal: a ring's heights and edges, made ready, are lent.
+fn lay(
+    points: &[[i64; 2]],
+    heights: &[u64],
+    edges: &[u64],
+    out: &mut [[i64; 4]],
+) -> Result<usize, Refusal>
     ensures result_value { strippedSaid result ≡ counted (length (all_of points.now heights.now edges.now)) (length out.old) }
     ensures out_after { out.new ≡ ifAccepted (strippedSaid result) (laid (all_of points.now heights.now edges.now) out.old) out.old }
 {
     let room = out.len();
     let n = bands::count(points, heights, edges, room);
     if room < n {
-        return Stripped::Refused(Refusal::NoRoom);
+        return Err(Refusal::NoRoom);
     }
     bands::put_all(points, heights, edges, out);
-    Stripped::Done(n)
+    Ok(n)
 }
 
-// The strips of a ring that has been judged, by way of two work rows. Internal.
+// The heights into a work row, and the strips. Internal, as all below but `strips`: the ring has been judged.
 fn cut(
     points: &[[i64; 2]],
     heights: &mut [u64],
-    edges: &mut [u64],
+    edges: &[u64],
     out: &mut [[i64; 4]],
-) -> Stripped
-    requires { Roomy points.now heights.old edges.old }
+) -> Result<usize, Refusal>
+    requires fits { (length points.now ≤ maxPoints) × (length points.now ≤ length heights.old) }
+    requires in_order { edges.now ≡ edgesOf points.now }
     ensures result_value { strippedSaid result ≡ counted (length (stripsOf points.now)) (length out.old) }
     ensures out_after { out.new ≡ ifAccepted (strippedSaid result) (laid (stripsOf points.now) out.old) out.old }
 {
     let n = points.len();
-    let m = walk::prepare(points, heights, edges);
-    lay(points, &heights[..n], &edges[..m], out)
+    walk::sort_heights(points, &mut heights[..n]);
+    lay(points, &heights[..n], edges, out)
 }
 
-// The same with the rows made: short ones where they do, since they are filled with zeros first.
-fn cut_few(points: &[[i64; 2]], out: &mut [[i64; 4]]) -> Stripped
+// Short work rows. Long ones stand in frames of their own, below, so that a ring of few points takes no stack for them.
+fn cut_few(points: &[[i64; 2]], out: &mut [[i64; 4]]) -> Result<usize, Refusal>
     requires { length points.now ≤ fewPoints }
     ensures result_value { strippedSaid result ≡ counted (length (stripsOf points.now)) (length out.old) }
     ensures out_after { out.new ≡ ifAccepted (strippedSaid result) (laid (stripsOf points.now) out.old) out.old }
 {
     let mut heights = [0u64; FEW];
     let mut edges = [0u64; FEW];
-    cut(points, &mut heights, &mut edges, out)
+    let m = walk::sort_edges(points, &mut edges[..points.len()]);
+    cut(points, &mut heights, &edges[..m], out)
 }
 
-// Long ones, one in each of two turns: the first turn is lent a row that is too short, and lends its own to the second.
-// LLVM never inlines a function that calls itself into another. So the long rows stand in frames of their own, and a ring
-// of few points, which doesn't come here, takes no stack for them.
-fn cut_many(points: &[[i64; 2]], lent: &mut [u64], out: &mut [[i64; 4]]) -> Stripped
+#[inline(never)]
+fn cut_bands(points: &[[i64; 2]], edges: &[u64], out: &mut [[i64; 4]]) -> Result<usize, Refusal>
+    requires { (length points.now ≤ maxPoints) × (edges.now ≡ edgesOf points.now) }
+    ensures result_value { strippedSaid result ≡ counted (length (stripsOf points.now)) (length out.old) }
+    ensures out_after { out.new ≡ ifAccepted (strippedSaid result) (laid (stripsOf points.now) out.old) out.old }
+{
+    let mut heights = [0u64; RING_POINTS];
+    cut(points, &mut heights, edges, out)
+}
+
+// Long work rows. The edges are sorted before there is a row of heights, so that the sort's stack isn't added to it.
+#[inline(never)]
+fn cut_many(points: &[[i64; 2]], out: &mut [[i64; 4]]) -> Result<usize, Refusal>
     requires { length points.now ≤ maxPoints }
     ensures result_value { strippedSaid result ≡ counted (length (stripsOf points.now)) (length out.old) }
     ensures out_after { out.new ≡ ifAccepted (strippedSaid result) (laid (stripsOf points.now) out.old) out.old }
 {
-    let mut row = [0u64; RING_POINTS];
-    if lent.len() < points.len() {
-        return cut_many(points, &mut row, out);
-    }
-    cut(points, lent, &mut row, out)
+    let mut edges = [0u64; RING_POINTS];
+    let m = walk::sort_edges(points, &mut edges[..points.len()]);
+    cut_bands(points, &edges[..m], out)
 }
 
 // The strips of a ring, by band from the bottom, then left to right: x0, y0, x1, y1 in each row.
-pub fn strips(points: &[[i64; 2]], out: &mut [[i64; 4]]) -> Stripped
+pub fn strips(points: &[[i64; 2]], out: &mut [[i64; 4]]) -> Result<usize, Refusal>
     ensures result_value { strippedSaid result ≡ stripsSays points.now (length out.old) }
     ensures out_after { out.new ≡ stripsLeave points.now out.old }
 {
     if !ring::in_range(points) {
-        return Stripped::Refused(Refusal::OutOfRange(0));
+        return Err(Refusal::OutOfRange(0));
     }
     if ring::slanted(points) {
-        return Stripped::Refused(Refusal::Slanted(0));
+        return Err(Refusal::Slanted(0));
     }
     if points.len() <= FEW {
         return cut_few(points, out);
     }
-    let mut none = [0u64; 0];
-    cut_many(points, &mut none, out)
+    cut_many(points, out)
 }

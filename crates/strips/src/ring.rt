@@ -19,32 +19,20 @@ pub struct Edge {
 pub fn x_at(points: &[[i64; 2]], i: usize) -> u64
     ensures { result ≡ xAt points.now i }
 {
-    if i < points.len() {
-        let x = points[i][0];
-        return ticks::offset(x);
-    }
-    ticks::offset(0)
+    ticks::offset(points.get(i).map_or(0, |p| p[0]))
 }
 
 pub fn y_at(points: &[[i64; 2]], i: usize) -> u64
     ensures { result ≡ yAt points.now i }
 {
-    if i < points.len() {
-        let y = points[i][1];
-        return ticks::offset(y);
-    }
-    ticks::offset(0)
+    ticks::offset(level_at(points, i))
 }
 
 // The y of point i as it is lent.
 fn level_at(points: &[[i64; 2]], i: usize) -> i64
     ensures { result ≡ levelAt points.now i }
 {
-    if i < points.len() {
-        let y = points[i][1];
-        return y;
-    }
-    0
+    points.get(i).map_or(0, |p| p[1])
 }
 
 // Whether a y value is at lo or below, and another at hi or above, one way or the other.
@@ -59,10 +47,7 @@ fn next_point(points: &[[i64; 2]], i: usize) -> usize
     requires { i < 2 ^ 63 }
     ensures { result ≡ after points.now i }
 {
-    if i + 1 < points.len() {
-        return i + 1;
-    }
-    0
+    if i + 1 < points.len() { i + 1 } else { 0 }
 }
 
 // Whether the edge from point i goes from lo, or below, to hi, or above, or the other way, all as lent.
@@ -101,9 +86,7 @@ fn point_in_range(points: &[[i64; 2]], i: usize) -> bool
     requires { i < length points.now }
     ensures { result ≡ pointInRange points.now i }
 {
-    let x = points[i][0];
-    let y = points[i][1];
-    ticks::in_range(x) & ticks::in_range(y)
+    ticks::in_range(points[i][0]) & ticks::in_range(points[i][1])
 }
 
 // Document 01's ranges for a ring: the number of its points, and each coordinate.
@@ -111,10 +94,8 @@ pub fn in_range(points: &[[i64; 2]]) -> bool
     ensures { result ≡ ringInRange points.now }
 {
     let mut ok = points.len() <= RING_POINTS;
-    let mut i = 0;
-    while i < points.len() {
-        ok = ok & point_in_range(points, i);
-        i += 1;
+    for i in 0..points.len() {
+        ok &= point_in_range(points, i);
     }
     ok
 }
@@ -126,17 +107,14 @@ fn differ(x0: i64, y0: i64, x1: i64, y1: i64) -> bool
     ((x0 < x1) | (x1 < x0)) & ((y0 < y1) | (y1 < y0))
 }
 
-// Whether the edge from point i differs in both. Internal, as the next: coordinates are in range, so that they differ as offset ones do.
+// Whether the edge from point i differs in both. Internal, as the next: coordinates are in range, so that they differ
+// as offset ones do.
 fn slants_at(points: &[[i64; 2]], i: usize) -> bool
     requires { (i < length points.now) × (ringInRange points.now ≡ true) }
     ensures { result ≡ slantsAt points.now i }
 {
     let j = next_point(points, i);
-    let x0 = points[i][0];
-    let y0 = points[i][1];
-    let x1 = points[j][0];
-    let y1 = points[j][1];
-    differ(x0, y0, x1, y1)
+    differ(points[i][0], points[i][1], points[j][0], points[j][1])
 }
 
 // Whether some edge differs in both x and y from end to end.
@@ -145,10 +123,8 @@ pub fn slanted(points: &[[i64; 2]]) -> bool
     ensures { result ≡ ringSlants points.now }
 {
     let mut found = false;
-    let mut i = 0;
-    while i < points.len() {
-        found = found | slants_at(points, i);
-        i += 1;
+    for i in 0..points.len() {
+        found |= slants_at(points, i);
     }
     found
 }

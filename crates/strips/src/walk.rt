@@ -1,16 +1,16 @@
-// The strips of a ring one after another. The y values and the vertical edges are put in order once; a band then meets the edges that
-// span it from left to right, so that no band sorts anything.
+// The strips of a ring one after another. The y values and the vertical edges are put in order once; a band then meets
+// the edges that span it from left to right, so that no band sorts anything.
 ghost use Rattle.std.specs.Prelude.{◌≡◌, ◌+◌, ◌<◌, ◌≤◌, length, drop};
 ghost use Rattle.refusals.specs.Limits.{coordinate, maxPoints};
 ghost use Rattle.strips.specs.Tally.{Tallied};
 ghost use Rattle.strips.specs.Walk.{heightsOf, unsortedEdges, edgesOf, Gathered, Prepared, Roomy, Finds, Skips, left, startBand, ahead};
 
-use crate::{order, ring, tally};
+use crate::{ring, tally};
 use cell::ticks;
 use refusals::limits::RING_POINTS;
 
 // The highest offset coordinate.
-pub const COORDINATES: u64 = 137438953472;
+pub const COORDINATES: u64 = 1 << 37;
 
 #[derive(Clone, Copy)]
 pub struct Strip {
@@ -27,8 +27,8 @@ pub enum Ahead {
     End,
 }
 
-// The y values, each that differs once, with how often it stands there. Answers how many differ. Internal: the row is as long as the
-// ring, which is within the limit.
+// The y values, each that differs once, with how often it stands there. Answers how many differ. Internal: the row is
+// as long as the ring, which is within the limit.
 fn tally_heights(points: &[[i64; 2]], row: &mut [u64]) -> usize
     requires { (length row.old ≡ length points.now) × (length points.now ≤ maxPoints) }
     ensures { Tallied (heightsOf points.now) row.new result }
@@ -42,8 +42,10 @@ fn tally_heights(points: &[[i64; 2]], row: &mut [u64]) -> usize
     k
 }
 
-// The y values in rising order. Internal, as the last.
-fn sort_heights(points: &[[i64; 2]], row: &mut [u64])
+// The y values in rising order. Internal, as the last. Never inlined, nor is the sort of the edges: their frames are
+// gone before the walk begins.
+#[inline(never)]
+pub fn sort_heights(points: &[[i64; 2]], row: &mut [u64])
     requires { (length row.old ≡ length points.now) × (length points.now ≤ maxPoints) }
     ensures { row.new ≡ heightsOf points.now }
 {
@@ -51,59 +53,59 @@ fn sort_heights(points: &[[i64; 2]], row: &mut [u64])
     tally::unpack(row, k);
 }
 
-// The vertical edges, each as one number: its x, and then its first point. Answers how many. Internal: the row is as long as the ring.
+// The vertical edges, each as one number: its x, and then its first point. Answers how many. Internal: the row is as
+// long as the ring.
 fn gather_edges(points: &[[i64; 2]], row: &mut [u64]) -> usize
     requires { length row.old ≡ length points.now }
     ensures { Gathered (unsortedEdges points.now (length points.now)) row.new result }
 {
     let mut n = 0;
-    let mut i = 0;
-    while i < points.len() {
+    for i in 0..points.len() {
         let e = ring::edge_at(points, i);
         if e.vertical() {
             row[n] = e.x0 * RING_POINTS as u64 + i as u64;
             n += 1;
         }
-        i += 1;
     }
     n
 }
 
 // The vertical edges by x. Answers how many there are. Internal.
-fn sort_edges(points: &[[i64; 2]], row: &mut [u64], scratch: &mut [u64]) -> usize
-    requires { (length row.old ≡ length points.now) × (length row.old ≤ length scratch.old) }
+#[inline(never)]
+pub fn sort_edges(points: &[[i64; 2]], row: &mut [u64]) -> usize
+    requires { length row.old ≡ length points.now }
     ensures { Gathered (edgesOf points.now) row.new result }
 {
     let n = gather_edges(points, row);
-    order::sort(&mut row[..n], scratch);
+    row[..n].sort_unstable();
     n
 }
 
-// The heights and the vertical edges of a ring, each at the front of its row, in order. Answers how many edges there are.
+// The heights and the vertical edges of a ring, each at the front of its row, in order. Answers how many edges there
+// are.
 pub fn prepare(points: &[[i64; 2]], heights: &mut [u64], edges: &mut [u64]) -> usize
     requires { Roomy points.now heights.old edges.old }
     ensures { Prepared points.now heights.new edges.new result }
 {
     let n = points.len();
-    let m = sort_edges(points, &mut edges[..n], heights);
+    let m = sort_edges(points, &mut edges[..n]);
     sort_heights(points, &mut heights[..n]);
     m
 }
 
-// The first edge from j on that spans a band; the number of edges where none does. Internal: the band has a height and is in range.
+// The first edge from j on that spans a band; the number of edges where none does. Internal: the band has a height and
+// is in range.
 pub fn find(points: &[[i64; 2]], edges: &[u64], j: usize, lo: u64, hi: u64) -> usize
     requires { (lo < hi) × (hi ≤ coordinate + coordinate) }
     ensures { Finds points.now lo hi edges.now j result }
 {
     let low = ticks::ticks(lo);
     let high = ticks::ticks(hi);
-    let mut k = j;
-    while k < edges.len() {
+    for k in j..edges.len() {
         let i = edges[k] % RING_POINTS as u64;
         if ring::spans(points, i as usize, low, high) {
             return k;
         }
-        k += 1;
     }
     edges.len()
 }
@@ -121,14 +123,12 @@ pub fn skip(heights: &[u64], k: usize) -> usize
     ensures { Skips heights.now k result }
 {
     let last = heights.len() - 1;
-    let mut b = k;
-    while b < last {
+    for b in k..last {
         if heights[b] < heights[b + 1] {
             return b;
         }
-        b += 1;
     }
-    b
+    last
 }
 
 // The next strip of positive width, from an edge of a band on.
@@ -154,9 +154,9 @@ pub fn next(points: &[[i64; 2]], heights: &[u64], edges: &[u64], band: usize, ed
                 if x0 < x1 {
                     return Ahead::Found(
                         Strip {
-                            x0: x0,
+                            x0,
                             y0: lo,
-                            x1: x1,
+                            x1,
                             y1: hi,
                         },
                         k,

@@ -75,3 +75,6 @@ ids-room f i n h e = let r = ids-most f (i + 1) n (omega arith) in omega (arith,
 pub list-turn : (f : ℕ → Bool) (out : List ℕ) (k i : ℕ) → f i ≡ true
     → set (sets out k (idsTo f i)) (k + length (idsTo f i)) i ≡ sets out k (idsTo f (i + 1))
 list-turn f out k i e = rw (ids-yes f i e) (sets_more out k (idsTo f i) (i ∷ []))
+
+-- what a loop that counts or lists needs
+pub ruleset turns = (ids-none, ids-yes-length, ids-no, ids-few, ids-room, list-turn)

@@ -6,7 +6,6 @@ pub mod Order
 pub mod Runs
 pub mod One
 pub mod Shape
-pub mod Tests
 pub mod Facts
 pub mod Stores
 pub mod Exact

@@ -57,3 +57,12 @@ formed-poly t n M e i h =
     let placed = and_left (in_slot t i && leb c.level M && ltb c.poly maxPolygons && placeOk t n (2 ^ (M + 1)) i c) (kidsOk t n M i c) ok in
     let small = and_left (in_slot t i && leb c.level M && ltb c.poly maxPolygons) (placeOk t n (2 ^ (M + 1)) i c) placed in
     ltb-true c.poly maxPolygons (and_right (in_slot t i && leb c.level M) (ltb c.poly maxPolygons) small)
+
+-- the bounds, in a form that the prover takes up where the test stands
+pub shape_bounds : (size n M : ℕ) → shapeOk size n M ≡ true
+    → (shapeOk size n M ≡ true) × (n * 8 ≤ size) × (n ≤ maxSlots) × (M ≤ maxLevel) × (size % 8 ≡ 0)
+shape_bounds size n M e = let s = shape_of size n M e in (e, within size n M s, omega arith, s.range, s.whole)
+
+pub formed_bounds : (t : List ℤ) (n M : ℕ) → wellFormed t n M ≡ true
+    → (wellFormed t n M ≡ true) × (n * 8 ≤ length t) × (n ≤ length t / 8) × (M ≤ maxLevel)
+formed_bounds t n M e = let s = formed-shape t n M e in (e, within (length t) n M s, s.count, s.range)

@@ -1,12 +1,12 @@
 -- Splitting one leaf: what the call says, and what the row then holds.
-use Rattle.std.specs.Prelude.{ℕ, ◌+◌, ◌-◌, ◌/◌, Bool, true, false, cond, List, [], ◌∷◌, ltb, leb, ℤ, length}
-use Rattle.refusals.specs.Said.{Said, accepted, refusal}
+use Rattle.std.specs.Prelude.{ℕ, ◌+◌, ◌-◌, ◌/◌, Bool, true, false, cond, List, [], ◌∷◌, ltb, leb, ℤ, length, Result}
+use Rattle.refusals.specs.Said.{Said, accepted, refusal, said}
+use Rattle.refusals.specs.declared.Refusal.{Refusal}
 use Rattle.refusals.specs.declared.Refusal.TheVariants.{BadTable, NoSuchCell, AlreadySplit, FinestLevel, NoRoom}
 use Rattle.cell.specs.declared.Cell as Held
 use Rattle.cell.specs.Boxes.{quadAt}
 use Rattle.cell.specs.Cells.{childOf}
-use Rattle.table.specs.declared.refine.Refined.{Refined}
-use Rattle.table.specs.declared.refine.Refined.TheVariants.{Done, Refused}
+use Rattle.table.specs.declared.Head.{Head}
 use Rattle.table.specs.Slots.{cell_at, putCell, putFirst}
 use Rattle.table.specs.Formed.{wellFormed}
 use Rattle.table.specs.Leaves.{leafAt}
@@ -22,9 +22,8 @@ splitRow t n i =
     putFirst (putKid (putKid (putKid (putKid t n i c 0) n i c 1) n i c 2) n i c 3) i n
 
 -- an answer's values: the new count and max_level
-abbrev pub refinedSaid : Refined → Said
-refinedSaid (Done h) = accepted (h.count ∷ h.max_level ∷ [])
-refinedSaid (Refused x) = refusal x
+abbrev pub refinedSaid : Result Head Refusal → Said
+refinedSaid = said (λ h. h.count ∷ h.max_level ∷ [])
 
 -- 7, 8, 9, 10, 6, in that order
 unfoldable pub refineSays : List ℤ → ℕ → ℕ → ℕ → Said

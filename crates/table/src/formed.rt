@@ -12,29 +12,21 @@ use cell::ticks::ticks;
 use refusals::limits;
 
 // 2^(m+1), which every side of a root is a multiple of.
+#[tactic(auto, using(std::proofs::lemmas::Nat::pow_below))]
 fn step_of(m: u64) -> u64
     requires { m ≤ maxLevel }
     ensures { result ≡ 2 ^ (m + 1) }
 {
-    let mut p: u64 = 2;
-    let mut i = 0;
-    while i < m {
-        p = p * 2;
-        i += 1;
-    }
-    p
+    2 << m
 }
 
 // The step is a power of two, so a side's remainder is its low bits, and no division is needed.
-#[tactic(auto, unfolding(crate::specs::Formed::sideOk))]
+#[tactic(auto, using(std::proofs::lemmas::Nat::and_mask), unfolding(crate::specs::Formed::sideOk))]
 fn side_ok(step: u64, a: u64, b: u64) -> bool
     requires { Power step }
     ensures { result ≡ sideOk step a b }
 {
-    if a < b {
-        return (b - a) & (step - 1) == 0;
-    }
-    false
+    a < b && (b - a) & (step - 1) == 0
 }
 
 #[tactic(auto, unfolding(crate::specs::Formed::rootOk))]
@@ -83,10 +75,7 @@ fn kids_ok(t: &[i64], m: u64, p: usize, f: usize) -> bool
 fn slot_or(f: u64, n: usize, i: usize) -> usize
     ensures { result ≡ slotOr f n i }
 {
-    if f < n as u64 {
-        return f as usize;
-    }
-    i
+    if f < n as u64 { f as usize } else { i }
 }
 
 // Whether cell i names no child, or one past it that names it as its parent. No branch: which cells are split can't be
@@ -102,7 +91,7 @@ fn led(t: &[i64], n: usize, i: usize) -> bool
 }
 
 // Whether a root stands in slot i.
-#[tactic(auto, unfolding(crate::specs::Walk::rootAt))]
+#[tactic(auto, unfolding(crate::specs::Walk::rootAt, crate::specs::Walk::ledAt))]
 fn root_here(t: &[i64], n: usize, step: u64, i: usize) -> bool
     requires n_in_bounds { (n * 8 ≤ length t.now) × (i < n) }
     requires power { Power step }
@@ -112,13 +101,8 @@ fn root_here(t: &[i64], n: usize, step: u64, i: usize) -> bool
         return false;
     }
     let c = cell_at(t, i);
-    if !((c.poly < limits::POLYGONS as u64) & root_ok(step, c)) {
-        return false;
-    }
-    if c.first == Cell::NO_CELL {
-        return true;
-    }
-    led(t, n, i)
+    (c.poly < limits::POLYGONS as u64) & root_ok(step, c)
+        && (c.first == Cell::NO_CELL || led(t, n, i))
 }
 
 // Whether the four children of cell p stand in the slots from i on.
@@ -127,17 +111,12 @@ fn four_here(t: &[i64], n: usize, m: u64, i: usize, p: u64) -> bool
     requires { (n * 8 ≤ length t.now) × (i < n) × (m ≤ maxLevel) }
     ensures { result ≡ fourAt t.now n m i p }
 {
-    if n - i < 4 {
-        return false;
-    }
-    if i as u64 <= p {
+    if n - i < 4 || i as u64 <= p {
         return false;
     }
     let q = p as usize;
-    if !(is_at(t, q * 8 + 6, i as i64) & kids_ok(t, m, q, i)) {
-        return false;
-    }
-    led(t, n, i) & led(t, n, i + 1) & led(t, n, i + 2) & led(t, n, i + 3)
+    is_at(t, q * 8 + 6, i as i64) & kids_ok(t, m, q, i)
+        && led(t, n, i) & led(t, n, i + 1) & led(t, n, i + 2) & led(t, n, i + 3)
 }
 
 // The slot past the root or the four children that stand from slot i on; 0 where neither does.
@@ -149,15 +128,12 @@ fn past(t: &[i64], n: usize, m: u64, step: u64, i: usize) -> usize
 {
     let p = parent_at(t, i);
     if p == Cell::NO_CELL {
-        if root_here(t, n, step, i) {
-            return i + 1;
-        }
-        return 0;
+        if root_here(t, n, step, i) { i + 1 } else { 0 }
+    } else if four_here(t, n, m, i, p) {
+        i + 4
+    } else {
+        0
     }
-    if four_here(t, n, m, i, p) {
-        return i + 4;
-    }
-    0
 }
 
 fn cells_ok(t: &[i64], n: usize, m: u64) -> bool
@@ -199,12 +175,10 @@ fn rest_zero(t: &[i64], n: usize) -> bool
     ensures { result ≡ restZero t.now n }
 {
     let slots = t.len() / 8;
-    let mut j = n;
-    while j < slots {
+    for j in n..slots {
         if !slot_zero(t, j) {
             return false;
         }
-        j += 1;
     }
     true
 }
@@ -217,14 +191,11 @@ fn shape_ok(size: usize, n: usize, m: u64) -> bool
 }
 
 // Whether the row holds a well-formed table.
-#[tactic(auto, unfolding(crate::specs::Formed::wellFormed))]
+#[tactic(auto, using(crate::proofs::Shape::shape_bounds), unfolding(crate::specs::Formed::wellFormed))]
 pub fn well_formed(t: &[i64], head: Head) -> bool
     ensures { result ≡ wellFormed t.now head.count head.max_level }
 {
     let n = head.count;
     let m = head.max_level;
-    if !shape_ok(t.len(), n, m) {
-        return false;
-    }
-    rest_zero(t, n) & cells_ok(t, n, m)
+    shape_ok(t.len(), n, m) && rest_zero(t, n) && cells_ok(t, n, m)
 }

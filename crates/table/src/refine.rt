@@ -10,12 +10,6 @@ use crate::slots::{cell_at, put_cell, put_first};
 use cell::Cell;
 use refusals::Refusal;
 
-#[derive(Clone, Copy)]
-pub enum Refined {
-    Done(Head),
-    Refused(Refusal),
-}
-
 // Child k of cell i goes to slot n + k.
 #[tactic(auto, unfolding(crate::specs::Refine::putKid))]
 fn put_kid(t: &mut [i64], n: usize, i: usize, c: Cell, k: u64)
@@ -25,7 +19,8 @@ fn put_kid(t: &mut [i64], n: usize, i: usize, c: Cell, k: u64)
     put_cell(t, n + k as usize, c.child(i as u64, k));
 }
 
-// Cell i gets four children in the slots from n on. Internal: the slots are in the row and the cell is above the widest level.
+// Cell i gets four children in the slots from n on. Internal: the slots are in the row and the cell is above the widest
+// level.
 #[tactic(auto, unfolding(crate::specs::Refine::splitRow))]
 pub fn split_cell(t: &mut [i64], n: usize, i: usize)
     requires { (i < n) × ((n + 4) * 8 ≤ length t.old) × ((cell_at t.old i).level < maxLevel) }
@@ -40,31 +35,31 @@ pub fn split_cell(t: &mut [i64], n: usize, i: usize)
 }
 
 // Splits the leaf with this id; the head has the new count.
-#[tactic(auto, unfolding(crate::specs::Refine::refineSays, crate::specs::Refine::refineRow))]
-pub fn refine(t: &mut [i64], head: Head, id: usize) -> Refined
+#[tactic(auto, using(crate::proofs::Shape::formed_bounds), unfolding(crate::specs::Refine::refineSays, crate::specs::Refine::refineRow, crate::specs::Leaves::leafAt))]
+pub fn refine(t: &mut [i64], head: Head, id: usize) -> Result<Head, Refusal>
     ensures result_value { refinedSaid result ≡ refineSays t.old head.count head.max_level id }
     ensures t_after { t.new ≡ refineRow t.old head.count head.max_level id }
 {
     if !well_formed(t, head) {
-        return Refined::Refused(Refusal::BadTable);
+        return Err(Refusal::BadTable);
     }
     let n = head.count;
     if n <= id {
-        return Refined::Refused(Refusal::NoSuchCell(id));
+        return Err(Refusal::NoSuchCell(id));
     }
     let c = cell_at(t, id);
     if c.first != Cell::NO_CELL {
-        return Refined::Refused(Refusal::AlreadySplit(id));
+        return Err(Refusal::AlreadySplit(id));
     }
     if head.max_level <= c.level {
-        return Refined::Refused(Refusal::FinestLevel(id));
+        return Err(Refusal::FinestLevel(id));
     }
     if t.len() / 8 - n < 4 {
-        return Refined::Refused(Refusal::NoRoom);
+        return Err(Refusal::NoRoom);
     }
     split_cell(t, n, id);
-    Refined::Done(Head {
+    Ok(Head {
         count: n + 4,
-        max_level: head.max_level,
+        ..head
     })
 }

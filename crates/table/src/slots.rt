@@ -14,18 +14,16 @@ fn coordinate_at(t: &[i64], j: usize) -> u64
     cell::ticks::offset(t[j])
 }
 
+#[tactic(auto, using(crate::proofs::Numbers::counted_max))]
 fn number_at(t: &[i64], j: usize) -> u64
     requires { j < length t.now }
     ensures { result ≡ counted (get_or t.now j (pos 0)) }
 {
-    let z = t[j];
-    if z < 0 {
-        return 0;
-    }
-    z as u64
+    t[j].max(0) as u64
 }
 
 // The way back, for each of the two.
+#[tactic(auto, unfolding(crate::specs::Slots::stored))]
 fn put_coordinate(t: &mut [i64], j: usize, n: u64)
     requires { j < length t.old }
     ensures { t.new ≡ stored t.old j (on n) }
@@ -33,15 +31,12 @@ fn put_coordinate(t: &mut [i64], j: usize, n: u64)
     t[j] = cell::ticks::ticks(n);
 }
 
+#[tactic(auto, unfolding(crate::specs::Slots::stored, crate::specs::Slots::kept))]
 fn put_number(t: &mut [i64], j: usize, n: u64)
     requires { j < length t.old }
     ensures { t.new ≡ stored t.old j (kept n) }
 {
-    if 9223372036854775807 < n {
-        t[j] = 9223372036854775807;
-        return;
-    }
-    t[j] = n as i64;
+    t[j] = n.min(i64::MAX as u64) as i64;
 }
 
 // The cell in slot i. Internal: the slot is in the row.
@@ -101,8 +96,7 @@ pub fn is_at(t: &[i64], j: usize, z: i64) -> bool
     requires { j < length t.now }
     ensures { result ≡ sameZ (get_or t.now j (pos 0)) z }
 {
-    let a = t[j];
-    a == z
+    t[j] == z
 }
 
 // Internal: the slot is in the row.
@@ -143,8 +137,7 @@ fn natural_at(t: &[i64], j: usize) -> bool
     requires { j < length t.now }
     ensures { result ≡ non_neg (get_or t.now j (pos 0)) }
 {
-    let z = t[j];
-    0 <= z
+    0 <= t[j]
 }
 
 // Whether slot i holds the numbers of a cell. Internal: the slot is in the row.

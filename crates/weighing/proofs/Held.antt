@@ -92,9 +92,6 @@ module _ (ns : List Node) (cs : List Patch) (es : List Edge) (nodes : List ℤ) 
         ends_low = ends-below;
       }
 
-  pub held-gs : length es ≤ length gs
-  held-gs = front_fits (length es) gs _ H.gs-row (length-map es (λ (e : Edge). e.g))
-
   -- the row of conductances afterwards
   pub held-weighed : tab (weightIn nodes (length ns) corners sheets (length cs) ends gs) (length es) ≡ map (λ (e : Edge). e.g) (map (weighed ns cs) es)
   held-weighed =

@@ -5,8 +5,8 @@ ghost use Rattle.std.specs.Prelude.{◌≡◌, ◌*◌, ◌≤◌, length, repli
 ghost use Rattle.rows.specs.Parts.{put, tab};
 ghost use Rattle.weights.specs.Weigh.{weightIn, NetRows};
 
-// The extents of the nodes stand behind the room in which pairs are sorted, which alone is lent to the sort. The work room is zero
-// afterwards. Internal.
+// The extents of the nodes stand behind the room in which pairs are sorted, which alone is lent to the sort. The work
+// room is zero afterwards. Internal.
 pub fn apply_weights(
     nodes: &[i64],
     n: usize,

@@ -1,24 +1,21 @@
 -- Faces, distances and the formula of a weight. Assumes nothing.
 use mathlib.Core.Path.{◌≡◌, refl, sym, ap, ap₂, ◌∙◌}
 use mathlib.Core.Bool.{Bool, true, false}
-use mathlib.Core.Option.{some}
 use mathlib.Core.List.{List}
-use Prim.Native.Nat.{ℕ, zero, suc, ◌+◌, ◌*◌, ◌^◌, ◌<◌, min}
+use Prim.Native.Nat.{ℕ, zero, suc, ◌+◌, ◌^◌, ◌<◌, min}
 use native.Mathlib.Omega.{arith}
 use native.Mathlib.Nat.{le_of_lt, mul-one, zero-lt-suc}
 use lib.Dec.{T, eqb}
-use lib.ListN.{get_or}
 use lib.IntN.{ℤ}
-use lib.Ieee.{Float, binary64, of_int, of_bits, mul, round}
+use lib.Ieee.{binary64, of_int, of_bits, mul, round}
 use lib.Ieee.Back.{round_whole}
 use lib.Ieee.Exact.{HasValue}
 use lib.Ieee.Positive.{positive, positive_of_value, mul_at}
-use borrow.Author.Tests.{eq-eqb, ne_eqb}
 use Rattle.refusals.specs.Limits.{coordinate}
-use Rattle.net.specs.Net.{Node, Edge, Patch, nth, lesserOf, apart, face, distance, num, halves, Half, weight, ◌·◌, ◌÷◌}
+use Rattle.net.specs.Net.{Node, Edge, Patch, nth, lesserOf, apart, face, distance, num, halves, Half, ◌·◌}
 use Rattle.net.specs.Flat.{pickNum}
 use Rattle.net.proofs.Nan.{face-low, distance-low}
-use Rattle.node_rows.specs.Rows.{nodeIn, nodesIn, way_of, Extended}
+use Rattle.node_rows.specs.Rows.{nodesIn, way_of, Extended}
 use Rattle.node_rows.proofs.Lists.{node_at, nodes-within}
 use Rattle.weights.specs.Weigh.{flatIn, lesserAt, faceIn, distanceIn}
 
@@ -44,43 +41,7 @@ half_is (suc n) h =
     mul_at binary64 (num (suc n)) Half (suc n) 1 1 2 (positive_of_value (num (suc n)) (suc n) 1 (num-value (suc n) h) (zero-lt-suc n)) half-positive (zero-lt-suc 0) (zero-lt-suc 1) (num-value (suc n) h) half-value
     ∙ ap (λ (z : ℕ). round binary64 false z 2) (mul-one (suc n))
 
--- the two answers of `weight_of`
-pub weight-none : (g s : Float) (f d : ℕ) → f ≡ 0 → g ≡ weight g f d (some s)
-weight-none g s f d e = rw (eq-eqb f 0 e, weight)
-
-pub weight-some : (g s : Float) (f d : ℕ) → f < 2 ^ 53 → (f ≡ 0 → ⊥) → num f · Half ÷ (s · num d) ≡ weight g f d (some s)
-weight-some g s f d h n = rw (ne_eqb f 0 n, weight) (ap (λ (z : Float). z ÷ (s · num d)) (half_is f h))
-
--- ---- the rows
-
-module _ (row : List ℤ) (w : List ℕ) (l a b : ℕ) where
-  lesser-by : (from q : ℕ) → from ≡ 44 * l + 4 * l * q → {r : ℕ} → r ≡ min (get_or w (from + a) 0) (get_or w (from + b) 0) → r ≡ lesserAt w l q a b
-  lesser-by from q e r = r ∙ ap (λ (z : ℕ). min (get_or w (z + a) 0) (get_or w (z + b) 0)) e
-
-  -- the two answers of `face_of`
-  pub face-flat : {s t : ℕ} → (nodeIn row a).y ≡ (nodeIn row b).y → s ≡ min (get_or w (44 * l + a) 0) (get_or w (44 * l + b) 0) → t ≡ min (get_or w (48 * l + a) 0) (get_or w (48 * l + b) 0) → s + t ≡ faceIn row w l a b
-  unfolding faceIn
-  face-flat e p q =
-      rw (eq-eqb (nodeIn row a).y (nodeIn row b).y e)
-      (ap₂ (λ (x y : ℕ). x + y) (lesser-by (44 * l) 0 (omega arith) p) (lesser-by (48 * l) 1 (omega arith) q))
-
-  pub face-steep : {s t : ℕ} → ((nodeIn row a).y ≡ (nodeIn row b).y → ⊥) → s ≡ min (get_or w (52 * l + a) 0) (get_or w (52 * l + b) 0) → t ≡ min (get_or w (56 * l + a) 0) (get_or w (56 * l + b) 0) → s + t ≡ faceIn row w l a b
-  unfolding faceIn
-  face-steep e p q =
-      rw (ne_eqb (nodeIn row a).y (nodeIn row b).y e)
-      (ap₂ (λ (x y : ℕ). x + y) (lesser-by (52 * l) 2 (omega arith) p) (lesser-by (56 * l) 3 (omega arith) q))
-
--- and of `distance_of`
-module _ (row : List ℤ) (a b : ℕ) where
-  pub distance-flat : (nodeIn row a).y ≡ (nodeIn row b).y → apart (nodeIn row a).x (nodeIn row b).x ≡ distanceIn row a b
-  unfolding distanceIn
-  distance-flat e = rw (eq-eqb (nodeIn row a).y (nodeIn row b).y e)
-
-  pub distance-steep : ((nodeIn row a).y ≡ (nodeIn row b).y → ⊥) → apart (nodeIn row a).y (nodeIn row b).y ≡ distanceIn row a b
-  unfolding distanceIn
-  distance-steep e = rw (ne_eqb (nodeIn row a).y (nodeIn row b).y e)
-
--- ---- and the net that they hold
+-- ---- the rows, and the net that they hold
 
 picked : (b : Bool) (x y z w : ℕ) → x ≡ z → y ≡ w → pickNum b x y ≡ elim b [ true ↦ z | false ↦ w ]
 picked true x y z w p q = p

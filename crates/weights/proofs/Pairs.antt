@@ -1,5 +1,5 @@
 -- Pairs of nodes: the ends, the keys, and the sort of them. Assumes nothing.
-use mathlib.Core.Path.{◌≡◌, refl, sym, ap, ap₂, subst, ◌∙◌}
+use mathlib.Core.Path.{◌≡◌, refl, sym, ap, subst, ◌∙◌}
 use mathlib.Core.Logic.{⊎_elim}
 use mathlib.Core.List.{List, ◌++◌}
 use Prim.Native.Nat.{ℕ, ◌+◌, ◌*◌, ◌-◌, ◌/◌, ◌%◌, ◌^◌, ◌<◌, ◌≤◌, min, max}
@@ -12,7 +12,7 @@ use Rattle.rows.specs.Order as Rows
 use Rattle.rows.specs.Parts.{part, put, tab}
 use Rattle.rows.specs.Contract.{Small}
 use Rattle.rows.proofs.Fill.{tab-same, filled-long, filled-part}
-use Rattle.rows.proofs.Lent.{block-long, block-third}
+use Rattle.rows.proofs.Lent.{block-third}
 use Rattle.net.specs.First.{first_of}
 use Rattle.net.proofs.Find.{order}
 use Rattle.bare.specs.Slots.{many}
@@ -36,13 +36,6 @@ module _ (cs es : List ℕ) (l k i e : ℕ) where
       (λ (q : i < 4 * l). subst (λ (z : ℕ). z < many) (end-cell q) (P.corners-low (4 * (i / 4) + (i % 4 + e) % 4) (omega arith)))
       (λ (q : 4 * l ≤ i). subst (λ (z : ℕ). z < many) (end-edge q) (P.ends_low (2 * (i - 4 * l) + e) (omega arith)))
       (order i (4 * l))
-
--- the two answers of `pair_key`
-pub key-less : (a b : ℕ) → a < b → a * many + b ≡ min a b * many + max a b
-key-less a b h = ap₂ (λ (x y : ℕ). x * many + y) (let p : a ≡ min a b = omega arith in p) (let p : b ≡ max a b = omega arith in p)
-
-pub key_more : (a b : ℕ) → b ≤ a → b * many + a ≡ min a b * many + max a b
-key_more a b h = ap₂ (λ (x y : ℕ). x * many + y) (let p : b ≡ min a b = omega arith in p) (let p : a ≡ max a b = omega arith in p)
 
 module _ (cs es : List ℕ) (l k : ℕ) (P : Paired cs es l k) where
   pub pair-key-low : (i : ℕ) → i < 4 * l + k → pairKey cs es l i < 2 ^ 32
@@ -86,9 +79,6 @@ module _ (cs es : List ℕ) (l k : ℕ) (P : Paired cs es l k) where
         (is : last ≡ take (4 * l + k) (take (3 * (4 * l + k) - 0) (drop 0 w₁)) ++ (Rows.ordered (take (4 * l + k) (take (3 * (4 * l + k) - 0) (drop 0 w₁))) ++ Rows.tabled Rows.first_of (take (4 * l + k) (take (3 * (4 * l + k) - 0) (drop 0 w₁))))) where
       at-end : 3 * (4 * l + k) ≡ 0 + 3 * (4 * l + k)
       at-end = omega arith
-
-      pub pairs-long : length (put_mid 0 (3 * (4 * l + k) - 0) w₁ last) ≡ length w₀
-      pairs-long = block-long w₁ 0 (3 * (4 * l + k)) (4 * l + k) Rows.first_of last at-end pairs-room is ∙ long₁
 
       pub pairs_first : part (put_mid 0 (3 * (4 * l + k) - 0) w₁ last) (2 * (4 * l + k)) (4 * l + k) ≡ tab (first_of (pairKeys cs es l k)) (4 * l + k)
       unfolding pairKeys

@@ -2,7 +2,7 @@
 use mathlib.Core.Path.{◌≡◌, refl, sym, ap, ap₂, ◌∙◌}
 use mathlib.Core.Option.{Option, none, some}
 use mathlib.Core.List.{List}
-use Prim.Native.Nat.{ℕ, zero, suc, ◌+◌, ◌*◌, ◌/◌, ◌<◌, ◌≤◌}
+use Prim.Native.Nat.{ℕ, zero, suc, ◌+◌, ◌*◌, ◌/◌, ◌^◌, ◌<◌, ◌≤◌}
 use native.Mathlib.Omega.{arith}
 use native.Mathlib.Nat.{add-zero}
 use lib.ListN.{get_or}
@@ -17,7 +17,7 @@ use Rattle.places.specs.Places.{cornerNums}
 use Rattle.node_rows.specs.Rows.{nodesIn, patchIn, patchesIn, edgeIn}
 use Rattle.weights.specs.Sides.{pairKeys, Paired}
 use Rattle.weights.specs.Weigh.{edge_of, weightIn, faceIn, distanceIn, NetRows, Ready}
-use Rattle.weights.proofs.Faces.{face-is, distance_is}
+use Rattle.weights.proofs.Faces.{face-is, distance_is, face-small, distance-small}
 use Rattle.weights.proofs.Sheets.{Rowed, sheet-found, sheet-missing}
 
 corner-is : (corners : List ℕ) (sheets : List Float) (v s : ℕ) → s < 4 → get_or corners (4 * v + s) 0 ≡ get_or (cornerNums (patchIn corners sheets v)) s 0
@@ -45,6 +45,22 @@ rows-paired N =
       corners-low = λ j h. (let c = N.cornering.low j h in omega arith);
       ends_low = λ j h. (let c = N.ends_low j h in omega arith);
     }
+
+-- what `weigh_edge` asks of the ends of edge j
+module _ (nodes : List ℤ) (n : ℕ) (corners : List ℕ) (sheets : List Float) (ends : List ℕ) (k : ℕ) (work : List ℕ) (l : ℕ)
+    (R : Ready nodes n corners sheets ends k work l) where
+  pub end_in : (i : ℕ) → i < 2 * k → get_or ends i 0 < n
+  end_in i h = R.net.ends_low i h
+
+  module _ (j : ℕ) (h : j < k) where
+    abbrev e : Edge
+    e = record { a = get_or ends (2 * j) 0; b = get_or ends (2 * j + 1) 0; g = nan }
+
+    pub face_in : faceIn nodes work l (get_or ends (2 * j) 0) (get_or ends (2 * j + 1) 0) < 2 ^ 53
+    face_in = face-small nodes work n l (patchesIn corners sheets l) R.extended e (end_in (2 * j) (omega arith)) (end_in (2 * j + 1) (omega arith))
+
+    pub distance_in : distanceIn nodes (get_or ends (2 * j) 0) (get_or ends (2 * j + 1) 0) < 2 ^ 53
+    distance_in = distance-small nodes work n l (patchesIn corners sheets l) R.extended e (end_in (2 * j) (omega arith)) (end_in (2 * j + 1) (omega arith))
 
 module _ (nodes : List ℤ) (n : ℕ) (corners : List ℕ) (sheets : List Float) (ends : List ℕ) (k : ℕ) (work : List ℕ) (l : ℕ) (R : Ready nodes n corners sheets ends k work l) (j : ℕ) (h : j < k) (g : Float) where
   abbrev cs : List Patch

@@ -6,17 +6,20 @@ ghost use Rattle.bare.specs.Slots.{many};
 ghost use Rattle.weights.specs.Sides.{pairEnd, pairKey, pairKeys, Paired};
 
 // End e of pair i.
+#[tactic(auto, using(crate::proofs::Pairs::end_low), unfolding(crate::specs::Sides::pairEnd))]
 fn pair_end(corners: &[u64], ends: &[u64], l: usize, k: usize, i: usize, e: usize) -> u64
     requires paired { Paired corners.now ends.now l k }
     requires i_bound { (i < 4 * l + k) × (e < 2) }
     ensures { (result ≡ pairEnd corners.now ends.now l i e) × (result < many) }
 {
     if i < 4 * l {
-        return corners[4 * (i / 4) + (i % 4 + e) % 4];
+        corners[4 * (i / 4) + (i % 4 + e) % 4]
+    } else {
+        ends[2 * (i - 4 * l) + e]
     }
-    ends[2 * (i - 4 * l) + e]
 }
 
+#[tactic(auto, unfolding(crate::specs::Sides::pairKey))]
 fn pair_key(corners: &[u64], ends: &[u64], l: usize, k: usize, i: usize) -> u64
     requires paired { Paired corners.now ends.now l k }
     requires i_bound { i < 4 * l + k }
@@ -24,10 +27,7 @@ fn pair_key(corners: &[u64], ends: &[u64], l: usize, k: usize, i: usize) -> u64
 {
     let a = pair_end(corners, ends, l, k, i, 0);
     let b = pair_end(corners, ends, l, k, i, 1);
-    if a < b {
-        return a * 65536 + b;
-    }
-    b * 65536 + a
+    a.min(b) * 65536 + a.max(b)
 }
 
 fn side_keys(corners: &[u64], ends: &[u64], work: &mut [u64], l: usize, k: usize)
@@ -36,10 +36,8 @@ fn side_keys(corners: &[u64], ends: &[u64], work: &mut [u64], l: usize, k: usize
     ensures { work.new ≡ put work.old 0 (pairKeys corners.now ends.now l k) }
 {
     let n = 4 * l + k;
-    let mut i = 0;
-    while i < n {
+    for i in 0..n {
         work[i] = pair_key(corners, ends, l, k, i);
-        i += 1;
     }
 }
 

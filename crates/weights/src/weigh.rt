@@ -13,15 +13,11 @@ fn lesser_at(work: &[u64], from: usize, a: usize, b: usize) -> u64
     requires { (from + a < length work.now) × (from + b < length work.now) }
     ensures { result ≡ min (get_or work.now (from + a) 0) (get_or work.now (from + b) 0) }
 {
-    let s = work[from + a];
-    let t = work[from + b];
-    if s < t {
-        return s;
-    }
-    t
+    work[from + a].min(work[from + b])
 }
 
 // In half ticks, by the extents up and down of a flat edge, and right and left of any other.
+#[tactic(auto, unfolding(crate::specs::Weigh::faceIn))]
 fn face_of(nodes: &[i64], work: &[u64], l: usize, a: usize, b: usize) -> u64
     requires a_in_bounds { (4 * a + 4 ≤ length nodes.now) × (4 * b + 4 ≤ length nodes.now) }
     requires a_bound { (a < 4 * l) × (b < 4 * l) × (64 * l ≤ length work.now) }
@@ -29,43 +25,40 @@ fn face_of(nodes: &[i64], work: &[u64], l: usize, a: usize, b: usize) -> u64
     ensures { result ≡ faceIn nodes.now work.now l a b }
 {
     if y_at(nodes, a) == y_at(nodes, b) {
-        return lesser_at(work, 44 * l, a, b) + lesser_at(work, 48 * l, a, b);
+        lesser_at(work, 44 * l, a, b) + lesser_at(work, 48 * l, a, b)
+    } else {
+        lesser_at(work, 52 * l, a, b) + lesser_at(work, 56 * l, a, b)
     }
-    lesser_at(work, 52 * l, a, b) + lesser_at(work, 56 * l, a, b)
-}
-
-fn apart_by(a: u64, b: u64) -> u64
-    ensures { result ≡ apart a b }
-{
-    if a < b {
-        return b - a;
-    }
-    a - b
 }
 
 // In ticks.
+#[tactic(auto, unfolding(crate::specs::Weigh::distanceIn))]
 fn distance_of(nodes: &[i64], a: usize, b: usize) -> u64
     requires { (4 * a + 4 ≤ length nodes.now) × (4 * b + 4 ≤ length nodes.now) }
     ensures { result ≡ distanceIn nodes.now a b }
 {
     if y_at(nodes, a) == y_at(nodes, b) {
-        return apart_by(x_at(nodes, a), x_at(nodes, b));
+        x_at(nodes, a).abs_diff(x_at(nodes, b))
+    } else {
+        y_at(nodes, a).abs_diff(y_at(nodes, b))
     }
-    apart_by(y_at(nodes, a), y_at(nodes, b))
 }
 
 // Two roundings, of the product and of the quotient: binary64 has the half of a face and a distance.
+#[tactic(auto, using(crate::proofs::Faces::half_is), unfolding(net::specs::Net::weight))]
 fn weight_of(g: f64, face: u64, distance: u64, sheet: f64) -> f64
     requires { (face < 2 ^ 53) × (distance < 2 ^ 53) }
     ensures { result ≡ weight g face distance (some sheet) }
 {
     if face == 0 {
-        return g;
+        g
+    } else {
+        (face as f64) * 0.5 / (sheet * (distance as f64))
     }
-    (face as f64) * 0.5 / (sheet * (distance as f64))
 }
 
 // What becomes of the conductance g of edge j. It stays where the edge is a side of no cell.
+#[tactic(auto, using(crate::proofs::Weighed::end_in), unfolding(crate::specs::Weigh::edge_of))]
 fn weigh_edge(
     nodes: &[i64],
     n: usize,
@@ -98,7 +91,8 @@ fn weigh_edge(
     )
 }
 
-// The weight of each edge. Internal: the extents stand 44 * l on in the work room, and in front of them each pair's first pair.
+// The weight of each edge. Internal: the extents stand 44 * l on in the work room, and in front of them each pair's
+// first pair.
 pub fn weigh_edges(
     nodes: &[i64],
     n: usize,
@@ -114,10 +108,7 @@ pub fn weigh_edges(
     requires k_in_bounds { k ≤ length g.old }
     ensures { g.new ≡ put g.old 0 (tab (weightIn nodes.now n corners.now sheets.now l ends.now g.old) k) }
 {
-    let mut j = 0;
-    while j < k {
-        let old = g[j];
-        g[j] = weigh_edge(nodes, n, corners, sheets, ends, k, work, l, j, old);
-        j += 1;
+    for j in 0..k {
+        g[j] = weigh_edge(nodes, n, corners, sheets, ends, k, work, l, j, g[j]);
     }
 }

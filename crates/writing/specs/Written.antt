@@ -1,19 +1,17 @@
 -- What `write` says and does.
-use Rattle.std.specs.Prelude.{ℕ, ◌+◌, ◌*◌, ◌-◌, ◌^◌, Bool, cond, ◌&&◌, List, [], ◌∷◌, leb, eqb, length}
+use Rattle.std.specs.Prelude.{ℕ, ◌+◌, ◌*◌, ◌-◌, ◌^◌, Bool, cond, ◌&&◌, List, [], ◌∷◌, leb, eqb, length, Result}
 use Rattle.std.proofs.lemmas.List.Edits.{sets}
 use Rattle.refusals.specs.declared.Refusal.TheVariants.{OutOfRange, NoRoom, BadTable}
-use Rattle.refusals.specs.Said.{Said, accepted, refusal}
+use Rattle.refusals.specs.Said.{Said, accepted, refusal, said}
+use Rattle.refusals.specs.declared.Refusal.{Refusal}
 use Rattle.refusals.specs.Limits.{maxLayers, maxPolygons, maxPoints}
 use Rattle.record.specs.declared.Settings.{Settings}
 use Rattle.board.specs.Rows.{Rows}
 use Rattle.board.specs.Writing.{recordOf}
-use Rattle.writing.specs.declared.Written.{Written}
-use Rattle.writing.specs.declared.Written.TheVariants.{Done, Refused}
 use Rattle.writing.specs.Boards.{addUp, boardOf}
 
-abbrev pub writeSaid : Written → Said
-writeSaid (Done n) = accepted (n ∷ [])
-writeSaid (Refused x) = refusal x
+abbrev pub writeSaid : Result ℕ Refusal → Said
+writeSaid = said (λ n. n ∷ [])
 
 -- rows of polygons that belong together: 7 if not
 abbrev pub shaped : Rows → Bool

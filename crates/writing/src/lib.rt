@@ -11,14 +11,7 @@ use refusals::limits::{LAYERS, POLYGONS, RING_POINTS};
 
 mod put;
 
-#[derive(Clone, Copy)]
-pub enum Written {
-    // How many bytes the record took.
-    Done(usize),
-    Refused(Refusal),
-}
-
-// The record of a board, from the start of `out`. Counts are judged, since they shape the record; a value that its field does not
+// The record of a board, from the start of `out`, and how many bytes it took. Counts are judged, since they shape the record; a value that its field does not
 // hold is written by its low bytes, and a NaN for r_sheet as 0. For every board in range the record reads as the board again.
 pub fn write(
     settings: Settings,
@@ -28,22 +21,22 @@ pub fn write(
     points: &[[i64; 2]],
     splits: &[u64],
     out: &mut [u8],
-) -> Written
+) -> Result<usize, Refusal>
     ensures result_value { writeSaid result ≡ writeSays (rows_of layers.now polygons.now sheets.now points.now splits.now) (length out.old) }
     ensures out_after { out.new ≡ writeLeaves settings (rows_of layers.now polygons.now sheets.now points.now splits.now) out.old }
 {
     let shaped = (polygons.len() == sheets.len()) & put::add_up(polygons, points.len());
     if !shaped {
-        return Written::Refused(Refusal::BadTable);
+        return Err(Refusal::BadTable);
     }
     let countable = ((layers.len() <= LAYERS) & (polygons.len() <= POLYGONS))
         & ((points.len() <= POLYGONS * RING_POINTS) & (splits.len() <= 65535));
     if !countable {
-        return Written::Refused(Refusal::OutOfRange(0));
+        return Err(Refusal::OutOfRange(0));
     }
     let n = 22 + 10 * layers.len() + 16 * polygons.len() + 16 * points.len() + 4 * splits.len();
     if out.len() < n {
-        return Written::Refused(Refusal::NoRoom);
+        return Err(Refusal::NoRoom);
     }
     put::put_settings(
         out,
@@ -53,5 +46,5 @@ pub fn write(
         settings.target,
     );
     put::put_lists(out, layers, polygons, sheets, points, splits);
-    Written::Done(n)
+    Ok(n)
 }

@@ -3,8 +3,8 @@ use Rattle.build.specs.Board.{board}
 use Rattle.build.proofs.Fitting.{cleared}
 use Rattle.build.proofs.cut_many.Goals as goal
 
-pub returns-else-slots-n-clause-table_after : goal.returns-else-slots-n-clause-table_after
-returns-else-slots-n-clause-table_after c =
+pub returns-clause-table_after : goal.returns-clause-table_after
+returns-clause-table_after c =
     let a = c.args in
     let v = c.put_all-k in
     let b = board a.s a.list.now a.layers.now a.counts.now a.points.now in

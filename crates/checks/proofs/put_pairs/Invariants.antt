@@ -1,5 +1,5 @@
 -- The row is written as far as the loop has come.
-use Rattle.std.proofs.Common.{◌≡◌, ◌-◌, ◌≤◌}
+use Rattle.std.proofs.Common.{◌≡◌}
 use Rattle.sound_net.specs.Nets.{fromAt, to_at}
 use Rattle.rows.specs.Parts.{put, tab}
 use Rattle.checks.specs.Keys.{pairKey}
@@ -7,7 +7,4 @@ use Rattle.checks.proofs.put_pairs.Given as goal
 
 abbrev pub invariant-loop-e : goal.invariant-loop-e
 invariant-loop-e l =
-    l.e ≤ l.edges × l.work ≡ put l.fn.work l.at (tab (λ j. pairKey (fromAt l.ends j) (to_at l.ends j)) l.e)
-
-abbrev pub decreases-loop-e : goal.decreases-loop-e
-decreases-loop-e l = l.edges - l.e
+    l.work ≡ put l.fn.work l.at (tab (λ j. pairKey (fromAt l.ends j) (to_at l.ends j)) l.e)

@@ -1,12 +1,9 @@
 -- No cell passed has a fault.
-use Rattle.std.proofs.Common.{◌≡◌, ◌-◌, ◌≤◌, []}
+use Rattle.std.proofs.Common.{◌≡◌, []}
 use Rattle.conforming.specs.Checks.{firstFault}
 use Rattle.checks.specs.Walks.{ownFault}
 use Rattle.checks.proofs.walk.Given as goal
 
 abbrev pub invariant-loop-i : goal.invariant-loop-i
 invariant-loop-i l =
-    l.i ≤ l.n × [] ≡ firstFault (ownFault l.own l.t l.nodes l.ends l.layers l.components) l.i
-
-abbrev pub decreases-loop-i : goal.decreases-loop-i
-decreases-loop-i l = l.n - l.i
+    [] ≡ firstFault (ownFault l.own l.t l.nodes l.ends l.layers l.components) l.i

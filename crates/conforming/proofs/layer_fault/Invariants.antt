@@ -1,5 +1,5 @@
 -- No cell passed has a fault.
-use Rattle.std.proofs.Common.{◌≡◌, ◌-◌, ◌≤◌, []}
+use Rattle.std.proofs.Common.{◌≡◌, []}
 use Rattle.table.specs.Slots.{cell_at}
 use Rattle.conforming.specs.Nodes.{nodesOf}
 use Rattle.conforming.specs.Checks.{cellFault, firstFault}
@@ -7,8 +7,4 @@ use Rattle.conforming.proofs.layer_fault.Given as goal
 
 abbrev pub invariant-loop-i : goal.invariant-loop-i
 invariant-loop-i l =
-    l.i ≤ l.n
-    × [] ≡ firstFault (λ k. cellFault l.t l.nodes l.ends (nodesOf l.layers l.components (cell_at l.t k).poly) k) l.i
-
-abbrev pub decreases-loop-i : goal.decreases-loop-i
-decreases-loop-i l = l.n - l.i
+    [] ≡ firstFault (λ k. cellFault l.t l.nodes l.ends (nodesOf l.layers l.components (cell_at l.t k).poly) k) l.i

@@ -1,4 +1,4 @@
-use Rattle.std.proofs.Common.{List, ◌+◌, ◌≤◌, ◌≡◌, ◌/◌, length}
+use Rattle.std.proofs.Common.{List, ◌+◌, ◌≤◌, ◌/◌, length}
 use mathlib.Core.Path.{sym, ap, subst, ◌∙◌}
 use native.Mathlib.Omega.{arith}
 use lib.IntN.{ℤ}
@@ -11,7 +11,7 @@ use Rattle.coarsest.specs.Passes.{balancing}
 use Rattle.coarsest.specs.Sweep.{row}
 use Rattle.coarsest.proofs.Loops.{no-leaf}
 use Rattle.coarsest.proofs.Rows.{row-none, row-shallow}
-use Rattle.even.proofs.Turns.{On, still, on-start, on_grew, on-as, kids-of}
+use Rattle.even.proofs.Turns.{On, still, on-start, kids-of}
 use Rattle.even.proofs.Descents.{row-ended, row-finer, row-split, row-full, indexed-row}
 use Rattle.even.proofs.balance_row.Goals as goal
 
@@ -35,14 +35,6 @@ pub loop-b-init : goal.loop-b-init
 unfolding row
 loop-b-init c = (omega arith, on-start _ _ _ c.requires.well_formed)
 
-pub least_due-c-requires-clause-well_formed : goal.least_due-c-requires-clause-well_formed
-least_due-c-requires-clause-well_formed c = c.loop-b.invariant.1.formed
-
-pub least_due-c-requires-clause-a_lt_n : goal.least_due-c-requires-clause-a_lt_n
-least_due-c-requires-clause-a_lt_n c =
-    let g = c.loop-b.invariant.1.more in
-    ((omega (arith, c.requires.stop_le_n), omega (arith, c.requires.top_le_n.0.0)), c.requires.top_le_n.0.1)
-
 pub least_due-c-requires-clause-indexed : goal.least_due-c-requires-clause-indexed
 least_due-c-requires-clause-indexed c =
     indexed-row balancing c.args.k c.args.m c.args.top c.args.stop c.args.boxes.now (table c.args.t.now c.args.n)
@@ -56,9 +48,6 @@ returns-then-stop-c c =
     row-ended c.args.k c.args.m (table c.args.t.now c.args.n) c.args.t.now l.t c.args.n l.count c.args.a l.b c.args.stop
     c.least_due-c.result l.invariant.1 l.invariant.0 (omega (arith, l.invariant.1.more, c.requires.stop_le_n))
     c.least_due-c.ensures c.if-stop-c.true
-
-pub overflow_sub-slots : goal.overflow_sub-slots
-overflow_sub-slots c = let o = c.loop-b.invariant.1 in rw (← o.size) o.formed.count
 
 pub returns-then-slots-count-lt4 : goal.returns-then-slots-count-lt4
 returns-then-slots-count-lt4 c =
@@ -98,9 +87,3 @@ loop-b-preserved c =
           (l.count + 4))
           (sym c.split_cell.ensures) next,
     )
-
-pub returns : goal.returns
-returns c =
-    let e : c.loop-b.b ≡ c.args.stop = omega (arith, c.loop-b-test.false, c.loop-b.invariant.0) in
-    on_grew _ _ _ _ _ _
-    (on-as _ _ _ _ _ _ _ (ap (row balancing c.args.k (table c.args.t.now c.args.n) c.args.a) e) c.loop-b.invariant.1)

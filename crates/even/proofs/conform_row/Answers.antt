@@ -2,6 +2,7 @@ use Rattle.std.proofs.Common.{ℕ, List, Bool, ◌+◌, ◌/◌, ◌≡◌, ◌<
 use mathlib.Core.Path.{sym, ap, subst, ◌∙◌}
 use native.Mathlib.Omega.{arith}
 use lib.IntN.{ℤ}
+use Rattle.std.specs.Prelude.{Some}
 use borrow.Author.Tests.{eq-eqb, ne_eqb}
 use Rattle.cell.specs.Cells.{noCell}
 use Rattle.table.specs.Slots.{cell_at}
@@ -52,8 +53,8 @@ returns-then-not-any_due c =
     (asked c.args.k c.args.t.now c.args.n c.args.a c.args.stop c.any_due.result false h
     c.requires.stop_le_n.0 c.any_due.ensures c.if-not-any_due.true)
 
-pub returns-then-slots-n-lt4 : goal.returns-then-slots-n-lt4
-returns-then-slots-n-lt4 c =
+pub returns-then-t-n-lt4 : goal.returns-then-t-n-lt4
+returns-then-t-n-lt4 c =
     let T = table c.args.t.now c.args.n in
     let h : c.args.a < c.args.n = omega (arith, c.requires.stop_le_n) in
     let e = asked c.args.k c.args.t.now c.args.n c.args.a c.args.stop c.any_due.result true h
@@ -61,7 +62,7 @@ returns-then-slots-n-lt4 c =
     on-full _ _ _ _ _ _ _ (on-start _ _ _ c.requires.well_formed)
     (omega (
       arith,
-      c.if-slots-n-lt4.true,
+      c.if-t-n-lt4.true,
       c.requires.well_formed.count,
       ap length e,
       length-split T c.args.a,
@@ -77,9 +78,9 @@ returns c =
     let k = kids-of c.args.t.now c.args.n c.args.a h in
     let l = ap (λ (x : Cell). x.level) (at_table c.args.t.now c.args.n c.args.a h) in
     let room : c.args.n + 4 ≤ length c.args.t.now / 8 =
-    omega (arith, c.if-slots-n-lt4.false, c.requires.well_formed.count) in
+    omega (arith, c.if-t-n-lt4.false, c.requires.well_formed.count) in
     subst
-    (λ (u : List ℤ). Rowed conforming c.args.k c.args.m c.args.t.now u c.args.n c.args.a c.args.stop (c.args.n + 4))
+    (λ (u : List ℤ). Rowed conforming c.args.k c.args.m c.args.t.now u c.args.n c.args.a c.args.stop (Some (c.args.n + 4)))
     (sym c.split_cell.ensures)
     (on_grew _ _ _ _ _ _
     (on-as _ _ _ _ _ _ _ (sym e)

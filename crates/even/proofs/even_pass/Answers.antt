@@ -24,14 +24,8 @@ loop-a-init c =
           (on-start _ _ _ c.requires.well_formed),
     )
 
-pub even_row-count-requires-clause-well_formed : goal.even_row-count-requires-clause-well_formed
-even_row-count-requires-clause-well_formed c = c.loop-a.invariant.1.formed
-
-pub even_row-count-requires-clause-stop_le_n : goal.even_row-count-requires-clause-stop_le_n
-even_row-count-requires-clause-stop_le_n c = (c.loop-a.invariant.1.more, c.loop-a-test.true)
-
-pub even_row-count-requires-clause-top_le_n : goal.even_row-count-requires-clause-top_le_n
-even_row-count-requires-clause-top_le_n c =
+pub even_row-requires-clause-top_le_n : goal.even_row-requires-clause-top_le_n
+even_row-requires-clause-top_le_n c =
     let l = c.loop-a in
     let m = l.invariant.1.more in (
       (omega (arith, c.requires.top_le_n.0.0), c.requires.top_le_n.0.1),
@@ -40,11 +34,12 @@ even_row-count-requires-clause-top_le_n c =
           (rw (length-table c.args.t.now c.args.n) (omega arith)) c.requires.top_le_n.1 l.invariant.1 l.invariant.0,
     )
 
-pub returns-then-slots-count : goal.returns-then-slots-count
-returns-then-slots-count c =
+pub returns-in_err-count : goal.returns-in_err-count
+returns-in_err-count c =
     let l = c.loop-a in
-    pass-over (engineOf c.args.conforms) c.args.k c.args.m c.args.t.now c.args.n l.t l.count l.a l.invariant.1
-    c.loop-a-test.true _ _ c.even_row-count.ensures c.if-slots-count.true
+    rw c.from_residual.ensures
+    (pass-over (engineOf c.args.conforms) c.args.k c.args.m c.args.t.now c.args.n l.t l.count l.a l.invariant.1
+    c.loop-a-test.true _ c.in_err-count.ensures)
 
 pub loop-a-preserved : goal.loop-a-preserved
 loop-a-preserved c =
@@ -57,7 +52,7 @@ loop-a-preserved c =
           (sym (rows-to E c.args.k c.args.n c.args.marks.now T (rw (length-table c.args.t.now c.args.n) (omega arith))
           c.requires.marks_len.1 (l.a + 1) c.next_row-a-in-loop-a.result g.0.0 g.0.1 g.1))
           (pass-turn E c.args.k c.args.m c.args.t.now c.args.n l.t l.count l.a l.invariant.1 c.loop-a-test.true _ _
-          c.even_row-count.ensures c.if-slots-count.false),
+          c.in_ok-count.ensures),
     )
 
 pub returns : goal.returns

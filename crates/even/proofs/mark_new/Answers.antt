@@ -5,7 +5,6 @@ use mathlib.Core.Option.{some}
 use native.Mathlib.Omega.{arith}
 use native.Mathlib.Decide.{dec_lt}
 use lib.IntN.{ℤ}
-use Rattle.cell.specs.declared.Cell as Held
 use Rattle.table.specs.Slots.{cell_at}
 use Rattle.table.specs.Mesh.{table}
 use Rattle.table.specs.Formed.{WellFormed}
@@ -14,43 +13,35 @@ use Rattle.even.specs.Parts.{engineOf}
 use Rattle.even.proofs.Watching.{Group, group_of, met-kept, watched-new}
 use Rattle.even.proofs.mark_new.Goals as goal
 
--- the group of x, by the cell that the code reads
-group : (M : ℕ) (t : List ℤ) (n top x : ℕ) (boxes : List (List ℕ)) (q : Held.Cell) → q ≡ cell_at t x → WellFormed t n M
-    → Indexed top boxes (table t n) → top ≤ x → x < n → Group t n x q.parent (cell_at t q.parent).first
-group M t n top x boxes q e w i l h =
-    subst (λ (p : ℕ). Group t n x p (cell_at t p).first) (ap (λ (z : Held.Cell). z.parent) (sym e))
-    (group_of M t n top x boxes w i l h)
-
-pub loop-x-init : goal.loop-x-init
-loop-x-init c = (omega arith, λ y l h. absurd (omega arith))
+-- the group of x, by the parent that the code reads
+group : (M : ℕ) (t : List ℤ) (n top stop x p : ℕ) (boxes : List (List ℕ)) → p ≡ (cell_at t x).parent → WellFormed t n M
+    → Indexed top boxes (table t n) → top ≤ stop → stop ≤ x → x < n → Group t n x p (cell_at t p).first
+group M t n top stop x p boxes e w i s l h =
+    subst (λ (p : ℕ). Group t n x p (cell_at t p).first) (sym e) (group_of M t n top x boxes w i (omega arith) h)
 
 pub first_at-f-requires : goal.first_at-f-requires
 first_at-f-requires c =
-    let g = group c.args.m c.args.t.now c.args.n c.args.top c.loop-x.x c.args.boxes.now c.cell_at-p.result
-    c.cell_at-p.ensures c.requires.well_formed c.requires.top_le_n.1
-    (omega (arith, c.requires.top_le_stop.0.0.0, c.loop-x.invariant.0)) c.loop-x-test.true in
+    let g = group _ _ _ c.args.top _ _ _ c.args.boxes.now c.parent_at-p.ensures c.requires.well_formed
+    c.requires.top_le_n.1 c.requires.top_le_stop.0.0.0 c.loop-x.invariant.0 c.loop-x-test.true in
     omega (arith, g.inside, c.requires.well_formed.count)
 
 pub mark_kids-requires-clause-p_lt_n : goal.mark_kids-requires-clause-p_lt_n
 mark_kids-requires-clause-p_lt_n c =
-    let g = group c.args.m c.args.t.now c.args.n c.args.top c.loop-x.x c.args.boxes.now c.cell_at-p.result
-    c.cell_at-p.ensures c.requires.well_formed c.requires.top_le_n.1
-    (omega (arith, c.requires.top_le_stop.0.0.0, c.loop-x.invariant.0)) c.loop-x-test.true in
-    let size = c.loop-x.auto.marks ∙ c.clear.auto.marks ∙ c.requires.top_le_stop.1 in
+    let g = group _ _ _ c.args.top _ _ _ c.args.boxes.now c.parent_at-p.ensures c.requires.well_formed
+    c.requires.top_le_n.1 c.requires.top_le_stop.0.0.0 c.loop-x.invariant.0 c.loop-x-test.true in
+    let size = c.loop-x.auto.marks ∙ c.fill.ensures.len ∙ c.requires.top_le_stop.1 in
     (((g.inside, c.requires.top_le_stop.0.1), size), g.kids ∙ ap some (sym c.first_at-f.ensures))
 
 pub overflow_add-x : goal.overflow_add-x
 overflow_add-x c =
-    let g = group c.args.m c.args.t.now c.args.n c.args.top c.loop-x.x c.args.boxes.now c.cell_at-p.result
-    c.cell_at-p.ensures c.requires.well_formed c.requires.top_le_n.1
-    (omega (arith, c.requires.top_le_stop.0.0.0, c.loop-x.invariant.0)) c.loop-x-test.true in
+    let g = group _ _ _ c.args.top _ _ _ c.args.boxes.now c.parent_at-p.ensures c.requires.well_formed
+    c.requires.top_le_n.1 c.requires.top_le_stop.0.0.0 c.loop-x.invariant.0 c.loop-x-test.true in
     omega (arith, g.below, c.first_at-f.ensures, c.requires.well_formed.count, c.requires.well_formed.slots)
 
 pub loop-x-smaller : goal.loop-x-smaller
 loop-x-smaller c =
-    let g = group c.args.m c.args.t.now c.args.n c.args.top c.loop-x.x c.args.boxes.now c.cell_at-p.result
-    c.cell_at-p.ensures c.requires.well_formed c.requires.top_le_n.1
-    (omega (arith, c.requires.top_le_stop.0.0.0, c.loop-x.invariant.0)) c.loop-x-test.true in
+    let g = group _ _ _ c.args.top _ _ _ c.args.boxes.now c.parent_at-p.ensures c.requires.well_formed
+    c.requires.top_le_n.1 c.requires.top_le_stop.0.0.0 c.loop-x.invariant.0 c.loop-x-test.true in
     omega (arith, g.high, c.first_at-f.ensures, c.loop-x-test.true)
 
 pub loop-x-preserved : goal.loop-x-preserved
@@ -58,9 +49,8 @@ loop-x-preserved c =
     let l = c.loop-x in
     let f = c.first_at-f.ensures in
     let k = c.mark_kids in
-    let g = group c.args.m c.args.t.now c.args.n c.args.top c.loop-x.x c.args.boxes.now c.cell_at-p.result
-    c.cell_at-p.ensures c.requires.well_formed c.requires.top_le_n.1
-    (omega (arith, c.requires.top_le_stop.0.0.0, c.loop-x.invariant.0)) c.loop-x-test.true in
+    let g = group _ _ _ c.args.top _ _ _ c.args.boxes.now c.parent_at-p.ensures c.requires.well_formed
+    c.requires.top_le_n.1 c.requires.top_le_stop.0.0.0 c.loop-x.invariant.0 c.loop-x-test.true in
     let low = g.low in
     let high = g.high in (
       omega (arith, f, l.invariant.0),

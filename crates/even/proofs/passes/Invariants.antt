@@ -9,12 +9,12 @@ use Rattle.even.specs.Watch.{Watched}
 use Rattle.even.proofs.Turns.{On}
 use Rattle.even.proofs.passes.Given as goal
 
-abbrev pub invariant-loop-conforms : goal.invariant-loop-conforms
-invariant-loop-conforms l =
+abbrev pub invariant-passes : goal.invariant-passes
+invariant-passes l =
     let T = table l.t l.count in
     let E = engineOf l.conforms in
     On l.m T l.initial.t l.t l.n l.count × (evened E l.k l.m T ≡ evened E l.k l.m (table l.initial.t l.n))
     × Indexed l.top l.boxes T × Watched E l.k l.marks T l.count
 
-abbrev pub decreases-loop-conforms : goal.decreases-loop-conforms
-decreases-loop-conforms l = splitsLeft l.m (table l.t l.count)
+abbrev pub decreases-passes : goal.decreases-passes
+decreases-passes l = splitsLeft l.m (table l.t l.count)

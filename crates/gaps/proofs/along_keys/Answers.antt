@@ -1,8 +1,7 @@
 use mathlib.Core.Path.{◌≡◌, sym, ap₂, ◌∙◌}
-use Prim.Native.Nat.{ℕ, ◌+◌, ◌*◌, ◌<◌}
+use Prim.Native.Nat.{ℕ, ◌+◌, ◌*◌}
 use native.Mathlib.Omega.{arith}
 use lib.ListN.{get_or}
-use Rattle.refusals.specs.Limits.{maxSlots}
 use Rattle.rows.specs.Parts.{part}
 use Rattle.rows.proofs.Parts.{length_part, part_at}
 use Rattle.rows.proofs.Fill.{fill_begins, front-turn, fill-above, fill-ends}
@@ -17,28 +16,19 @@ first-is : (c : In-loop-i)
 first-is c =
     let r = c.requires.n_in_bounds in
     let i = c.loop-i.invariant in
-    fill-above 0 _ 0 c.args.n _ (omega arith) _ _ i.1 i.0 _ (omega arith) ∙ sym (part_at _ _ _ _ 0 c.loop-i-test.true)
+    fill-above 0 _ 0 c.args.n _ (omega arith) _ _ i c.loop-i.auto.i-end _ (omega arith) ∙ sym (part_at _ _ _ _ 0 c.loop-i-test.true)
 
-first-low : (c : In-loop-i) → get_or c.loop-i.work (c.args.n + c.args.n + c.loop-i.i) 0 < 4 * maxSlots
-first-low c =
+pub loop-i-init : goal.loop-i-init
+loop-i-init c = let r = c.requires.n_in_bounds in fill_begins 0 _ 0 c.args.n _ (omega arith)
+
+pub prove-unreachable-requires : goal.prove-unreachable-requires
+prove-unreachable-requires c =
     let t = c.loop-i-test.true in
     let r = c.requires.n_in_bounds in
     let n = c.args.n in
     let l = length_part c.args.work.now (n + n) n (omega arith) in
     let s = c.requires.small c.loop-i.i (omega arith) in
-    omega (arith, first-is c)
-
-pub loop-i-init : goal.loop-i-init
-loop-i-init c = let r = c.requires.n_in_bounds in (omega arith, fill_begins 0 _ 0 c.args.n _ (omega arith))
-
-pub overflow_mul-work : goal.overflow_mul-work
-overflow_mul-work c = let h = first-low (goal.at.overflow_mul-work c).In-loop-i in omega arith
-
-pub overflow_add-work : goal.overflow_add-work
-overflow_add-work c =
-    let h = first-low (goal.at.overflow_add-work c).In-loop-i in
-    let q = c.along_at.ensures.1 in
-    omega arith
+    omega (arith, first-is (goal.at.prove-unreachable-requires c).In-loop-i, c.if-prove.true)
 
 pub loop-i-preserved : goal.loop-i-preserved
 unfolding alongKey
@@ -49,10 +39,10 @@ loop-i-preserved c =
     let value = ap₂ (λ (u w : ℕ). u * wide + w) first c.along_at.ensures.0 in
     let n = c.args.n in
     let f = alongKey c.args.across c.args.nodes.now (part c.args.work.now (n + n) n) in
-    (omega arith, front-turn 0 _ n f (omega arith) _ _ c.loop-i.invariant.1 t _ value)
+    front-turn 0 _ n f (omega arith) _ _ c.loop-i.invariant t _ value
 
 pub returns : goal.returns
 returns c =
     let r = c.requires.n_in_bounds in
     let i = c.loop-i.invariant in
-    fill-ends 0 _ 0 c.args.n _ (omega arith) _ _ i.1 i.0 c.loop-i-test.false
+    fill-ends 0 _ 0 c.args.n _ (omega arith) _ _ i c.loop-i.auto.i-end c.loop-i-test.false

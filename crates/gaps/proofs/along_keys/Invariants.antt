@@ -1,13 +1,9 @@
 -- The first i entries are keys; the others are as they were.
-use Rattle.std.proofs.Common.{◌+◌, ◌-◌, ◌≡◌, ◌≤◌}
+use Rattle.std.proofs.Common.{◌+◌, ◌≡◌}
 use Rattle.rows.specs.Parts.{part, put, tab}
 use Rattle.gaps.specs.Gaps.{alongKey}
 use Rattle.gaps.proofs.along_keys.Given as goal
 
 abbrev pub invariant-loop-i : goal.invariant-loop-i
 invariant-loop-i l =
-    (l.i ≤ l.n)
-    × (l.work ≡ put l.fn.work 0 (tab (alongKey l.across l.nodes (part l.fn.work (l.n + l.n) l.n)) l.i))
-
-abbrev pub decreases-loop-i : goal.decreases-loop-i
-decreases-loop-i l = l.n - l.i
+    l.work ≡ put l.fn.work 0 (tab (alongKey l.across l.nodes (part l.fn.work (l.n + l.n) l.n)) l.i)

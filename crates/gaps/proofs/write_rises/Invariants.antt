@@ -1,9 +1,5 @@
-use Rattle.std.proofs.Common.{◌-◌, ◌≤◌}
 use Rattle.gaps.proofs.Rising.{Rising}
 use Rattle.gaps.proofs.write_rises.Given as goal
 
 abbrev pub invariant-loop-k : goal.invariant-loop-k
-invariant-loop-k l = (l.k ≤ l.n) × Rising l.fn.work l.work l.n l.l l.at l.fall l.k
-
-abbrev pub decreases-loop-k : goal.decreases-loop-k
-decreases-loop-k l = l.n - l.k
+invariant-loop-k l = Rising l.fn.work l.work l.n l.l l.at l.fall l.k

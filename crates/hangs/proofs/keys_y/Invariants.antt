@@ -1,5 +1,5 @@
 -- The first i entries are keys; the others are as they were.
-use Rattle.std.proofs.Common.{◌-◌, ◌≡◌, ◌+◌, ◌*◌, ◌≤◌}
+use Rattle.std.proofs.Common.{◌≡◌, ◌+◌, ◌*◌}
 use Rattle.rows.specs.Order.{first_of}
 use Rattle.rows.specs.Parts.{put, tab}
 use Rattle.hangs.specs.Items.{keysX, keyY}
@@ -7,9 +7,6 @@ use Rattle.hangs.proofs.keys_y.Given as goal
 
 abbrev pub invariant-loop-i : goal.invariant-loop-i
 invariant-loop-i l =
-    (l.i ≤ 4 * l.l + l.n)
-    × (l.work ≡ put l.fn.work 0 (tab
-    (keyY (tab (first_of (keysX l.nodes l.corners l.l (4 * l.l + l.n))) (4 * l.l + l.n)) l.nodes l.corners l.l) l.i))
-
-abbrev pub decreases-loop-i : goal.decreases-loop-i
-decreases-loop-i l = l.m - l.i
+    l.work
+    ≡ put l.fn.work 0 (tab
+    (keyY (tab (first_of (keysX l.nodes l.corners l.l (4 * l.l + l.n))) (4 * l.l + l.n)) l.nodes l.corners l.l) l.i)

@@ -1,5 +1,4 @@
-use Prim.Native.Nat.{◌+◌, ◌*◌}
-use mathlib.Core.List.{[], ◌∷◌}
+use Prim.Native.Nat.{ℕ, ◌+◌, ◌*◌}
 use Rattle.std.proofs.Common.{rules}
 use mir.Syntax.{w64}
 use mir.Val.{SFits}
@@ -12,21 +11,13 @@ use Rattle.lines.proofs.leaf_line.Goals as goal
 pub returns-clause-puts : goal.returns-clause-puts
 returns-clause-puts c =
     let a = c.args in
-    let s = a.t.now in
-    let f0 : SFits w64 (item s (a.id * 8 + 7)) = search rules in
-    let f1 : SFits w64 (item s (a.id * 8 + 4)) = search rules in
-    let f2 : SFits w64 (item s (a.id * 8)) = search rules in
-    let f3 : SFits w64 (item s (a.id * 8 + 1)) = search rules in
-    let f4 : SFits w64 (item s (a.id * 8 + 2)) = search rules in
-    let f5 : SFits w64 (item s (a.id * 8 + 3)) = search rules in
-    let z = rw (
-      to_z-of_z f0,
-      to_z-of_z f1,
-      to_z-of_z f2,
-      to_z-of_z f3,
-      to_z-of_z f4,
-      to_z-of_z f5,
-    ) at c.numbers-b.ensures.puts in
-    let zs = item s (a.id * 8 + 7) ∷ item s (a.id * 8 + 4) ∷ item s (a.id * 8) ∷
-    item s (a.id * 8 + 1) ∷ item s (a.id * 8 + 2) ∷ item s (a.id * 8 + 3) ∷ [] in
-    lined a.at a.out.now leafWord a.id zs c.named-a.ensures.puts z c.append.ensures
+    let at = λ (k : ℕ). item a.t.now (a.id * 8 + k) in
+    let f0 : SFits w64 (item a.t.now (a.id * 8)) = search rules in
+    let f1 : SFits w64 (at 1) = search rules in
+    let f2 : SFits w64 (at 2) = search rules in
+    let f3 : SFits w64 (at 3) = search rules in
+    let f4 : SFits w64 (at 4) = search rules in
+    let f7 : SFits w64 (at 7) = search rules in
+    let z = rw (to_z-of_z f7, to_z-of_z f4, to_z-of_z f0, to_z-of_z f1, to_z-of_z f2, to_z-of_z f3)
+    at c.numbers-b.ensures.puts in
+    lined a.at a.out.now leafWord a.id _ c.named-a.ensures.puts z c.append.ensures

@@ -1,9 +1,10 @@
 -- Too long, refused by the reader or by the table step, or made.
-use Rattle.std.proofs.Common.{List, Float, ◌≡◌, length, replicate, pos, sym, ap, ◌∙◌}
+use Rattle.std.proofs.Common.{rules, List, Float, ◌≡◌, length, replicate, pos, sym, ap, ◌∙◌}
 use lib.ListN.{length-replicate}
 use Rattle.table.specs.Refine.{isAccepted}
+use Rattle.refusals.specs.Said.{refusal}
 use Rattle.board.specs.Rows.{Rows, rows_of}
-use Rattle.mesh.specs.Says.{layerRoom, polygonRoom, pointRoom, splitRoom}
+use Rattle.mesh.specs.Says.{meshedSaid, layerRoom, polygonRoom, pointRoom, splitRoom}
 use Rattle.mesh.proofs.Meshing.{Roomed, too_long, read-refused, whole}
 use Rattle.mesh.proofs.Whole.{ready, grow-refused, totals-are, made}
 use Rattle.mesh.proofs.mesh.Goals as goal
@@ -27,73 +28,69 @@ before-roomed sheets e =
 pub returns-then-s-gt-INPUT-clause-result_value : goal.returns-then-s-gt-INPUT-clause-result_value
 returns-then-s-gt-INPUT-clause-result_value c = sym (too_long c.args.s.now c.if-s-gt-INPUT.true)
 
-pub grow_board-grown-requires : goal.grow_board-grown-requires
-grow_board-grown-requires c =
-    let s = c.args.s.now in
+pub returns-in_err-read-clause-result_value : goal.returns-in_err-read-clause-result_value
+returns-in_err-read-clause-result_value c =
     let rows = before c.args.sheets.now in
-    let z = c.requires in
-    let roomed = before-roomed c.args.sheets.now z.sheets in
-    let v = c.read-answer.new in
-    let rows' = rows_of v.layers v.polygons v.sheets v.points v.splits in
-    let r = c.read-answer.ensures.splits_after in
-    let d = c.in-Done in
-    let held = whole s rows roomed d.g d.n d.ensures.result_value in
-    ready s rows rows' roomed d.g d.n held r (λ i. (c.type_inv.s i).fits) _ _ z.layers z.components
+    let roomed = before-roomed c.args.sheets.now c.requires.sheets in
+    let x = c.in_err-read in
+    let said : meshedSaid c.from_residual.result ≡ refusal x.field-0.0 = search rules in
+    said ∙ read-refused c.args.s.now rows roomed c.if-s-gt-INPUT.false x.field-0.0 x.ensures.result_value
 
-pub returns-in-Refused-clause-result_value : goal.returns-in-Refused-clause-result_value
-returns-in-Refused-clause-result_value c =
+pub grow_board-requires : goal.grow_board-requires
+grow_board-requires c =
     let s = c.args.s.now in
     let rows = before c.args.sheets.now in
     let z = c.requires in
     let roomed = before-roomed c.args.sheets.now z.sheets in
-    read-refused s rows roomed c.if-s-gt-INPUT.false c.in-Refused.x c.in-Refused.ensures.result_value
-
-pub returns-in-Refused-grown-clause-result_value : goal.returns-in-Refused-grown-clause-result_value
-returns-in-Refused-grown-clause-result_value c =
-    let s = c.args.s.now in
-    let rows = before c.args.sheets.now in
-    let z = c.requires in
-    let roomed = before-roomed c.args.sheets.now z.sheets in
-    let v = c.read-answer.new in
+    let v = c.read.new in
     let rows' = rows_of v.layers v.polygons v.sheets v.points v.splits in
-    let r = c.read-answer.ensures.splits_after in
-    let d = c.in-Done in
-    let held = whole s rows roomed d.g d.n d.ensures.result_value in
-    let e = c.in-Refused-grown in
-    grow-refused s rows rows' roomed d.g d.n held r c.if-s-gt-INPUT.false _ z.table e.x e.ensures.result_value
+    let d = c.in_ok-read in
+    let g = d.read.settings in
+    let n = d.read.counts in
+    let held = whole s rows roomed g n d.ensures.result_value in
+    ready s rows rows' roomed g n held d.ensures.splits_after (λ i. (c.type_inv.s i).fits) _ _ z.layers z.components
 
-pub returns-in-Done-grown-clause-result_value : goal.returns-in-Done-grown-clause-result_value
-returns-in-Done-grown-clause-result_value c =
+pub returns-in_err-grown-clause-result_value : goal.returns-in_err-grown-clause-result_value
+returns-in_err-grown-clause-result_value c =
     let s = c.args.s.now in
     let rows = before c.args.sheets.now in
     let z = c.requires in
     let roomed = before-roomed c.args.sheets.now z.sheets in
-    let v = c.read-answer.new in
+    let v = c.read.new in
     let rows' = rows_of v.layers v.polygons v.sheets v.points v.splits in
-    let r = c.read-answer.ensures.splits_after in
-    let d = c.in-Done in
-    let held = whole s rows roomed d.g d.n d.ensures.result_value in
-    let e = c.in-Done-grown in
+    let d = c.in_ok-read in
+    let g = d.read.settings in
+    let n = d.read.counts in
+    let held = whole s rows roomed g n d.ensures.result_value in
+    let x = c.in_err-grown in
+    let said : meshedSaid c.from_residual-in_err-grown.result ≡ refusal x.field-0.0 = search rules in
+    said ∙ grow-refused s rows rows' roomed g n held d.ensures.splits_after c.if-s-gt-INPUT.false _ z.table x.field-0.0
+    x.ensures.result_value
+
+pub returns : goal.returns
+returns c =
+    let s = c.args.s.now in
+    let rows = before c.args.sheets.now in
+    let z = c.requires in
+    let roomed = before-roomed c.args.sheets.now z.sheets in
+    let v = c.read.new in
+    let rows' = rows_of v.layers v.polygons v.sheets v.points v.splits in
+    let d = c.in_ok-read in
+    let r = d.ensures.splits_after in
+    let g = d.read.settings in
+    let n = d.read.counts in
+    let held = whole s rows roomed g n d.ensures.result_value in
+    let e = c.in_ok-grown in
+    let h = e.grown.head in
+    let k = e.grown.splits in
     let o = c.order_leaves.ensures in
     let small = c.if-s-gt-INPUT.false in
-    o.result_value
-    ∙ totals-are s rows rows' roomed d.g d.n held r small _ z.table e.k e.head.count e.head.max_level
-    c.args.table.now _ e.ensures.result_value e.ensures.table_after _ z.order
-
-pub returns-in-Done-grown-clause-made : goal.returns-in-Done-grown-clause-made
-returns-in-Done-grown-clause-made c = λ f.
-    let s = c.args.s.now in
-    let rows = before c.args.sheets.now in
-    let z = c.requires in
-    let roomed = before-roomed c.args.sheets.now z.sheets in
-    let v = c.read-answer.new in
-    let rows' = rows_of v.layers v.polygons v.sheets v.points v.splits in
-    let r = c.read-answer.ensures.splits_after in
-    let d = c.in-Done in
-    let held = whole s rows roomed d.g d.n d.ensures.result_value in
-    let e = c.in-Done-grown in
-    let o = c.order_leaves.ensures in
-    let small = c.if-s-gt-INPUT.false in
-    made s rows rows' roomed d.g d.n held r small _ z.table e.k e.head.count e.head.max_level c.args.table.now _
-    e.ensures.result_value e.ensures.table_after c.args.order.now _ c.args.layers.now _ c.args.components.now _
-    (ap isAccepted (sym o.result_value) ∙ f) o.order_after e.ensures.layers_after e.ensures.components_after
+    record {
+      result_value = o.result_value
+          ∙ totals-are s rows rows' roomed g n held r small _ z.table k h.count h.max_level
+          c.args.table.now _ e.ensures.result_value e.ensures.table_after _ z.order;
+      made = λ f.
+          made s rows rows' roomed g n held r small _ z.table k h.count h.max_level c.args.table.now _
+          e.ensures.result_value e.ensures.table_after c.args.order.now _ c.args.layers.now _ c.args.components.now _
+          (ap isAccepted (sym o.result_value) ∙ f) o.order_after e.ensures.layers_after e.ensures.components_after;
+    }

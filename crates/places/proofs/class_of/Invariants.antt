@@ -1,15 +1,10 @@
 -- No polygon below j has the layer and the component of polygon k.
 use mathlib.Core.Path.{◌≡◌}
 use mathlib.Core.Bool.{false, ◌&&◌}
-use Prim.Native.Nat.{ℕ, ◌-◌, ◌<◌, ◌≤◌}
+use Prim.Native.Nat.{ℕ, ◌<◌}
 use lib.Dec.{eqb}
 use lib.ListN.{get_or}
 use Rattle.places.proofs.class_of.Given as goal
 
 abbrev pub invariant-loop-j : goal.invariant-loop-j
-invariant-loop-j l =
-    (l.j ≤ l.k)
-    × ((i : ℕ) → i < l.j → (eqb (get_or l.layers i 0) l.a && eqb (get_or l.components i 0) l.b) ≡ false)
-
-abbrev pub decreases-loop-j : goal.decreases-loop-j
-decreases-loop-j l = l.k - l.j
+invariant-loop-j l = (i : ℕ) → i < l.j → (eqb (get_or l.layers i 0) l.a && eqb (get_or l.components i 0) l.b) ≡ false

@@ -1,5 +1,4 @@
 use mathlib.Core.Path.{◌≡◌}
-use Prim.Native.Nat.{◌-◌, ◌≤◌}
 use lib.ListN.{get_or}
 use Rattle.rows.specs.Parts.{put, tab}
 use Rattle.places.specs.Places.{classOf}
@@ -7,8 +6,4 @@ use Rattle.places.proofs.class_row.Given as goal
 
 abbrev pub invariant-loop-v : goal.invariant-loop-v
 invariant-loop-v l =
-    (l.v ≤ l.l)
-    × (l.work ≡ put l.fn.work l.l (tab (λ j. classOf l.layers l.components (get_or l.fn.work j 0)) l.v))
-
-abbrev pub decreases-loop-v : goal.decreases-loop-v
-decreases-loop-v l = l.l - l.v
+    l.work ≡ put l.fn.work l.l (tab (λ j. classOf l.layers l.components (get_or l.fn.work j 0)) l.v)

@@ -1,28 +1,10 @@
-use native.Mathlib.Omega.{arith}
-use Rattle.places.proofs.Numbers.{numbering-begins, first-in, numbering-new, numbering-old}
+use Rattle.places.proofs.Numbers.{numbering-begins, numbering-new, numbering-old}
 use Rattle.places.proofs.Numbers.{numbering-ends, numbering-count}
 use Rattle.places.proofs.number_row.Goals.{then-f-i, else-f-i}
 use Rattle.places.proofs.number_row.Goals as goal
 
 pub loop-i-init : goal.loop-i-init
-loop-i-init c = numbering-begins _
-
-pub overflow_add-count : goal.overflow_add-count
-overflow_add-count c =
-    let t = c.loop-i-test.true in
-    let w = c.loop-i.invariant.few in
-    let g = c.well_formed in
-    omega arith
-
-pub offset_bounds-row-f : goal.offset_bounds-row-f
-offset_bounds-row-f c =
-    let h = first-in _ _ _ _ c.requires c.loop-i.invariant c.loop-i-test.true in
-    let n = c.loop-i.auto.row in
-    let g = c.well_formed in
-    omega arith
-
-pub bounds-row-f : goal.bounds-row-f
-bounds-row-f c = first-in _ _ _ _ c.requires c.loop-i.invariant c.loop-i-test.true
+loop-i-init c = numbering-begins _ c.requires
 
 pub loop-i-preserved : goal.loop-i-preserved
 loop-i-preserved c =

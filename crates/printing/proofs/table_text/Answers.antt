@@ -17,27 +17,27 @@ put_lines-requires-clause-net_rows c =
     let p = polygons a.layers.now a.components.now a.sheets.now in
     let v = c.network-net.new in
     let k = c.network-net.auto in
-    let d = c.in-Done in
+    let d = c.in-Ok in
     net-rows a.t a.table.now a.order.now p d.c (rows v.nodes v.ends v.conductances v.corners v.cells v.work)
     d.ensures.result_value d.ensures.work_after (k.nodes ∙ length-replicate {A = ℤ} (16 * leafRoom) (pos 0))
     (k.ends ∙ length-replicate {A = ℕ} (16 * leafRoom) 0)
     (k.conductances ∙ length-replicate {A = Float} (8 * leafRoom) (of_bits binary64 0))
 
-pub returns-in-Refused-clause-puts : goal.returns-in-Refused-clause-puts
-returns-in-Refused-clause-puts c =
+pub returns-in-Err-clause-puts : goal.returns-in-Err-clause-puts
+returns-in-Err-clause-puts c =
     let a = c.args in
     let p = polygons a.layers.now a.components.now a.sheets.now in
-    let x = c.in-Refused.why in
+    let x = c.in-Err.why in
     renamed 0 a.out.now (saidText (refusal x)) (tableText a.t.count a.t.max_level a.t.splits a.table.now a.order.now p)
-    (refused-net a.t a.table.now a.order.now p x c.in-Refused.ensures.result_value) c.refuse.ensures.puts
+    (refused-net a.t a.table.now a.order.now p x c.in-Err.ensures.result_value) c.refuse.ensures.puts
 
-pub returns-in-Done-clause-puts : goal.returns-in-Done-clause-puts
-returns-in-Done-clause-puts c =
+pub returns-in-Ok-clause-puts : goal.returns-in-Ok-clause-puts
+returns-in-Ok-clause-puts c =
     let a = c.args in
     let p = polygons a.layers.now a.components.now a.sheets.now in
     let v = c.network-net.new in
     let k = c.network-net.auto in
-    let d = c.in-Done in
+    let d = c.in-Ok in
     let e = net-text a.t a.table.now a.order.now p d.c (rows v.nodes v.ends v.conductances v.corners v.cells v.work)
     d.ensures.result_value d.ensures.work_after (k.nodes ∙ length-replicate {A = ℤ} (16 * leafRoom) (pos 0))
     (k.ends ∙ length-replicate {A = ℕ} (16 * leafRoom) 0)

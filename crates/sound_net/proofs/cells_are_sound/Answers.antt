@@ -5,30 +5,23 @@ use Rattle.sound_net.proofs.Tests.{all_none, all_more, so_far, fails}
 use Rattle.sound_net.proofs.Marks.{or-none, zero_word, word-zero, join-below}
 use Rattle.sound_net.proofs.Cells.{southwest, spreadAt, linedAt, cells-both, not-spread}
 use Rattle.sound_net.proofs.cells_are_sound.Goals as goal
+use Rattle.sound_net.proofs.cells_are_sound.Goals.{then-not-are_known-via-then-not-are_known}
+use Rattle.sound_net.proofs.cells_are_sound.Goals.{then-not-are_known-via-else-not-are_known+then-not-is_southwest}
 
 pub loop-c-init : goal.loop-c-init
-loop-c-init c = (omega arith, zero_word 0 (omega arith) ∙ all_none _, sym (all_none _))
+loop-c-init c = record {
+  lined = zero_word 0 (omega arith) ∙ all_none _;
+  spread = sym (all_none _);
+}
 
 pub returns-then-not-are_known : goal.returns-then-not-are_known
 returns-then-not-are_known c =
-    let nodes = c.args.nodes.now in
-    let corners = c.args.corners.now in
-    let e : spreadAt nodes corners c.loop-c.c ≡ false =
-    ap (λ (b : Bool). b && southwest nodes (swAt corners c.loop-c.c) (neAt corners c.loop-c.c))
-    (sym c.are_known.ensures ∙ c.if-not-are_known.true) in
-    sym (fails (soundCell nodes corners) c.args.cells c.loop-c.c c.loop-c-test.true
-    (not-spread nodes corners c.loop-c.c e))
-
-pub returns-then-not-is_southwest : goal.returns-then-not-is_southwest
-returns-then-not-is_southwest c =
-    let nodes = c.args.nodes.now in
-    let corners = c.args.corners.now in
-    let e : spreadAt nodes corners c.loop-c.c ≡ false =
-    ap (λ (b : Bool). b && southwest nodes (swAt corners c.loop-c.c) (neAt corners c.loop-c.c))
-    (sym c.are_known.ensures ∙ c.if-not-are_known.false)
-    ∙ sym c.is_southwest.ensures ∙ c.if-not-is_southwest.true in
-    sym (fails (soundCell nodes corners) c.args.cells c.loop-c.c c.loop-c-test.true
-    (not-spread nodes corners c.loop-c.c e))
+    let e : spreadAt c.args.nodes.now c.args.corners.now c.loop-c.c ≡ false =
+    elim c.then-not-are_known.branch [
+      | then-not-are_known-via-then-not-are_known w ↦ search rules
+      | then-not-are_known-via-else-not-are_known+then-not-is_southwest w ↦ search rules
+    ] in
+    sym (fails _ _ c.loop-c.c c.loop-c-test.true (not-spread _ _ _ e))
 
 pub loop-c-preserved : goal.loop-c-preserved
 loop-c-preserved c =
@@ -41,14 +34,14 @@ loop-c-preserved c =
     let e : spreadAt nodes corners c.loop-c.c ≡ true =
     ap (λ (b : Bool). b && southwest nodes (swAt corners c.loop-c.c) (neAt corners c.loop-c.c))
     (sym c.are_known.ensures ∙ c.if-not-are_known.false)
-    ∙ sym c.is_southwest.ensures ∙ c.if-not-is_southwest.false in (
-      omega arith,
-      zero_word _ (join-below w h f)
+    ∙ sym c.is_southwest.ensures ∙ c.if-not-is_southwest.false in record {
+      lined =
+          zero_word _ (join-below w h f)
           ∙ or-none w r
-          ∙ ap₂ ◌&&◌ (sym (zero_word w h) ∙ c.loop-c.invariant.1) (word-zero f ∙ c.misfit-astray.ensures)
-          ∙ sym (all_more (linedAt nodes corners) c.loop-c.c),
-      so_far (spreadAt nodes corners) c.loop-c.c c.loop-c.invariant.2 e,
-    )
+          ∙ ap₂ ◌&&◌ (sym (zero_word w h) ∙ c.loop-c.invariant.lined) (word-zero f ∙ c.misfit-astray.ensures)
+          ∙ sym (all_more (linedAt nodes corners) c.loop-c.c);
+      spread = so_far (spreadAt nodes corners) c.loop-c.c c.loop-c.invariant.spread e;
+    }
 
 pub returns : goal.returns
 returns c =
@@ -56,7 +49,7 @@ returns c =
     let corners = c.args.corners.now in
     let k : c.loop-c.c ≡ c.args.cells = omega arith in
     sym (zero_word c.loop-c.astray-bits c.loop-c.auto.astray-fits.fits)
-    ∙ c.loop-c.invariant.1
-    ∙ ap (λ (b : Bool). b && all_below (linedAt nodes corners) c.loop-c.c) (sym c.loop-c.invariant.2)
+    ∙ c.loop-c.invariant.lined
+    ∙ ap (λ (b : Bool). b && all_below (linedAt nodes corners) c.loop-c.c) (sym c.loop-c.invariant.spread)
     ∙ sym (cells-both nodes corners c.loop-c.c)
     ∙ ap (all_below (soundCell nodes corners)) k

@@ -4,20 +4,20 @@ use Rattle.sound_net.specs.Nets.{all_below, nodeCount, soundNode}
 use Rattle.sound_net.proofs.Tests.{all_more, all-fewer}
 use Rattle.sound_net.proofs.nodes_are_sound.Goals as goal
 
-pub returns-then-not-pairs_are_sound : goal.returns-then-not-pairs_are_sound
-returns-then-not-pairs_are_sound c =
+pub returns-else-pairs_are_sound : goal.returns-else-pairs_are_sound
+returns-else-pairs_are_sound c =
     let nodes = c.args.nodes.now in
     let n = nodeCount nodes in
     let e : all_below (soundNode nodes) (n / 2 * 2) ≡ false =
-    sym c.pairs_are_sound.ensures ∙ c.if-not-pairs_are_sound.true in
-    sym (all-fewer (soundNode nodes) (n / 2 * 2) n (omega arith) e)
+    sym c.pairs_are_sound.ensures ∙ c.if-pairs_are_sound.false in
+    c.if-pairs_are_sound.false ∙ sym (all-fewer (soundNode nodes) (n / 2 * 2) n (omega arith) e)
 
-pub returns : goal.returns
-returns c =
+pub returns-else-count-eq0 : goal.returns-else-count-eq0
+returns-else-count-eq0 c =
     let nodes = c.args.nodes.now in
     let n = nodeCount nodes in
     let e : all_below (soundNode nodes) (n / 2 * 2) ≡ true =
-    sym c.pairs_are_sound.ensures ∙ c.if-not-pairs_are_sound.false in
+    sym c.pairs_are_sound.ensures ∙ c.if-pairs_are_sound.true in
     let h = c.if-count-eq0.false in
     let k : n / 2 * 2 ≡ n - 1 = omega (arith, h) in
     let m : n - 1 + 1 ≡ n = omega (arith, h) in

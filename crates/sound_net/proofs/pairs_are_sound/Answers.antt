@@ -7,7 +7,10 @@ use Rattle.sound_net.proofs.Marks.{named, placed, nodes-both, not-placed, name-m
 use Rattle.sound_net.proofs.pairs_are_sound.Goals as goal
 
 pub loop-p-init : goal.loop-p-init
-loop-p-init c = (omega arith, both-in 0 0 (omega arith) (omega arith) ∙ all_none _, sym (all_none _))
+loop-p-init c = record {
+  named = both-in 0 0 (omega arith) (omega arith) ∙ all_none _;
+  placed = sym (all_none _);
+}
 
 pub returns-then-not-is_placed : goal.returns-then-not-is_placed
 returns-then-not-is_placed c =
@@ -35,23 +38,24 @@ loop-p-preserved c =
     let k : (c.loop-p.p + 1) * 2 ≡ n + 1 + 1 = omega arith in
     let v₂ = bit_or v (of_z w64 (layerAt nodes n)) in
     let w₂ = bit_or w (of_z w64 (componentAt nodes n)) in
-    let one = name-more nodes n v w first first₂ (sym (both-in v w h i) ∙ c.loop-p.invariant.1) in
+    let one = name-more nodes n v w first first₂ (sym (both-in v w h i) ∙ c.loop-p.invariant.named) in
     let two = name-more nodes (n + 1) v₂ w₂ second second₂ one in
-    let at = so_far (placed nodes) n c.loop-p.invariant.2 (sym c.is_placed.ensures ∙ c.if-not-is_placed.false) in
-    let next = so_far (placed nodes) (n + 1) at (sym c.is_placed-in-loop-p.ensures ∙ c.if-not-is_placed-2.false) in (
-      omega arith,
-      both-in _ _ (join-below v₂ (join-below v h first) second) (join-below w₂ (join-below w i first₂) second₂)
+    let at = so_far (placed nodes) n c.loop-p.invariant.placed (sym c.is_placed.ensures ∙ c.if-not-is_placed.false) in
+    let next = so_far (placed nodes) (n + 1) at (sym c.is_placed-in-loop-p.ensures ∙ c.if-not-is_placed-2.false) in
+    record {
+      named =
+          both-in _ _ (join-below v₂ (join-below v h first) second) (join-below w₂ (join-below w i first₂) second₂)
           ∙ two
-          ∙ ap (all_below (named nodes)) (sym k),
-      ap (all_below (placed nodes)) k ∙ next,
-    )
+          ∙ ap (all_below (named nodes)) (sym k);
+      placed = ap (all_below (placed nodes)) k ∙ next;
+    }
 
 pub returns : goal.returns
 returns c =
     let nodes = c.args.nodes.now in
     let k : c.loop-p.p ≡ c.args.pairs = omega arith in
-    c.loop-p.invariant.1
+    c.loop-p.invariant.named
     ∙ sym (and-true _)
-    ∙ ap (λ (b : Bool). all_below (named nodes) (c.loop-p.p * 2) && b) (sym c.loop-p.invariant.2)
+    ∙ ap (λ (b : Bool). all_below (named nodes) (c.loop-p.p * 2) && b) (sym c.loop-p.invariant.placed)
     ∙ sym (nodes-both nodes (c.loop-p.p * 2))
     ∙ ap (λ (i : ℕ). all_below (soundNode nodes) (i * 2)) k

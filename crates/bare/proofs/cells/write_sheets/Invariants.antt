@@ -1,5 +1,4 @@
 use mathlib.Core.Path.{◌≡◌}
-use Prim.Native.Nat.{◌-◌, ◌≤◌}
 use lib.Ieee.{nan}
 use lib.ListN.{get_or}
 use Rattle.rows.specs.Parts.{put, tab}
@@ -7,9 +6,4 @@ use Rattle.bare.specs.Slots.{polysIn}
 use Rattle.bare.proofs.cells.write_sheets.Given as goal
 
 abbrev pub invariant-loop-v : goal.invariant-loop-v
-invariant-loop-v l =
-    (l.v ≤ l.l)
-    × (l.sheet ≡ put l.fn.sheet 0 (tab (λ k. get_or l.sheets (get_or (polysIn l.rows l.l) k 0) nan) l.v))
-
-abbrev pub decreases-loop-v : goal.decreases-loop-v
-decreases-loop-v l = l.l - l.v
+invariant-loop-v l = l.sheet ≡ put l.fn.sheet 0 (tab (λ k. get_or l.sheets (get_or (polysIn l.rows l.l) k 0) nan) l.v)

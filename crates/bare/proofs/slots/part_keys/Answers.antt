@@ -1,49 +1,33 @@
-use mathlib.Core.Path.{◌≡◌, ap, ◌∙◌}
+use mathlib.Core.Path.{◌≡◌}
 use mathlib.Core.List.{List}
-use Prim.Native.Nat.{ℕ, ◌*◌, ◌≤◌}
+use Prim.Native.Nat.{ℕ, ◌+◌, ◌*◌, ◌≤◌}
 use native.Mathlib.Omega.{arith}
-use lib.ListN.{length, take}
-use Rattle.rows.specs.Parts.{put, tab}
-use Rattle.rows.proofs.Parts.{take_put}
-use Rattle.rows.proofs.Fill.{length-tab, fill_begins, fill-turn, fill-ends}
+use Rattle.rows.specs.Parts.{tab}
+use Rattle.rows.proofs.Fill.{fill_begins, front-turn, fill-ends}
 use Rattle.bare.specs.Slots.{slotKey, polysIn, numsIn, midsIn}
+use Rattle.bare.proofs.Parted.{back-filled}
 use Rattle.bare.proofs.slots.part_keys.Goals as goal
 
--- the rows in front stay
-front-is :
-    (w₀ w : List ℕ) (l j : ℕ) (f : ℕ → ℕ)
-    → 50 * l ≤ length w₀ → j ≤ 8 * l → w ≡ put w₀ (26 * l) (tab f j) → take (26 * l) w ≡ take (26 * l) w₀
-front-is w₀ w l j f r h e =
-    ap (take (26 * l)) e ∙ take_put w₀ (26 * l) (tab f j) (omega (arith, length-tab f j)) (26 * l) (omega arith)
+room : (n l k : ℕ) → 50 * l ≤ n → k + 26 * l ≡ n → 0 + 8 * l ≤ k
+room n l k h e = omega arith
 
 pub loop-j-init : goal.loop-j-init
 loop-j-init c =
-    let r = c.requires.l_in_bounds in
-    (omega arith, fill_begins 0 _ _ (8 * c.args.l) _ (omega arith))
-
-pub slot_key-k-requires-clause-slotted : goal.slot_key-k-requires-clause-slotted
-slot_key-k-requires-clause-slotted c =
-    let r = c.requires in
-    let i = c.loop-j.invariant in
-    rw (front-is _ _ _ _ _ r.l_in_bounds i.0 i.1) r.slotted
+    let r = room _ _ _ c.requires.l_in_bounds c.split_at_mut-rows.ensures.back_len in
+    fill_begins 0 _ 0 (8 * c.args.l) _ r
 
 pub loop-j-preserved : goal.loop-j-preserved
 loop-j-preserved c =
-    let a = c.args in
-    let r = c.requires.l_in_bounds in
-    let i = c.loop-j.invariant in
     let t = c.loop-j-test.true in
-    let p = take (26 * a.l) a.work.now in
-    let f = slotKey (polysIn p a.l) (numsIn p a.l) (midsIn p a.l) a.l in
-    let k = λ (z : List ℕ). slotKey (polysIn z a.l) (numsIn z a.l) (midsIn z a.l) a.l c.loop-j.j in
-    let e = c.slot_key-k.ensures ∙ ap k (front-is _ _ _ _ _ r i.0 i.1) in
-    (omega arith, fill-turn 0 _ _ (8 * a.l) f (omega arith) _ _ i.1 t _ e)
+    let n = c.split_at_mut-rows.ensures.back_len in
+    let h = c.requires.l_in_bounds in
+    front-turn 0 _ (8 * c.args.l) _ (omega arith) _ _ c.loop-j.invariant t _ c.slot_key.ensures
 
 pub returns : goal.returns
 returns c =
-    let a = c.args in
-    let r = c.requires.l_in_bounds in
-    let i = c.loop-j.invariant in
-    let p = take (26 * a.l) a.work.now in
-    let f = slotKey (polysIn p a.l) (numsIn p a.l) (midsIn p a.l) a.l in
-    fill-ends 0 _ _ (8 * a.l) f (omega arith) _ _ i.1 i.0 c.loop-j-test.false
+    let l = c.args.l in
+    let s = c.split_at_mut-rows.ensures in
+    let r = room _ _ _ c.requires.l_in_bounds s.back_len in
+    let e = fill-ends 0 _ 0 (8 * l) _ r _ _ c.loop-j.invariant c.loop-j.auto.j-end c.loop-j-test.false in
+    let keys : List ℕ → List ℕ = λ z. tab (slotKey (polysIn z l) (numsIn z l) (midsIn z l) l) (8 * l) in
+    back-filled _ _ _ _ _ keys s.front s.back e

@@ -1,8 +1,7 @@
 use Prim.Native.Nat.{ℕ, ◌+◌, ◌<◌, ◌≤◌}
-use mathlib.Core.Path.{refl, ◌∙◌}
 use mathlib.Core.List.{List}
 use native.Mathlib.Omega.{arith}
-use lib.ListN.{length, length-set}
+use lib.ListN.{length}
 use Rattle.record.specs.Board.{entry}
 use Rattle.board.specs.Rows.{entryRow}
 use Rattle.board.proofs.Copies.{turn, stored, done, start, entry-made}
@@ -17,47 +16,29 @@ room s from n row₀ i at row h l =
     (entry-made s t.seen at t.read).0
 
 pub loop-i-init : goal.loop-i-init
-loop-i-init c =
-    let a = c.args in
-    (omega arith, refl, start (entry a.s.now) above entryRow a.n 0 0 a.start a.row.now c.requires.sound)
+loop-i-init c = let a = c.args in start (entry a.s.now) above entryRow a.n 0 0 a.start a.row.now c.requires.sound
 
-pub number-requires-clause-width_in_bounds : goal.number-requires-clause-width_in_bounds
-number-requires-clause-width_in_bounds c =
+pub entry_at-requires : goal.entry_at-requires
+entry_at-requires c =
     let a = c.args in
     let l = c.loop-i in
-    omega (arith, room a.s.now a.start a.n a.row.now l.i l.at l.row c.loop-i-test.true l.invariant.2)
+    room a.s.now a.start a.n a.row.now l.i l.at l.row c.loop-i-test.true l.invariant
 
 pub overflow_add-at : goal.overflow_add-at
 overflow_add-at c =
     let a = c.args in
     let l = c.loop-i in
-    omega (arith, room a.s.now a.start a.n a.row.now l.i l.at l.row c.loop-i-test.true l.invariant.2)
-
-pub number-requires-in-loop-i-clause-width_in_bounds : goal.number-requires-in-loop-i-clause-width_in_bounds
-number-requires-in-loop-i-clause-width_in_bounds c =
-    let a = c.args in
-    let l = c.loop-i in
-    omega (arith, room a.s.now a.start a.n a.row.now l.i l.at l.row c.loop-i-test.true l.invariant.2)
-
-pub overflow_add-at-in-loop-i : goal.overflow_add-at-in-loop-i
-overflow_add-at-in-loop-i c =
-    let a = c.args in
-    let l = c.loop-i in
-    omega (arith, room a.s.now a.start a.n a.row.now l.i l.at l.row c.loop-i-test.true l.invariant.2)
+    omega (arith, room a.s.now a.start a.n a.row.now l.i l.at l.row c.loop-i-test.true l.invariant)
 
 pub loop-i-preserved : goal.loop-i-preserved
 loop-i-preserved c =
     let a = c.args in
     let l = c.loop-i in
-    let t = turn (entry a.s.now) above entryRow a.n _ _ l.i l.i l.at l.row c.loop-i-test.true l.invariant.2 in
-    let m = entry-made a.s.now t.seen l.at t.read in (
-      omega arith,
-      length-set l.row l.i _ ∙ l.invariant.1,
-      stored (entry a.s.now) above entryRow a.n _ _ l.i l.i l.at (l.at + 10) l.row _ t m.1
-          (rw (c.number.ensures, c.number-in-loop-i.ensures) m.2),
-    )
+    let t = turn (entry a.s.now) above entryRow a.n _ _ l.i l.i l.at l.row c.loop-i-test.true l.invariant in
+    let m = entry-made a.s.now t.seen l.at t.read in
+    stored (entry a.s.now) above entryRow a.n _ _ l.i l.i l.at (l.at + 10) l.row _ t m.1 (rw c.entry_at.ensures m.2)
 
 pub returns : goal.returns
 returns c =
     let l = c.loop-i in
-    done (entry c.args.s.now) above entryRow c.args.n _ _ l.i l.i l.at l.row c.loop-i-test.false l.invariant.2
+    done (entry c.args.s.now) above entryRow c.args.n _ _ l.i l.i l.at l.row c.loop-i-test.false l.invariant

@@ -1,10 +1,8 @@
 -- What is left to store makes each row what it is to be.
-use Prim.Native.Nat.{ℕ, ◌≤◌, ◌-◌}
-use mathlib.Core.Path.{◌≡◌}
+use Prim.Native.Nat.{ℕ}
 use mathlib.Core.List.{List, map}
 use lib.IntN.{ℤ}
 use lib.Ieee.{Float}
-use lib.ListN.{length}
 use lib.Seq.{sets}
 use Rattle.record.specs.Board.{shapes}
 use Rattle.board.specs.Rows.{polygonRow, sheetOf, pointRow, rings}
@@ -21,9 +19,4 @@ ToStore s from n polygons₀ sheets₀ points₀ i at first polygons sheets poin
 
 abbrev pub invariant-loop-i : goal.invariant-loop-i
 invariant-loop-i l =
-    (l.i ≤ l.n) × (length l.polygons ≡ length l.fn.polygons) × (length l.sheets ≡ length l.fn.sheets)
-    × (length l.points ≡ length l.fn.points)
-    × ToStore l.s l.start l.n l.fn.polygons l.fn.sheets l.fn.points l.i l.at l.first l.polygons l.sheets l.points
-
-abbrev pub decreases-loop-i : goal.decreases-loop-i
-decreases-loop-i l = l.n - l.i
+    ToStore l.s l.start l.n l.fn.polygons l.fn.sheets l.fn.points l.i l.at l.first l.polygons l.sheets l.points

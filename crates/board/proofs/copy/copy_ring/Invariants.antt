@@ -1,9 +1,7 @@
 -- What is left to store makes the row what it is to be.
-use Prim.Native.Nat.{ℕ, ◌≤◌, ◌+◌, ◌-◌}
-use mathlib.Core.Path.{◌≡◌}
+use Prim.Native.Nat.{ℕ, ◌+◌}
 use mathlib.Core.List.{List, map}
 use lib.IntN.{ℤ}
-use lib.ListN.{length}
 use lib.Seq.{sets}
 use Rattle.record.specs.Fields.{Out}
 use Rattle.record.specs.Board.{Point, point, ring}
@@ -22,8 +20,4 @@ ToStore s from n first row₀ i j at row =
 
 abbrev pub invariant-loop-i : goal.invariant-loop-i
 invariant-loop-i l =
-    (l.i ≤ l.n) × (length l.row ≡ length l.fn.row)
-    × ToStore l.s l.start l.n l.first l.fn.row l.i (l.first + l.i) l.at l.row
-
-abbrev pub decreases-loop-i : goal.decreases-loop-i
-decreases-loop-i l = l.n - l.i
+    ToStore l.s l.start l.n l.first l.fn.row l.i (l.first + l.i) l.at l.row

@@ -2,7 +2,7 @@ use Prim.Native.Nat.{ℕ, ◌+◌, ◌<◌, ◌≤◌}
 use mathlib.Core.Path.{ap, ◌∙◌}
 use mathlib.Core.List.{List, map-id}
 use native.Mathlib.Omega.{arith}
-use lib.ListN.{length, length-set}
+use lib.ListN.{length}
 use lib.Seq.{sets}
 use Rattle.record.specs.Board.{ids}
 use Rattle.record.proofs.Walks.{field-value}
@@ -20,28 +20,25 @@ pub number-requires-clause-width_in_bounds : goal.number-requires-clause-width_i
 number-requires-clause-width_in_bounds c =
     let a = c.args in
     let l = c.loop-i in
-    room a.s.now a.start a.n a.row.now l.i l.at l.row c.loop-i-test.true l.invariant.2
+    room a.s.now a.start a.n a.row.now l.i l.at l.row c.loop-i-test.true l.invariant
 
 pub overflow_add-at : goal.overflow_add-at
 overflow_add-at c =
     let a = c.args in
     let l = c.loop-i in
-    omega (arith, room a.s.now a.start a.n a.row.now l.i l.at l.row c.loop-i-test.true l.invariant.2)
+    omega (arith, room a.s.now a.start a.n a.row.now l.i l.at l.row c.loop-i-test.true l.invariant)
 
 pub loop-i-preserved : goal.loop-i-preserved
 loop-i-preserved c =
     let a = c.args in
     let l = c.loop-i in
-    let t = turn (each a.s.now) (λ _. tt) itself a.n _ _ l.i l.i l.at l.row c.loop-i-test.true l.invariant.2 in
-    let m = field-value 4 a.s.now l.at t.read in (
-      omega arith,
-      length-set l.row l.i _ ∙ l.invariant.1,
-      stored (each a.s.now) (λ _. tt) itself a.n _ _ l.i l.i l.at (l.at + 4) l.row _ t m.end (rw c.number.ensures m.is),
-    )
+    let t = turn (each a.s.now) (λ _. tt) itself a.n _ _ l.i l.i l.at l.row c.loop-i-test.true l.invariant in
+    let m = field-value 4 a.s.now l.at t.read in
+    stored (each a.s.now) (λ _. tt) itself a.n _ _ l.i l.i l.at (l.at + 4) l.row _ t m.end (rw c.number.ensures m.is)
 
 pub returns : goal.returns
 returns c =
     let a = c.args in
     let l = c.loop-i in
-    let d = done (each a.s.now) (λ _. tt) itself a.n _ _ l.i l.i l.at l.row c.loop-i-test.false l.invariant.2 in
+    let d = done (each a.s.now) (λ _. tt) itself a.n _ _ l.i l.i l.at l.row c.loop-i-test.false l.invariant in
     (d.0, d.1 ∙ ap (sets a.row.now 0) (map-id (items_of (ids a.s.now a.n a.start))))

@@ -1,12 +1,12 @@
 use Rattle.std.proofs.Common.{◌-◌, ◌≡◌, length, arith, refl, sym, ap, ◌∙◌}
 use Rattle.strips.specs.Rings.{ringInRange, ringSlants}
-use Rattle.build.proofs.Judging.{sum-none, sum_more, ring-ends, ring-part, judge-sheet, judge-range, judge-slant, judge-on, judge-end}
+use Rattle.build.proofs.Judging.{sum_none, sum_more, ring-part, judge-sheet, judge-range, judge-slant, judge-on, judge-end}
 use Rattle.build.proofs.judge.judge.Goals as goal
 
 pub loop-p-init : goal.loop-p-init
 loop-p-init c =
     let e : length c.args.counts.now - 0 ≡ length c.args.counts.now = omega arith in
-    record { in_row = omega arith; start = sym (sum-none c.args.counts.now); on = λ o. rw e refl }
+    record { start = sym (sum_none c.args.counts.now); on = λ o. rw e refl }
 
 pub returns-then-not-sheet_in_range : goal.returns-then-not-sheet_in_range
 returns-then-not-sheet_in_range c = λ o.
@@ -15,18 +15,6 @@ returns-then-not-sheet_in_range c = λ o.
     let e = sym c.if-not-sheet_in_range.ensures in
     sym (judge-sheet a.sheets.now a.counts.now a.points.now s.p (length a.counts.now) c.loop-p-test.true o e)
     ∙ s.invariant.on o
-
-pub overflow_add-end : goal.overflow_add-end
-overflow_add-end c =
-    omega (arith, ring-ends c.args.counts.now c.args.points.now c.loop-p.p c.loop-p-test.true c.requires.1)
-
-pub offset_bounds-points-at : goal.offset_bounds-points-at
-offset_bounds-points-at c =
-    omega (arith, ring-ends c.args.counts.now c.args.points.now c.loop-p.p c.loop-p-test.true c.requires.1)
-
-pub slice_bounds-in_range-end : goal.slice_bounds-in_range-end
-slice_bounds-in_range-end c =
-    omega (arith, ring-ends c.args.counts.now c.args.points.now c.loop-p.p c.loop-p-test.true c.requires.1)
 
 pub returns-then-not-in_range : goal.returns-then-not-in_range
 returns-then-not-in_range c = λ o.
@@ -37,14 +25,6 @@ returns-then-not-in_range c = λ o.
     let f = ap ringInRange (sym r) ∙ sym c.if-not-in_range.ensures in
     sym (judge-range a.sheets.now a.counts.now a.points.now s.p (length a.counts.now) c.loop-p-test.true o e f)
     ∙ s.invariant.on o
-
-pub offset_bounds-points-at-in-loop-p : goal.offset_bounds-points-at-in-loop-p
-offset_bounds-points-at-in-loop-p c =
-    omega (arith, ring-ends c.args.counts.now c.args.points.now c.loop-p.p c.loop-p-test.true c.requires.1)
-
-pub slice_bounds-slanted-end : goal.slice_bounds-slanted-end
-slice_bounds-slanted-end c =
-    omega (arith, ring-ends c.args.counts.now c.args.points.now c.loop-p.p c.loop-p-test.true c.requires.1)
 
 pub returns-then-slanted : goal.returns-then-slanted
 returns-then-slanted c = λ o.
@@ -67,7 +47,6 @@ loop-p-preserved c =
     let f = ap ringInRange (sym r) ∙ sym c.if-not-in_range.ensures in
     let g = ap ringSlants (sym r) ∙ sym c.if-slanted.ensures in
     record {
-      in_row = omega arith;
       start = omega (arith, sum_more a.counts.now s.p);
       on = λ o. sym (judge-on a.sheets.now a.counts.now a.points.now s.p n c.loop-p-test.true o e f g)
           ∙ s.invariant.on o;

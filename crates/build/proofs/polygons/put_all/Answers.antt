@@ -1,7 +1,7 @@
-use Rattle.std.proofs.Common.{◌+◌, ◌≡◌, length, arith, refl, sym, ◌∙◌}
+use Rattle.std.proofs.Common.{◌+◌, length, arith, refl, sym}
 use Rattle.build.specs.Board.{board}
 use Rattle.build.proofs.Boards.{sizes, no-roots, length-roots-more, roots-mono, polygon-placed}
-use Rattle.build.proofs.Judging.{sum-none, sum_more, ring-ends, ring-part}
+use Rattle.build.proofs.Judging.{sum_none, sum_more, ring-part}
 use Rattle.build.proofs.Placing.{placed-none, room-down}
 use Rattle.build.proofs.polygons.put_all.Goals as goal
 
@@ -10,23 +10,10 @@ loop-p-init c =
     let a = c.args in
     let e = no-roots (board a.s a.list.now a.layers.now a.counts.now a.points.now) in
     record {
-      in_row = omega arith;
-      start = sym (sum-none a.counts.now);
+      start = sym (sum_none a.counts.now);
       next = rw e refl;
       put = rw e (sym (placed-none a.t.now 0));
     }
-
-pub overflow_add-end : goal.overflow_add-end
-overflow_add-end c =
-    omega (arith, ring-ends c.args.counts.now c.args.points.now c.loop-p.p c.loop-p-test.true c.requires.0.sums)
-
-pub offset_bounds-points-at : goal.offset_bounds-points-at
-offset_bounds-points-at c =
-    omega (arith, ring-ends c.args.counts.now c.args.points.now c.loop-p.p c.loop-p-test.true c.requires.0.sums)
-
-pub slice_bounds-put_ring-end : goal.slice_bounds-put_ring-end
-slice_bounds-put_ring-end c =
-    omega (arith, ring-ends c.args.counts.now c.args.points.now c.loop-p.p c.loop-p-test.true c.requires.0.sums)
 
 pub put_ring-k-requires : goal.put_ring-k-requires
 put_ring-k-requires c =
@@ -64,14 +51,8 @@ loop-p-preserved c =
     let k = rw (ring, c.size_of-c.ensures) at c.put_ring-k.ensures in
     let fits = roots-mono b (s.p + 1) (length a.counts.now) (omega arith) in
     record {
-      in_row = omega arith;
       start = omega (arith, s.invariant.start, sum_more a.counts.now s.p);
       next = omega (arith, k.0, s.invariant.next, length-roots-more b s.p);
       put = polygon-placed b a.t.now s.t c.put_ring-k.new.t s.k s.p s.invariant.next s.invariant.put k.1
           (room-down _ _ _ _ (omega (arith, fits)) c.requires.1.1.room refl);
     }
-
-pub returns : goal.returns
-returns c =
-    let e : c.loop-p.p ≡ length c.args.counts.now = omega arith in
-    (c.loop-p.invariant.next ∙ rw e refl, c.loop-p.invariant.put ∙ rw e refl)

@@ -1,5 +1,5 @@
 -- The roots of the polygons passed stand in the table.
-use Rattle.std.proofs.Common.{length, ◌-◌, ◌≤◌, ◌≡◌}
+use Rattle.std.proofs.Common.{length, ◌≡◌}
 use Rattle.build.specs.Board.{board, sum_to, rootsTo}
 use Rattle.build.specs.Steps.{placed}
 use Rattle.build.proofs.polygons.put_all.Given as goal
@@ -8,11 +8,7 @@ abbrev pub invariant-loop-p : goal.invariant-loop-p
 invariant-loop-p l =
     let roots = rootsTo (board l.s l.list l.layers l.counts l.points) l.p in
     record {
-      in_row : l.p ≤ length l.counts;
       start : l.at ≡ sum_to l.counts l.p;
       next : l.k ≡ length roots;
       put : l.t ≡ placed l.initial.t 0 roots;
     }
-
-abbrev pub decreases-loop-p : goal.decreases-loop-p
-decreases-loop-p l = length l.counts - l.p

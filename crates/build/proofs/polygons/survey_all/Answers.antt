@@ -1,7 +1,7 @@
 use Rattle.std.proofs.Common.{◌-◌, ◌≡◌, length, arith, refl, sym, ◌∙◌, pow_pos}
 use Rattle.build.specs.Board.{board}
 use Rattle.build.proofs.Boards.{unit-fits, sizes, no-roots, even-on, even-stop, even-end, count-more}
-use Rattle.build.proofs.Judging.{sum-none, sum_more, ring-ends, ring-part}
+use Rattle.build.proofs.Judging.{sum_none, sum_more, ring-part}
 use Rattle.build.proofs.polygons.survey_all.Goals as goal
 
 pub loop-p-init : goal.loop-p-init
@@ -9,27 +9,14 @@ loop-p-init c =
     let a = c.args in
     let e : length a.counts.now - 0 ≡ length a.counts.now = omega arith in
     record {
-      in_row = omega arith;
-      start = sym (sum-none a.counts.now);
+      start = sym (sum_none a.counts.now);
       even = λ o. rw e refl;
       counted = rw (no-roots (board a.s a.list.now a.layers.now a.counts.now a.points.now)) refl;
       in_range = omega arith;
     }
 
-pub overflow_add-end : goal.overflow_add-end
-overflow_add-end c =
-    omega (arith, ring-ends c.args.counts.now c.args.points.now c.loop-p.p c.loop-p-test.true c.requires.0.sums)
-
-pub offset_bounds-points-at : goal.offset_bounds-points-at
-offset_bounds-points-at c =
-    omega (arith, ring-ends c.args.counts.now c.args.points.now c.loop-p.p c.loop-p-test.true c.requires.0.sums)
-
-pub slice_bounds-tally_ring-end : goal.slice_bounds-tally_ring-end
-slice_bounds-tally_ring-end c =
-    omega (arith, ring-ends c.args.counts.now c.args.points.now c.loop-p.p c.loop-p-test.true c.requires.0.sums)
-
-pub tally_ring-t-requires : goal.tally_ring-t-requires
-tally_ring-t-requires c =
+pub tally_ring-requires : goal.tally_ring-requires
+tally_ring-requires c =
     let a = c.args in
     let s = c.loop-p in
     let z = c.requires in
@@ -67,9 +54,8 @@ loop-p-preserved c =
     let s = c.loop-p in
     let b = board a.s a.list.now a.layers.now a.counts.now a.points.now in
     let ring = ring-part a.counts.now a.points.now s.p _ _ s.invariant.start refl in
-    let k = rw (c.unit_of-unit.ensures, c.size_of-c.ensures, ring) at c.in-Even.ensures in
+    let k = rw (c.unit_of-unit.ensures, c.size_of-c.ensures, ring) at c.in-Some.ensures in
     record {
-      in_row = omega arith;
       start = omega (arith, s.invariant.start, sum_more a.counts.now s.p);
       even = λ o. sym (even-on b s.p _ c.loop-p-test.true o k.0) ∙ s.invariant.even o;
       counted = count-more b _ s.sum _ s.p s.invariant.counted k.1.0;

@@ -11,12 +11,8 @@ abbrev pub invariant-loop-p : goal.invariant-loop-p
 invariant-loop-p l =
     let b = board l.s l.list l.layers l.counts l.points in
     record {
-      in_row : l.p ≤ length l.counts;
       start : l.at ≡ sum_to l.counts l.p;
       even : (o : Said) → evenFrom b l.p (length l.counts - l.p) o ≡ evenFrom b 0 (length l.counts) o;
       counted : SameTo l.slots l.sum (length (rootsTo b l.p));
       in_range : l.sum ≤ maxSlots + maxCap * maxCap;
     }
-
-abbrev pub decreases-loop-p : goal.decreases-loop-p
-decreases-loop-p l = length l.counts - l.p

@@ -1,4 +1,4 @@
-use Rattle.std.proofs.Common.{ℕ, List, ℤ, length, ◌+◌, ◌<◌, ◌≤◌, ◌≡◌, arith, refl, sym, ap, ◌∙◌}
+use Rattle.std.proofs.Common.{ℕ, List, ℤ, length, ◌+◌, ◌<◌, ◌≤◌, ◌≡◌, arith, sym, ap, ◌∙◌}
 use Rattle.strips.specs.declared.walk.Strip.{Strip}
 use Rattle.build.specs.declared.grid.Cut.{Cut}
 use Rattle.build.specs.Grid.{rowOf, rowTo, gridTo}
@@ -15,7 +15,7 @@ pub loop-j-init : goal.loop-j-init
 unfolding gridTo
 loop-j-init c =
     let a = c.args in
-    record { in_grid = omega arith; next = omega arith; put = grid-none a.t.now a.k a.poly a.s a.g }
+    record { next = omega arith; put = grid-none a.t.now a.k a.poly a.s a.g }
 
 pub put_row-requires : goal.put_row-requires
 put_row-requires c =
@@ -42,7 +42,6 @@ loop-j-preserved c =
     let n : length r ≡ a.g.nx = length-row a.poly (rowOf a.s a.g s.j) a.g.nx a.g.nx in
     let f = fits a.poly a.s a.g s.j c.loop-j-test.true in
     record {
-      in_grid = omega (arith, c.loop-j-test.true);
       next = omega (arith, s.invariant.next, length-grid-more a.poly a.s a.g s.j);
       put = c.put_row.ensures
           ∙ ap (λ (q : Strip). placed s.t s.at (rowTo a.poly q a.g.nx a.g.nx)) c.row_of.ensures
@@ -51,8 +50,3 @@ loop-j-preserved c =
           (omega (arith, c.requires.1.1.0.room))
           ∙ ap (placed a.t.now a.k) (sym (grid-more a.poly a.s a.g s.j));
     }
-
-pub returns : goal.returns
-returns c =
-    let e : c.loop-j.j ≡ c.args.g.ny = omega arith in
-    (c.loop-j.invariant.next ∙ rw e refl, c.loop-j.invariant.put ∙ rw e refl)

@@ -1,4 +1,4 @@
-use Rattle.std.proofs.Common.{List, [], ◌∷◌, ℤ, ◌+◌, ◌≡◌, arith, refl, sym, ap, ◌∙◌}
+use Rattle.std.proofs.Common.{List, [], ◌∷◌, ℤ, ◌+◌, arith, sym, ap, ◌∙◌}
 use Rattle.build.specs.Grid.{boxed, cell_of, rowTo}
 use Rattle.build.specs.Steps.{placed}
 use Rattle.build.proofs.Placing.{row-none, row_more, length-row, placed-more}
@@ -7,7 +7,7 @@ use Rattle.build.proofs.put.put_row.Goals as goal
 pub loop-i-init : goal.loop-i-init
 loop-i-init c =
     let a = c.args in
-    record { in_row = omega arith; put = row-none a.t.now a.k a.poly a.r a.n }
+    record { put = row-none a.t.now a.k a.poly a.r a.n }
 
 pub loop-i-preserved : goal.loop-i-preserved
 loop-i-preserved c =
@@ -17,12 +17,8 @@ loop-i-preserved c =
     let n = length-row a.poly a.r a.n s.i in
     let room = c.requires.1.1.0.room in
     record {
-      in_row = omega arith;
       put = c.put_root.ensures
           ∙ ap (λ (l : List ℤ). placed l (a.k + s.i) here) s.invariant.put
           ∙ placed-more a.t.now a.k (a.k + s.i) (rowTo a.poly a.r a.n s.i) here (omega arith) (omega arith)
           ∙ ap (placed a.t.now a.k) (sym (row_more a.poly a.r a.n s.i));
     }
-
-pub returns : goal.returns
-returns c = let e : c.loop-i.i ≡ c.args.n = omega arith in c.loop-i.invariant.put ∙ rw e refl

@@ -1,4 +1,4 @@
-use Rattle.std.proofs.Common.{arith, refl, sym, ap, ◌∙◌, length, drop}
+use Rattle.std.proofs.Common.{arith, refl, sym, ◌∙◌, drop}
 use Rattle.strips.specs.Walk.{left}
 use Rattle.strips.proofs.Bounds.{strips-sound, sound-first, sound-rest}
 use Rattle.strips.proofs.Crossing.{ready-strips}
@@ -14,8 +14,8 @@ loop-s-init c =
     ∙ ready-strips a.points.now a.heights.now a.edges.now c.requires.0 in
     rw (c.start-band.ensures, e) (record { sound = strips-sound a.points.now; counted = refl; put = refl })
 
-pub returns-in_default : goal.returns-in_default
-returns-in_default c =
+pub returns : goal.returns
+returns c =
     let e = c.in_default.ensures in
     let a = c.args in
     let s = c.loop-s in (
@@ -47,9 +47,6 @@ put_grid-at-requires c =
         ),
       ),
     )
-
-pub loop-s-smaller : goal.loop-s-smaller
-loop-s-smaller c = let h = ap length c.in-Found.ensures in omega arith
 
 pub loop-s-preserved : goal.loop-s-preserved
 loop-s-preserved c =

@@ -1,4 +1,4 @@
-use Rattle.std.proofs.Common.{◌*◌, arith, refl, sym, ap, ◌∙◌, length}
+use Rattle.std.proofs.Common.{◌*◌, arith, refl, sym, ◌∙◌}
 use Rattle.strips.proofs.Bounds.{strips-sound, sound-first, sound-rest}
 use Rattle.strips.proofs.Crossing.{ready-strips}
 use Rattle.strips.proofs.Walks.{started}
@@ -16,8 +16,8 @@ loop-s-init c =
     rw (c.start-band.ensures, e)
     (record { sound = strips-sound a.points.now; even = refl; counted = refl; in_range = c.requires.1.1.count })
 
-pub returns-in_default : goal.returns-in_default
-returns-in_default c =
+pub returns : goal.returns
+returns c =
     let e = c.in_default.ensures in
     let a = c.args in
     let s = c.loop-s in (
@@ -48,9 +48,6 @@ more-sum-requires c =
       rw c.cut_of-g.ensures (cuts c.args.cap c.args.c c.in-Found.s z.1.0),
       (z.1.1.slots-fit, c.loop-s.invariant.in_range),
     )
-
-pub loop-s-smaller : goal.loop-s-smaller
-loop-s-smaller c = let h = ap length c.in-Found.ensures in omega arith
 
 pub loop-s-preserved : goal.loop-s-preserved
 loop-s-preserved c =

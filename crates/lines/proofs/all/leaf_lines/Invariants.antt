@@ -1,12 +1,9 @@
 -- The first v lines are put.
-use Prim.Native.Nat.{◌≤◌, ◌+◌, ◌*◌, ◌-◌}
+use Prim.Native.Nat.{◌≤◌, ◌+◌, ◌*◌}
 use Rattle.lines.specs.Text.{Puts, leafMost}
 use Rattle.lines.specs.Lines.{leafLines}
 use Rattle.lines.proofs.all.leaf_lines.Given as goal
 
 abbrev pub invariant-loop-v : goal.invariant-loop-v
 invariant-loop-v l =
-    (l.v ≤ l.n) × (l.end ≤ l.at + leafMost * l.v) × Puts l.at (leafLines l.table l.order l.v) l.fn.out l.end l.out
-
-abbrev pub decreases-loop-v : goal.decreases-loop-v
-decreases-loop-v l = l.n - l.v
+    (l.end ≤ l.at + leafMost * l.v) × Puts l.at (leafLines l.table l.order l.v) l.fn.out l.end l.out

@@ -1,5 +1,6 @@
-use Rattle.std.proofs.Common.{ℕ, List, ◌∷◌, ◌≡◌, ◌+◌, ◌<◌, length, drop, get_or, add-one, drop-cons, drop_of_length-le, refl, sym, ap, arith, ◌∙◌}
-use Rattle.table.specs.Refine.{isAccepted}
+use Rattle.std.proofs.Common.{ℕ, List, ◌∷◌, ◌≡◌, ◌+◌, ◌<◌, length, drop, get_or, add-one, drop-cons, drop_of_length-le, rules, sym, ap, ◌∙◌}
+use Rattle.refusals.specs.Said.{refusal}
+use Rattle.table.specs.Refine.{isAccepted, refinedSaid}
 use Rattle.mesh.specs.Refining.{refineAllSays, refineAllRow}
 use Rattle.mesh.proofs.Refining.{not-accepted, refined-on, all-stop, all-stop-row, all_none, all-none-row}
 use Rattle.mesh.proofs.steps.refine_all.Goals as goal
@@ -8,58 +9,45 @@ use Rattle.mesh.proofs.steps.refine_all.Goals as goal
 next : (ids : List ℕ) (i : ℕ) → i < length ids → drop i ids ≡ get_or ids i 0 ∷ drop (i + 1) ids
 next ids i h = rw (add-one i) (drop-cons ids i 0 h)
 
-pub loop-i-init : goal.loop-i-init
-loop-i-init c = record { in_row = omega arith; says = refl; row = refl }
-
-pub returns-in_default-clause-result_value : goal.returns-in_default-clause-result_value
-returns-in_default-clause-result_value c =
-    let s = c.loop-i in
+pub returns-in_err-latest : goal.returns-in_err-latest
+returns-in_err-latest c =
+    let s = c.loop-id in
+    let x = c.in_err-latest in
     let ids = c.args.splits.now in
-    let r = c.in_default in
-    let e = ap isAccepted (sym r.ensures.result_value) ∙ not-accepted r.field-0 in
-    c.refine-r.ensures.result_value
-    ∙ sym (all-stop s.table s.latest.count s.latest.max_level (get_or ids s.i 0) (drop (s.i + 1) ids) e)
-    ∙ ap (refineAllSays s.table s.latest.count s.latest.max_level) (sym (next ids s.i c.loop-i-test.true))
-    ∙ s.invariant.says
-
-pub returns-in_default-clause-table_after : goal.returns-in_default-clause-table_after
-returns-in_default-clause-table_after c =
-    let s = c.loop-i in
-    let ids = c.args.splits.now in
-    let r = c.in_default in
-    let e = ap isAccepted (sym r.ensures.result_value) ∙ not-accepted r.field-0 in
-    c.refine-r.ensures.t_after
-    ∙ sym (all-stop-row s.table s.latest.count s.latest.max_level (get_or ids s.i 0) (drop (s.i + 1) ids) e)
-    ∙ ap (refineAllRow s.table s.latest.count s.latest.max_level) (sym (next ids s.i c.loop-i-test.true))
-    ∙ s.invariant.row
-
-pub loop-i-preserved : goal.loop-i-preserved
-loop-i-preserved c =
-    let s = c.loop-i in
-    let ids = c.args.splits.now in
-    let r = c.in-Done in
-    let n = r.next in
-    let left = next ids s.i c.loop-i-test.true in
-    let k = refined-on s.table s.latest.count s.latest.max_level (get_or ids s.i 0) (drop (s.i + 1) ids)
-    c.refine-r.new.t n.count n.max_level r.ensures.result_value r.ensures.t_after in
+    let k = s.id-index in
+    let said : refinedSaid c.from_residual.result ≡ refusal x.field-0.0 = search rules in
+    let e = ap isAccepted (sym x.ensures.result_value) ∙ not-accepted x.field-0.0 in
+    let left = next ids k c.loop-id-test.true in
     record {
-      in_row = omega arith;
+      result_value = said ∙ x.ensures.result_value
+          ∙ sym (all-stop s.table s.latest.count s.latest.max_level (get_or ids k 0) (drop (k + 1) ids) e)
+          ∙ ap (refineAllSays s.table s.latest.count s.latest.max_level) (sym left) ∙ s.invariant.says;
+      table_after = x.ensures.t_after
+          ∙ sym (all-stop-row s.table s.latest.count s.latest.max_level (get_or ids k 0) (drop (k + 1) ids) e)
+          ∙ ap (refineAllRow s.table s.latest.count s.latest.max_level) (sym left) ∙ s.invariant.row;
+    }
+
+pub loop-id-preserved : goal.loop-id-preserved
+loop-id-preserved c =
+    let s = c.loop-id in
+    let ids = c.args.splits.now in
+    let r = c.in_ok-latest in
+    let n = r.latest in
+    let left = next ids s.id-index c.loop-id-test.true in
+    let k = refined-on s.table s.latest.count s.latest.max_level (get_or ids s.id-index 0) (drop (s.id-index + 1) ids)
+    c.refine.new.t n.count n.max_level r.ensures.result_value r.ensures.t_after in
+    record {
       says = k.0 ∙ ap (refineAllSays s.table s.latest.count s.latest.max_level) (sym left) ∙ s.invariant.says;
       row = k.1 ∙ ap (refineAllRow s.table s.latest.count s.latest.max_level) (sym left) ∙ s.invariant.row;
     }
 
-pub returns-clause-result_value : goal.returns-clause-result_value
-returns-clause-result_value c =
-    let s = c.loop-i in
-    let e = drop_of_length-le c.args.splits.now {i = s.i} c.loop-i-test.false in
-    sym (all_none s.table s.latest.count s.latest.max_level)
-    ∙ ap (refineAllSays s.table s.latest.count s.latest.max_level) (sym e)
-    ∙ s.invariant.says
-
-pub returns-clause-table_after : goal.returns-clause-table_after
-returns-clause-table_after c =
-    let s = c.loop-i in
-    let e = drop_of_length-le c.args.splits.now {i = s.i} c.loop-i-test.false in
-    sym (all-none-row s.table s.latest.count s.latest.max_level)
-    ∙ ap (refineAllRow s.table s.latest.count s.latest.max_level) (sym e)
-    ∙ s.invariant.row
+pub returns : goal.returns
+returns c =
+    let s = c.loop-id in
+    let e = drop_of_length-le c.args.splits.now {i = s.id-index} c.loop-id-test.false in
+    record {
+      result_value = sym (all_none s.table s.latest.count s.latest.max_level)
+          ∙ ap (refineAllSays s.table s.latest.count s.latest.max_level) (sym e) ∙ s.invariant.says;
+      table_after = sym (all-none-row s.table s.latest.count s.latest.max_level)
+          ∙ ap (refineAllRow s.table s.latest.count s.latest.max_level) (sym e) ∙ s.invariant.row;
+    }

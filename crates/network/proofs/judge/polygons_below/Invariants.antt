@@ -1,12 +1,9 @@
 -- The cells passed name polygons below the count.
-use Rattle.std.proofs.Common.{◌-◌, ◌≡◌, ◌≤◌, true}
+use Rattle.std.proofs.Common.{◌≡◌, true}
 use lib.Dec.{ltb}
 use Rattle.table.specs.Slots.{cell_at}
 use Rattle.table.specs.Formed.{allTo}
 use Rattle.network.proofs.judge.polygons_below.Given as goal
 
 abbrev pub invariant-loop-i : goal.invariant-loop-i
-invariant-loop-i l = (l.i ≤ l.n) × (allTo (λ k. ltb (cell_at l.t k).poly l.count) l.i ≡ true)
-
-abbrev pub decreases-loop-i : goal.decreases-loop-i
-decreases-loop-i l = l.n - l.i
+invariant-loop-i l = allTo (λ k. ltb (cell_at l.t k).poly l.count) l.i ≡ true

@@ -1,14 +1,12 @@
--- The walk over what is left, with the points passed added, comes to what the whole one does.
-use Rattle.std.proofs.Common.{◌-◌, ◌+◌, ◌*◌, ◌≡◌, ◌≤◌, length}
+-- The walk over what is left comes to what the whole one does.
+use Rattle.std.proofs.Common.{◌-◌, ◌+◌, ◌*◌, ◌≡◌, ◌≤◌}
 use Rattle.refusals.specs.Limits.{maxPoints}
 use Rattle.record.specs.Board.{shapes, points_of}
 use Rattle.record.specs.Answers.{went}
 use Rattle.record.proofs.check.check_polygons.Given as goal
 
-abbrev pub invariant-loop-i : goal.invariant-loop-i
-invariant-loop-i l =
-    (l.i ≤ l.n) × (l.at ≤ length l.s) × (l.points ≤ maxPoints * l.i) ×
-    (went (λ ps. l.points + points_of ps) (shapes l.s (l.n - l.i) l.at) ≡ went points_of (shapes l.s l.n l.start))
-
-abbrev pub decreases-loop-i : goal.decreases-loop-i
-decreases-loop-i l = l.n - l.i
+abbrev pub invariant-loop : goal.invariant-loop
+invariant-loop l =
+    (l.r.src ≡ l.fn.r.src) × (l.points ≤ maxPoints * l.counter) ×
+    (went (λ ps. l.points + points_of ps) (shapes l.r.src.now (l.n - l.counter) l.r.at)
+    ≡ went points_of (shapes l.fn.r.src.now l.n l.fn.r.at))

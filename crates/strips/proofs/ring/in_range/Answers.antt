@@ -10,19 +10,17 @@ use Rattle.strips.proofs.ring.in_range.Goals as goal
 
 pub loop-i-init : goal.loop-i-init
 unfolding all_below
-loop-i-init c = (omega arith, sym (and-true _))
+loop-i-init c = sym (and-true _)
 
 pub loop-i-preserved : goal.loop-i-preserved
 loop-i-preserved c =
     let i = c.loop-i.i in
-    let ps = c.args.points.now in (
-      omega arith,
-      rw (c.loop-i.invariant.1, c.point_in_range-ok.ensures, all_more)
-          (and_assoc (leb (length ps) maxPoints) (all_below (pointInRange ps) i) (pointInRange ps i)),
-    )
+    let ps = c.args.points.now in
+    rw (c.loop-i.invariant, c.point_in_range-ok.ensures, all_more)
+    (and_assoc (leb (length ps) maxPoints) (all_below (pointInRange ps) i) (pointInRange ps i))
 
 pub returns : goal.returns
 unfolding ringInRange
 returns c =
     let e : c.loop-i.i ≡ length c.args.points.now = omega arith in
-    c.loop-i.invariant.1 ∙ rw e refl
+    c.loop-i.invariant ∙ rw e refl

@@ -7,13 +7,13 @@ use Rattle.strips.proofs.ring.slanted.Goals as goal
 
 pub loop-i-init : goal.loop-i-init
 unfolding someBelow
-loop-i-init c = (omega arith, refl)
+loop-i-init c = refl
 
 pub loop-i-preserved : goal.loop-i-preserved
-loop-i-preserved c = (omega arith, rw (c.loop-i.invariant.1, c.slants_at-found.ensures, some_more) refl)
+loop-i-preserved c = rw (c.loop-i.invariant, c.slants_at-found.ensures, some_more) refl
 
 pub returns : goal.returns
 unfolding ringSlants
 returns c =
     let e : c.loop-i.i ≡ length c.args.points.now = omega arith in
-    c.loop-i.invariant.1 ∙ rw e refl
+    c.loop-i.invariant ∙ rw e refl

@@ -1,10 +1,7 @@
 -- So far some edge passed is slanted, or none is.
-use Rattle.std.proofs.Common.{length, ◌-◌, ◌≡◌, ◌≤◌}
+use Rattle.std.proofs.Common.{◌≡◌}
 use Rattle.strips.specs.Rings.{someBelow, slantsAt}
 use Rattle.strips.proofs.ring.slanted.Given as goal
 
 abbrev pub invariant-loop-i : goal.invariant-loop-i
-invariant-loop-i l = (l.i ≤ length l.points) × (l.found ≡ someBelow (slantsAt l.points) l.i)
-
-abbrev pub decreases-loop-i : goal.decreases-loop-i
-decreases-loop-i l = length l.points - l.i
+invariant-loop-i l = l.found ≡ someBelow (slantsAt l.points) l.i

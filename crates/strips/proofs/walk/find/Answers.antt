@@ -9,7 +9,7 @@ use Rattle.strips.proofs.Walks.{crossed-end, from_end, crossed-yes, crossed-no}
 use Rattle.strips.proofs.walk.find.Goals as goal
 
 pub loop-k-init : goal.loop-k-init
-loop-k-init c = (omega arith, refl)
+loop-k-init c = refl
 
 pub returns-then-spans : goal.returns-then-spans
 returns-then-spans c =
@@ -22,7 +22,7 @@ returns-then-spans c =
       low = omega arith;
       high = omega arith;
       same =
-          sym s.invariant.1
+          sym s.invariant
           ∙ crossed-yes a.points.now a.lo a.hi a.edges.now s.k c.loop-k-test.true c.requires.0
           (sym t ∙ c.if-spans.true);
     }
@@ -33,11 +33,9 @@ loop-k-preserved c =
     let s = c.loop-k in
     let e = simp (c.ticks-low.ensures, c.ticks-high.ensures, to_z-of_z (on_fits a.lo), to_z-of_z (on_fits a.hi))
     at c.spans.ensures in
-    let t = e ∙ spans-is a.points.now (get_or a.edges.now s.k 0 % maxPoints) a.lo a.hi c.requires.0 c.requires.1 in (
-      omega arith,
-      crossed-no a.points.now a.lo a.hi a.edges.now s.k c.loop-k-test.true c.requires.0 (sym t ∙ c.if-spans.false)
-          ∙ s.invariant.1,
-    )
+    let t = e ∙ spans-is a.points.now (get_or a.edges.now s.k 0 % maxPoints) a.lo a.hi c.requires.0 c.requires.1 in
+    crossed-no a.points.now a.lo a.hi a.edges.now s.k c.loop-k-test.true c.requires.0 (sym t ∙ c.if-spans.false)
+    ∙ s.invariant
 
 pub returns : goal.returns
 returns c =
@@ -46,7 +44,7 @@ returns c =
       low = omega arith;
       high = omega arith;
       same =
-          sym c.loop-k.invariant.1
+          sym c.loop-k.invariant
           ∙ crossed-end a.points.now a.lo a.hi a.edges.now c.loop-k.k c.loop-k-test.false
           ∙ sym (from_end a.points.now a.lo a.hi a.edges.now);
     }

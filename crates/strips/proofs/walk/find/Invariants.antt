@@ -1,11 +1,8 @@
 -- The edges passed do not span the band.
-use Rattle.std.proofs.Common.{length, drop, ◌-◌, ◌≡◌, ◌≤◌}
+use Rattle.std.proofs.Common.{drop, ◌≡◌}
 use Rattle.strips.specs.Walk.{crossed}
 use Rattle.strips.proofs.walk.find.Given as goal
 
 abbrev pub invariant-loop-k : goal.invariant-loop-k
 invariant-loop-k l =
-    (l.j ≤ l.k) × (crossed l.points l.lo l.hi (drop l.k l.edges) ≡ crossed l.points l.lo l.hi (drop l.j l.edges))
-
-abbrev pub decreases-loop-k : goal.decreases-loop-k
-decreases-loop-k l = length l.edges - l.k
+    crossed l.points l.lo l.hi (drop l.k l.edges) ≡ crossed l.points l.lo l.hi (drop l.j l.edges)

@@ -15,7 +15,7 @@ use Rattle.strips.proofs.walk.gather_edges.Goals.{then-vertical, else-vertical}
 
 pub loop-i-init : goal.loop-i-init
 unfolding unsortedEdges picked up_to
-loop-i-init c = (omega arith, omega arith, refl)
+loop-i-init c = (omega arith, refl)
 
 -- an edge's x is a coordinate
 in_frame : (e : Edge) (ps : List (List ℤ)) (i : ℕ) → e ≡ edge_at ps i → e.x0 ≤ coordinate + coordinate
@@ -36,15 +36,14 @@ loop-i-preserved c =
     elim c.if-vertical.branch [
       | then-vertical w ↦
           let v = rw (c.vertical.ensures, c.edge_at-e.ensures) at w.if-vertical.true in (
-            omega arith,
             rw w.n-is (omega arith),
             rw (w.row-is, w.n-is)
-                (front s.row (unsortedEdges ps s.i) s.n _ (omega arith) s.invariant.2
+                (front s.row (unsortedEdges ps s.i) s.n _ (omega arith) s.invariant.1
                 ∙ rw (unsorted-yes ps s.i v, c.edge_at-e.ensures) refl),
           )
       | else-vertical w ↦
           let v = rw (c.vertical.ensures, c.edge_at-e.ensures) at w.if-vertical.false in
-          (omega arith, rw w.n-is (omega arith), rw (w.row-is, w.n-is) (s.invariant.2 ∙ sym (unsorted-no ps s.i v)))
+          (rw w.n-is (omega arith), rw (w.row-is, w.n-is) (s.invariant.1 ∙ sym (unsorted-no ps s.i v)))
     ]
 
 pub returns : goal.returns
@@ -52,5 +51,5 @@ returns c =
     let ps = c.args.points.now in
     let s = c.loop-i in
     let e : s.i ≡ length ps = omega arith in
-    let f : take s.n s.row ≡ unsortedEdges ps (length ps) = s.invariant.2 ∙ rw e refl in
+    let f : take s.n s.row ≡ unsortedEdges ps (length ps) = s.invariant.1 ∙ rw e refl in
     record { front = f; count = sym (length-take-le s.n s.row (omega arith)) ∙ ap length f; fits = omega arith }

@@ -1,10 +1,7 @@
 -- The vertical edges passed stand at the front.
-use Rattle.std.proofs.Common.{length, take, ◌-◌, ◌≡◌, ◌≤◌}
+use Rattle.std.proofs.Common.{take, ◌≡◌, ◌≤◌}
 use Rattle.strips.specs.Walk.{unsortedEdges}
 use Rattle.strips.proofs.walk.gather_edges.Given as goal
 
 abbrev pub invariant-loop-i : goal.invariant-loop-i
-invariant-loop-i l = (l.i ≤ length l.points) × (l.n ≤ l.i) × (take l.n l.row ≡ unsortedEdges l.points l.i)
-
-abbrev pub decreases-loop-i : goal.decreases-loop-i
-decreases-loop-i l = length l.points - l.i
+invariant-loop-i l = (l.n ≤ l.i) × (take l.n l.row ≡ unsortedEdges l.points l.i)

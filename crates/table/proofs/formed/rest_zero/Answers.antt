@@ -24,4 +24,4 @@ unfolding restZero
 returns c =
     let s = c.args in
     let t = s.t.now in
-    sym (of-zeros t (s.n * 8) (length t - s.n * 8) (λ q l h. c.loop-j.invariant.2 q l (omega arith)))
+    sym (of-zeros t (s.n * 8) (length t - s.n * 8) (λ q l h. c.loop-j.invariant q l (omega arith)))

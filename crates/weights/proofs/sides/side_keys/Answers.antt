@@ -8,7 +8,7 @@ pub loop-i-init : goal.loop-i-init
 loop-i-init c =
     let a = c.args in
     let r = c.requires.k_in_bounds in
-    (omega arith, fill_begins 0 _ 0 (4 * a.l + a.k) (pairKey a.corners.now a.ends.now a.l) (omega arith))
+    fill_begins 0 _ 0 (4 * a.l + a.k) (pairKey a.corners.now a.ends.now a.l) (omega arith)
 
 pub loop-i-preserved : goal.loop-i-preserved
 loop-i-preserved c =
@@ -16,7 +16,7 @@ loop-i-preserved c =
     let t = c.loop-i-test.true in
     let f = pairKey a.corners.now a.ends.now a.l in
     let r = c.requires.k_in_bounds in
-    (omega arith, front-turn 0 _ (4 * a.l + a.k) f r _ _ c.loop-i.invariant.1 t _ c.pair_key.ensures)
+    front-turn 0 _ (4 * a.l + a.k) f r _ _ c.loop-i.invariant t _ c.pair_key.ensures
 
 pub returns : goal.returns
 unfolding pairKeys
@@ -25,4 +25,4 @@ returns c =
     let i = c.loop-i.invariant in
     let f = pairKey a.corners.now a.ends.now a.l in
     let r = c.requires.k_in_bounds in
-    fill-ends 0 _ 0 (4 * a.l + a.k) f (omega arith) _ _ i.1 i.0 c.loop-i-test.false
+    fill-ends 0 _ 0 (4 * a.l + a.k) f (omega arith) _ _ i c.loop-i.auto.i-end c.loop-i-test.false

@@ -10,7 +10,7 @@ loop-j-init c =
     let a = c.args in
     let f = weightIn a.nodes.now a.n a.corners.now a.sheets.now a.l a.ends.now a.g.now in
     let r = c.requires.k_in_bounds in
-    (omega arith, fill_begins nan a.g.now 0 a.k f (omega arith))
+    fill_begins nan a.g.now 0 a.k f (omega arith)
 
 pub loop-j-preserved : goal.loop-j-preserved
 loop-j-preserved c =
@@ -19,10 +19,10 @@ loop-j-preserved c =
     let r = c.requires.k_in_bounds in
     let i = c.loop-j in
     let t = c.loop-j-test.true in
-    let n = i.invariant.0 in
-    let was = fill-above nan a.g.now 0 a.k f (omega arith) _ _ i.invariant.1 n i.j (omega arith) in
+    let n = i.auto.j-end in
+    let was = fill-above nan a.g.now 0 a.k f (omega arith) _ _ i.invariant n i.j (omega arith) in
     let value = edge-turn _ _ _ _ _ _ _ _ c.requires.ready i.j t _ a.g.now was c.weigh_edge.ensures in
-    (omega arith, front-turn nan a.g.now a.k f r _ _ i.invariant.1 t _ value)
+    front-turn nan a.g.now a.k f r _ _ i.invariant t _ value
 
 pub returns : goal.returns
 returns c =
@@ -30,4 +30,4 @@ returns c =
     let f = weightIn a.nodes.now a.n a.corners.now a.sheets.now a.l a.ends.now a.g.now in
     let r = c.requires.k_in_bounds in
     let i = c.loop-j.invariant in
-    fill-ends nan a.g.now 0 a.k f (omega arith) _ _ i.1 i.0 c.loop-j-test.false
+    fill-ends nan a.g.now 0 a.k f (omega arith) _ _ i c.loop-j.auto.j-end c.loop-j-test.false

@@ -1,13 +1,9 @@
 -- The first j conductances are weighed; the others are as they were.
-use Rattle.std.proofs.Common.{◌-◌, ◌≡◌, ◌≤◌}
+use Rattle.std.proofs.Common.{◌≡◌}
 use Rattle.rows.specs.Parts.{put, tab}
 use Rattle.weights.specs.Weigh.{weightIn}
 use Rattle.weights.proofs.weigh.weigh_edges.Given as goal
 
 abbrev pub invariant-loop-j : goal.invariant-loop-j
 invariant-loop-j l =
-    (l.j ≤ l.k)
-    × (l.g ≡ put l.fn.g 0 (tab (weightIn l.nodes l.n l.corners l.sheets l.l l.ends l.fn.g) l.j))
-
-abbrev pub decreases-loop-j : goal.decreases-loop-j
-decreases-loop-j l = l.k - l.j
+    l.g ≡ put l.fn.g 0 (tab (weightIn l.nodes l.n l.corners l.sheets l.l l.ends l.fn.g) l.j)

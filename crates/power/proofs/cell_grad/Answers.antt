@@ -1,8 +1,0 @@
--- The same operations in the same order.
-use mathlib.Core.Path.{refl}
-use lib.Ieee.{of_int, round, of_bits}
-use Rattle.power.proofs.cell_grad.Goals as goal
-
-pub returns : goal.returns
-unfolding of_int round of_bits
-returns c = rw (c.metres-dy.ensures, c.metres-dx.ensures) refl
