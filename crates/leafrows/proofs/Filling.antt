@@ -7,7 +7,7 @@ use native.Mathlib.Nat.{zero-add}
 use native.Mathlib.Numerals.{add-one}
 use lib.IntN.{ℤ}
 use lib.ListN.{length, get_or, set, take, length-map}
-use lib.Seq.{sets, sets-eq, take-suc, take_all, length-take-le}
+use lib.Seq.{sets, length-sets, sets-eq, take-suc, take_all, length-take-le}
 use Rattle.table.specs.Slots.{cell_at}
 use Rattle.table.specs.Leaves.{orderIds}
 use Rattle.rows.specs.Parts.{put}
@@ -16,9 +16,10 @@ use Rattle.net.specs.Net.{each}
 use Rattle.net.proofs.Board.{each-length}
 use Rattle.net.proofs.Pieces.{each_append, map-append}
 use Rattle.leafrows.specs.Rows.{boxNums, polyRow, boxRow}
+use Rattle.leafrows.proofs.Ids.{leaf-id}
 
 -- stores of a list from the front are a list put there
-pub sets-put : {A : Type 0} (w l : List A) → length l ≤ length w → sets w 0 l ≡ put w 0 l
+sets-put : {A : Type 0} (w l : List A) → length l ≤ length w → sets w 0 l ≡ put w 0 l
 unfolding put
 sets-put w l h = sets-eq l w 0 (omega arith)
 
@@ -54,57 +55,66 @@ module _ (t : List ℤ) (n : ℕ) where
       ∙ (ap (each numsIn) (take-suc ids v 0 h)
       ∙ (each_append numsIn (take v ids) (get_or ids v 0 ∷ []) ∙ ap (λ (z : List ℕ). boxesTo v ++ z) (unfold each in refl)))
 
-  pub record Filling (b₀ w₀ b w : List ℕ) (v : ℕ) : Type 0 where
+  -- of u, in whose front the ids stood, the first v are their polygons now, and the boxes of as many are written
+  pub record Filling (b₀ u b w : List ℕ) (v : ℕ) : Type 0 where
     pub below : v ≤ length ids
     pub boxes : b ≡ put b₀ 0 (boxesTo v)
-    pub polys : w ≡ put w₀ 0 (polysTo v)
+    pub polys : w ≡ put (sets u 0 ids) 0 (polysTo v)
+    pub low : v < length ids → get_or w v 0 < n
 
-  module _ (b₀ w₀ : List ℕ) (box-room : 4 * length ids ≤ length b₀) (work-room : length ids ≤ length w₀) where
-    pub filling-begins : Filling b₀ w₀ b₀ w₀ 0
-    filling-begins = record { below = omega arith; boxes = sym (put-nil b₀ 0) ∙ ap (put b₀ 0) (unfold each in refl); polys = sym (put-nil w₀ 0) }
+  module _ (l : ℕ) (b₀ u : List ℕ) (total : l ≡ length ids) (box-room : 4 * l ≤ length b₀) (work-room : l ≤ length u) where
+    abbrev w₀ : List ℕ
+    w₀ = sets u 0 ids
 
-    module _ (b w : List ℕ) (v : ℕ) (F : Filling b₀ w₀ b w v) where
-      box-fits : 0 + length (boxesTo v) ≤ length b₀
-      box-fits = let h = F.below in omega (arith, boxes-long v h)
+    w₀-long : length w₀ ≡ length u
+    w₀-long = length-sets u 0 ids
 
-      poly-fits : 0 + length (polysTo v) ≤ length w₀
-      poly-fits = let h = F.below in omega (arith, polys-long v h)
+    w₀-put : w₀ ≡ put u 0 ids
+    w₀-put = sets-put u ids (omega arith)
 
-      -- the ids that are still to come stand there
-      pub filling-id : (u : List ℕ) → w₀ ≡ sets u 0 ids → length ids ≤ length u → v < length ids → get_or w v 0 ≡ get_or ids v 0
-      filling-id u e r h =
-          ap (λ (z : List ℕ). get_or z v 0) F.polys
-          ∙ (put-above w₀ 0 (polysTo v) poly-fits v 0 (omega (arith, polys-long v F.below))
-          ∙ (ap (λ (z : List ℕ). get_or z v 0) (e ∙ sets-put u ids r)
-          ∙ (ap (λ (k : ℕ). get_or (put u 0 ids) k 0) (sym (zero-add v)) ∙ put-at u 0 ids (omega arith) v 0 h)))
+    poly-fits : (v : ℕ) → v ≤ length ids → 0 + length (polysTo v) ≤ length w₀
+    poly-fits v h = omega (arith, polys-long v h, w₀-long)
 
-      pub filling-turn : (u : List ℕ) → w₀ ≡ sets u 0 ids → length ids ≤ length u → v < length ids → (b' w' : List ℕ) → b' ≡ put b (4 * v) (numsIn (get_or w v 0)) → w' ≡ set w v (polyIn (get_or w v 0)) → Filling b₀ w₀ b' w' (v + 1)
-      filling-turn u e r h b' w' eb ew =
+    -- the ids that are still to come stand there
+    id-there : (w : List ℕ) (v : ℕ) → w ≡ put w₀ 0 (polysTo v) → v < length ids → get_or w v 0 ≡ get_or ids v 0
+    id-there w v e h =
+        ap (λ (z : List ℕ). get_or z v 0) e
+        ∙ (put-above w₀ 0 (polysTo v) (poly-fits v (omega arith)) v 0 (omega (arith, polys-long v (omega arith)))
+        ∙ (ap (λ (z : List ℕ). get_or z v 0) w₀-put ∙ (ap (λ (k : ℕ). get_or (put u 0 ids) k 0) (sym (zero-add v)) ∙ put-at u 0 ids (omega arith) v 0 h)))
+
+    filling : (b w : List ℕ) (v : ℕ) → v ≤ length ids → b ≡ put b₀ 0 (boxesTo v) → w ≡ put w₀ 0 (polysTo v) → Filling b₀ u b w v
+    filling b w v h p q = record { below = h; boxes = p; polys = q; low = λ k. let e = id-there w v q k in let i = leaf-id t n v k in omega arith }
+
+    pub filling-begins : (w : List ℕ) → w ≡ w₀ → Filling b₀ u b₀ w 0
+    filling-begins w e = filling b₀ w 0 (omega arith) (sym (put-nil b₀ 0) ∙ ap (put b₀ 0) (unfold each in refl)) (e ∙ sym (put-nil w₀ 0))
+
+    module _ (b w : List ℕ) (v : ℕ) (F : Filling b₀ u b w v) where
+      pub filling-turn : v < l → (b' w' : List ℕ) → b' ≡ put b (4 * v) (numsIn (get_or w v 0)) → w' ≡ set w v (polyIn (get_or w v 0)) → Filling b₀ u b' w' (v + 1)
+      filling-turn h b' w' eb ew =
           let m = boxes-long v F.below in
           let k = polys-long v F.below in
-          let d = filling-id u e r h in
-          record {
-            below = omega arith;
-            boxes = eb
-                ∙ (ap₂ {C = List ℕ} (λ (z : List ℕ) (i : ℕ). put z (4 * v) (numsIn i)) F.boxes d
-                ∙ (ap (λ (i : ℕ). put (put b₀ 0 (boxesTo v)) i (numsIn (get_or ids v 0))) (let q : 4 * v ≡ 0 + length (boxesTo v) = omega arith in q)
-                ∙ (put-more b₀ 0 (boxesTo v) (numsIn (get_or ids v 0)) (omega arith) ∙ ap (put b₀ 0) (sym (boxes-more v h)))));
-            polys = ew
-                ∙ (ap₂ {C = List ℕ} (λ (z : List ℕ) (i : ℕ). set z v (polyIn i)) F.polys d
-                ∙ (ap (λ (i : ℕ). set (put w₀ 0 (polysTo v)) i (polyIn (get_or ids v 0))) (let q : v ≡ 0 + length (polysTo v) = omega arith in q)
-                ∙ (put-snoc w₀ 0 (polysTo v) (polyIn (get_or ids v 0)) 0 (omega arith) ∙ ap (put w₀ 0) (sym (polys-more v h)))));
-          }
+          let n = w₀-long in
+          let d = id-there w v F.polys (omega arith) in
+          filling b' w' (v + 1) (omega arith)
+          (eb
+          ∙ (ap₂ {C = List ℕ} (λ (z : List ℕ) (i : ℕ). put z (4 * v) (numsIn i)) F.boxes d
+          ∙ (ap (λ (i : ℕ). put (put b₀ 0 (boxesTo v)) i (numsIn (get_or ids v 0))) (let q : 4 * v ≡ 0 + length (boxesTo v) = omega arith in q)
+          ∙ (put-more b₀ 0 (boxesTo v) (numsIn (get_or ids v 0)) (omega arith) ∙ ap (put b₀ 0) (sym (boxes-more v (omega arith)))))))
+          (ew
+          ∙ (ap₂ {C = List ℕ} (λ (z : List ℕ) (i : ℕ). set z v (polyIn i)) F.polys d
+          ∙ (ap (λ (i : ℕ). set (put w₀ 0 (polysTo v)) i (polyIn (get_or ids v 0))) (let q : v ≡ 0 + length (polysTo v) = omega arith in q)
+          ∙ (put-snoc w₀ 0 (polysTo v) (polyIn (get_or ids v 0)) 0 (omega arith) ∙ ap (put w₀ 0) (sym (polys-more v (omega arith)))))))
 
-      all_ids : length ids ≤ v → take v ids ≡ ids
-      all_ids h = take_all v ids h
+      all_ids : l ≤ v → take v ids ≡ ids
+      all_ids h = take_all v ids (omega arith)
 
-      pub filled-boxes : length ids ≤ v → b ≡ put b₀ 0 (boxRow t n)
+      pub filled-boxes : l ≤ v → b ≡ put b₀ 0 (boxRow t n)
       unfolding boxRow
       filled-boxes h = F.boxes ∙ ap (λ (z : List ℕ). put b₀ 0 (each numsIn z)) (all_ids h)
 
-      pub filled-polys : (u : List ℕ) → w₀ ≡ sets u 0 ids → length ids ≤ length u → length ids ≤ v → w ≡ put u 0 (polyRow t n)
+      pub filled-polys : l ≤ v → w ≡ put u 0 (polyRow t n)
       unfolding polyRow
-      filled-polys u e r h =
+      filled-polys h =
           F.polys
-          ∙ (ap₂ {C = List ℕ} (λ (z x : List ℕ). put z 0 (map polyIn x)) (e ∙ sets-put u ids r) (all_ids h)
+          ∙ (ap₂ {C = List ℕ} (λ (z x : List ℕ). put z 0 (map polyIn x)) w₀-put (all_ids h)
           ∙ put-again u 0 ids (omega arith) (map polyIn ids) (length-map ids polyIn))

@@ -5,4 +5,3 @@ pub mod Leaves
 pub mod Sides
 pub mod Pieces
 pub mod Laws
-pub mod Slotted

@@ -12,6 +12,7 @@ use table::leaves::append_order;
 use table::slots::cell_at;
 
 // Four numbers of a box into the row.
+#[tactic(auto, using(rows::proofs::Parts::put_four))]
 fn put_box(boxes: &mut [u64], at: usize, c: Cell)
     requires { at + 4 ≤ length boxes.old }
     ensures { boxes.new ≡ put boxes.old at (boxNums c) }
@@ -35,8 +36,8 @@ fn put_leaf(t: &[i64], v: usize, boxes: &mut [u64], work: &mut [u64])
     work[v] = c.poly;
 }
 
-// The leaves by polygon, then id: the polygon of each in front of the work row, its box in the row of boxes. Internal: the slots are in the
-// row, there are l leaves, and the rows have room for them.
+// The leaves by polygon, then id: the polygon of each in front of the work row, its box in the row of boxes. Internal:
+// the slots are in the row, there are l leaves, and the rows have room for them.
 pub fn fill_leaves(t: &[i64], n: usize, l: usize, boxes: &mut [u64], work: &mut [u64])
     requires n_in_bounds { (n * 8 ≤ length t.now) × (l ≡ length (orderIds t.now n)) }
     requires l_in_bounds { (4 * l ≤ length boxes.old) × (l ≤ length work.old) }
@@ -44,9 +45,7 @@ pub fn fill_leaves(t: &[i64], n: usize, l: usize, boxes: &mut [u64], work: &mut 
     ensures work_after { work.new ≡ put work.old 0 (polyRow t.now n) }
 {
     append_order(t, n, work);
-    let mut v = 0;
-    while v < l {
+    for v in 0..l {
         put_leaf(t, v, boxes, work);
-        v += 1;
     }
 }

@@ -5,17 +5,15 @@ ghost use Rattle.std.specs.Prelude.{◌≡◌, ◌+◌, ◌*◌, ◌^◌, ◌<�
 ghost use Rattle.node_rows.specs.Rows.{nodeIn};
 
 // Internal, all three: the node stands in the row.
+#[tactic(auto, using(table::proofs::Numbers::counted_max), unfolding(crate::specs::Rows::nodeIn))]
 pub fn layer_at(nodes: &[i64], i: usize) -> u64
     requires { 4 * i + 4 ≤ length nodes.now }
     ensures { result ≡ (nodeIn nodes.now i).layer }
 {
-    let z = nodes[4 * i];
-    if z < 0 {
-        return 0;
-    }
-    z as u64
+    nodes[4 * i].max(0) as u64
 }
 
+#[tactic(auto, using(crate::proofs::Nodes::off_small), unfolding(crate::specs::Rows::nodeIn))]
 pub fn x_at(nodes: &[i64], i: usize) -> u64
     requires { 4 * i + 4 ≤ length nodes.now }
     ensures { (result ≡ (nodeIn nodes.now i).x) × (result < 2 ^ 38) }
@@ -23,6 +21,7 @@ pub fn x_at(nodes: &[i64], i: usize) -> u64
     cell::ticks::offset(nodes[4 * i + 2])
 }
 
+#[tactic(auto, using(crate::proofs::Nodes::off_small), unfolding(crate::specs::Rows::nodeIn))]
 pub fn y_at(nodes: &[i64], i: usize) -> u64
     requires { 4 * i + 4 ≤ length nodes.now }
     ensures { (result ≡ (nodeIn nodes.now i).y) × (result < 2 ^ 38) }

@@ -17,7 +17,7 @@ use Rattle.places.specs.Places.{placeKeys, nodeNums, node_of, endNums}
 use Rattle.bare.specs.Slots.{Slotted, Parted, slotKeys, endsOf, slotG, polysIn, numsIn, midsIn}
 use Rattle.bare.proofs.Bridge.{Board, bridge-nodes, bridge-edges, bridge-corners, bridge-sheets}
 use Rattle.unweighted.specs.Netted.{Placed, Edged, Ready, Counted, Netted}
-use Rattle.unweighted.proofs.Steps.{front-slotted, front-polys, front-nums, front-mids}
+use Rattle.unweighted.proofs.Steps.{front_slotted, front-polys, front-nums, front-mids}
 
 -- one for each
 pub each-one : {A B : Type 0} (f : A → B) (l : List A) → each (λ (a : A). f a ∷ []) l ≡ map f l
@@ -70,7 +70,7 @@ module _ {lay cmp : List ℕ} {sheets : List Float} {bs w₀ w w₂ : List ℕ} 
   all-counted =
       record {
         nodes-are = P.numbered.count ∙ nodes-count-is B;
-        edges_are = E.count-is ∙ edges-count-is R (front-slotted Y P long D) (front-nums Y P long D) (front-mids Y P long D);
+        edges_are = E.count-is ∙ edges-count-is R (front_slotted Y P long D) (front-nums Y P long D) (front-mids Y P long D);
         cells_are = cells-count-is B;
         leaves-are = refl;
       }
@@ -81,8 +81,8 @@ module _ {lay cmp : List ℕ} {sheets : List Float} {bs w₀ w w₂ : List ℕ} 
   all-netted {c₀} {c₁} {s₀} {s₁} C =
       record {
         nodes-row = P.row ∙ ap (put n₀ 0) (bridge-nodes lay cmp sheets (part w₀ 0 l) bs l qs B);
-        ends-row = E.ends-row ∙ ap (put e₀ 0) (ends-are R (front-slotted Y P long D) (front-nums Y P long D) (front-mids Y P long D));
-        gs-row = E.gs-row ∙ ap (put g₀ 0) (gs-are R (front-slotted Y P long D) (front-nums Y P long D) (front-mids Y P long D));
+        ends-row = E.ends-row ∙ ap (put e₀ 0) (ends-are R (front_slotted Y P long D) (front-nums Y P long D) (front-mids Y P long D));
+        gs-row = E.gs-row ∙ ap (put g₀ 0) (gs-are R (front_slotted Y P long D) (front-nums Y P long D) (front-mids Y P long D));
         corners-row = C.0 ∙ ap (put c₀ 0) (bridge-corners lay cmp sheets (polysIn rows l) bs l qs R (numsIn rows l) (front-nums Y P long D));
         cells-row = C.1 ∙ ap (put s₀ 0) (bridge-sheets lay cmp sheets (polysIn rows l) bs l qs R);
       }

@@ -57,7 +57,8 @@ module _ {lay cmp : List ℕ} {sheets : List Float} {bs w₀ w : List ℕ} {l r 
       let m = Y.laid.few in
       omega (arith, number-low ks (4 * l) i (omega (arith, keys-long lay cmp (part w₀ 0 l) bs l)) h, rank-le ks (4 * l))
 
-  slotted : Slotted (take (26 * l) w) l
+  -- what `sort_slots` requires
+  pub slotted : Slotted (take (26 * l) w) l
   slotted =
       record {
         long = length-take-le (26 * l) w front-room;
@@ -66,24 +67,20 @@ module _ {lay cmp : List ℕ} {sheets : List Float} {bs w₀ w : List ℕ} {l r 
         polys = subst (Small maxPolygons) (sym polys-in) (λ i h. let p = Y.polys i h in let f = Y.few in omega arith);
       }
 
-  -- what `sort_slots` requires
-  pub sort-requires : (50 * l ≤ length w) × Slotted (take (26 * l) w) l
-  sort-requires = let e = Y.room in (omega arith, slotted)
-
   -- once the slots are sorted, the rows in front of them stand as they did
   module _ {w₂ : List ℕ} (D : Parted (take (26 * l) w) w₂ l) where
     abbrev rows : List ℕ
     rows = take (26 * l) w₂
 
-    pub front-slotted : Slotted rows l
-    front-slotted = subst (λ (z : List ℕ). Slotted z l) (sym D.kept) slotted
+    pub front_slotted : Slotted rows l
+    front_slotted = subst (λ (z : List ℕ). Slotted z l) (sym D.kept) slotted
 
     pub front-polys : polysIn rows l ≡ part w₀ 0 l
     front-polys = ap (λ (z : List ℕ). polysIn z l) D.kept ∙ polys-in
 
     -- each leaf's polygon has a sheet resistance
-    pub front-sheets : Small (length sheets) (polysIn rows l)
-    front-sheets = subst (Small (length sheets)) (sym front-polys) (subst (λ (z : ℕ). Small z (part w₀ 0 l)) (sym Y.sheets-long) Y.polys)
+    pub front_sheets : Small (length sheets) (polysIn rows l)
+    front_sheets = subst (Small (length sheets)) (sym front-polys) (subst (λ (z : ℕ). Small z (part w₀ 0 l)) (sym Y.sheets-long) Y.polys)
 
     pub front-nums : numsIn rows l ≡ tab (numberBy (placeKeys lay cmp (polysIn rows l) bs l)) (4 * l)
     front-nums = ap (λ (z : List ℕ). numsIn z l) D.kept ∙ (nums-in ∙ ap (λ (z : List ℕ). tab (numberBy (placeKeys lay cmp z bs l)) (4 * l)) (sym front-polys))

@@ -1,4 +1,5 @@
-// The net before the weights, whole: places and nodes, then edges, then cells. build_network of the Rust, as far as the weights.
+// The net before the weights, whole: places and nodes, then edges, then cells. build_network of the Rust, as far as the
+// weights.
 #![tactic(auto)]
 
 ghost use Rattle.std.specs.Prelude.{◌≡◌, List, ◌*◌, ◌≤◌, length, get_or, take};
@@ -20,7 +21,8 @@ pub struct Counts {
     pub cells: usize,
 }
 
-// Numbers the places and writes their nodes; answers how many there are. Internal: the polygons stand in front of the work room.
+// Numbers the places and writes their nodes; answers how many there are. Internal: the polygons stand in front of the
+// work room.
 fn write_places(
     layers: &[u16],
     components: &[u32],
@@ -55,9 +57,9 @@ fn write_slots(
     requires l_in_bounds { (16 * l ≤ length ends.old) × (8 * l ≤ length conductances.old) }
     ensures { Edged sheets.now boxes.now (take (26 * l) work.now) l result ends.old ends.new conductances.old conductances.new }
 {
-    let e = 26 * l;
-    bare::edges::write_conductances(sheets, boxes, &work[..e], work, l, conductances);
-    bare::edges::write_ends(&work[..e], work, l, ends)
+    let rows = &work[..26 * l];
+    bare::edges::write_conductances(sheets, boxes, rows, work, l, conductances);
+    bare::edges::write_ends(rows, work, l, ends)
 }
 
 // The cells. Internal: the places are numbered.
@@ -71,8 +73,8 @@ fn write_cells(sheets: &[f64], rows: &[u64], l: usize, corners: &mut [u64], cell
     bare::cells::write_corners(rows, l, corners);
 }
 
-// The net before the weights. Internal: the leaves' polygons stand in front of the work room, and their boxes in front of the row of
-// corners until the cells overwrite them.
+// The net before the weights. Internal: the leaves' polygons stand in front of the work room, and their boxes in front of
+// the row of corners until the cells overwrite them.
 pub fn write_net(
     layers: &[u16],
     components: &[u32],
@@ -90,15 +92,14 @@ pub fn write_net(
     ensures counted { (qs : List Piece) → Board layers.now components.now sheets.now (part work.old 0 l) (take (4 * l) corners.old) l qs → Counted qs l result.nodes result.edges result.cells × Netted qs nodes.old nodes.new ends.old ends.new conductances.old conductances.new corners.old corners.new cells.old cells.new }
     ensures work_len_unchanged { length work.new ≡ length work.old }
 {
-    let e = 26 * l;
-    let m = 4 * l;
-    let nodes_are = write_places(layers, components, &corners[..m], work, l, nodes);
+    let boxes = &corners[..4 * l];
+    let nodes = write_places(layers, components, boxes, work, l, nodes);
     bare::slots::sort_slots(work, l);
-    let edges_are = write_slots(sheets, &corners[..m], work, l, ends, conductances);
-    write_cells(sheets, &work[..e], l, corners, cells);
+    let edges = write_slots(sheets, boxes, work, l, ends, conductances);
+    write_cells(sheets, &work[..26 * l], l, corners, cells);
     Counts {
-        nodes: nodes_are,
-        edges: edges_are,
+        nodes,
+        edges,
         cells: l,
     }
 }
