@@ -7,9 +7,9 @@ use mathlib.Core.List.{List, [], ◌∷◌}
 use Prim.Native.Nat.{ℕ, ◌+◌, ◌<◌, ◌≤◌}
 use native.Mathlib.Omega.{arith}
 use native.Mathlib.Decide.{dec_lt}
-use Rattle.cell.specs.Boxes.{Quad, sw, se, nw, ne, num}
+use Rattle.cell.specs.Boxes.{num}
 use Rattle.table.specs.Mesh.{Cell, at}
-use Rattle.table.proofs.Meshes.{not_some, some_is}
+use Rattle.table.proofs.Meshes.{not_some, some_is, num-below}
 use Rattle.coarsest.specs.Passes.{due}
 use Rattle.coarsest.specs.Names.{Route}
 use Rattle.coarsest.proofs.Least.{due-of}
@@ -52,32 +52,30 @@ module _ (t : List Cell) (c : ℕ) where
       go [] r = r
       go (q ∷ p) r = not_some (at t c).kids r.0 e r.1
 
-  module _ (f : ℕ) (kids : (at t c).kids ≡ some f) where
-    abbrev pub Kids : ℕ → Type 0
-    Kids b = ((Under t f b ⊎ Under t (f + 1) b) ⊎ Under t (f + 2) b) ⊎ Under t (f + 3) b
+-- b stands in the subtree of a cell from f on below j
+abbrev pub Among : List Cell → ℕ → ℕ → ℕ → Type 0
+Among t f j b = (i : ℕ) × (f ≤ i) × (i < j) × Under t i b
 
-    pick : (b : ℕ) (q : Quad) → Under t (f + num q) b → Kids b
-    pick b sw u = let e : f + 0 ≡ f = omega arith in inl (inl (inl (subst (λ (x : ℕ). Under t x b) e u)))
-    pick b se u = inl (inl (inr u))
-    pick b nw u = inl (inr u)
-    pick b ne u = inr u
+pub among_next : (t : List Cell) (f j b : ℕ) → Among t f (j + 1) b → Among t f j b ⊎ Under t j b
+among_next t f j b u =
+    by_cases (dec_lt u.0 j)
+    (λ h. inl (u.0, u.1, h, u.3))
+    (λ h. inr (let l = u.2 in let e : u.0 ≡ j = omega arith in subst (λ (x : ℕ). Under t x b) e u.3))
 
-    -- a leaf in the subtree of a split cell stands in the subtree of one of its four
-    pub under-kid : (b : ℕ) → Under t c b → (at t b).kids ≡ none → Kids b
-    under-kid b u d = go u.route u.reach
-      where
-        go : (p : Route) → Reach t p c b → Kids b
-        go [] r = not_some (at t b).kids f d (ap (λ (x : ℕ). (at t x).kids) (sym r) ∙ kids)
-        go (q ∷ p) r =
-            let g = some_is (at t c).kids r.0 f r.1 kids in
-            pick b q (subst (λ (x : ℕ). Under t (x + num q) b) g (record { route = p; reach = r.2 }))
+-- a leaf in the subtree of a split cell stands in the subtree of one of its four
+pub among_kids : (t : List Cell) (c f j : ℕ) → (at t c).kids ≡ some f → f + 4 ≤ j → (b : ℕ) → Under t c b → (at t b).kids ≡ none → Among t f j b
+among_kids t c f j kids h b u d = go u.route u.reach
+  where
+    go : (p : Route) → Reach t p c b → Among t f j b
+    go [] r = not_some (at t b).kids f d (ap (λ (x : ℕ). (at t x).kids) (sym r) ∙ kids)
+    go (q ∷ p) r =
+        let g = some_is (at t c).kids r.0 f r.1 kids in
+        let l = num-below q in
+        (f + num q, omega arith, omega arith, subst (λ (x : ℕ). Under t (x + num q) b) g (record { route = p; reach = r.2 }))
 
-    -- what the four subtrees' searches find, one after another
-    pub least-kids : (k a from best r s v w : ℕ) → Least (due k t a) (Under t f) from best r → Least (due k t a) (Under t (f + 1)) from r s
-        → Least (due k t a) (Under t (f + 2)) from s v → Least (due k t a) (Under t (f + 3)) from v w → Least (due k t a) (Under t c) from best w
-    least-kids k a from best r s v w x0 x1 x2 x3 =
-        least-as (due k t a) from Kids (Under t c) best w
-        (least-then (due k t a) from (λ (b : ℕ). (Under t f b ⊎ Under t (f + 1) b) ⊎ Under t (f + 2) b) (Under t (f + 3)) best v w
-        (least-then (due k t a) from (λ (b : ℕ). Under t f b ⊎ Under t (f + 1) b) (Under t (f + 2)) best s v
-        (least-then (due k t a) from (Under t f) (Under t (f + 1)) best r s x0 x1) x2) x3)
-        (λ b u d. under-kid b u (due-of k t a b d).coarse)
+-- the least of the four subtrees
+pub least-kids : (t : List Cell) (f k a from best c j r : ℕ) → (at t c).kids ≡ some f → f + 4 ≤ j
+    → Least (due k t a) (Among t f j) from best r → Least (due k t a) (Under t c) from best r
+least-kids t f k a from best c j r kids h x =
+    least-as (due k t a) from (Among t f j) (Under t c) best r x
+    (λ b u d. among_kids t c f j kids h b u (due-of k t a b d).coarse)

@@ -1,14 +1,12 @@
 -- Marks put together from parts of what is to be seen. Assumes nothing.
-use Prim.Native.Nat.{ℕ, ◌+◌, ◌*◌, ◌/◌, ◌<◌, ◌≤◌}
+use Prim.Native.Nat.{ℕ, ◌+◌, ◌/◌, ◌<◌, ◌≤◌}
 use mathlib.Core.Path.{◌≡◌, refl, sym, ap, subst, ◌∙◌}
 use mathlib.Core.Bool.{Bool, true, false, true≢false}
-use mathlib.Core.Logic.{◌⊎◌, ⊎_elim, by_cases}
+use mathlib.Core.Logic.{◌⊎◌, ⊎_elim}
 use mathlib.Core.Option.{none, some}
 use mathlib.Core.List.{List}
 use native.Mathlib.Omega.{arith}
-use native.Mathlib.Decide.{ℕ_discrete}
-use lib.ListN.{length, get_or, set, length-set}
-use lib.Seq.{get_or-set_same, get_or-set_other}
+use lib.ListN.{length}
 use Rattle.cell.specs.Boxes.{Quad, num, quadrant, sharesEdge}
 use Rattle.table.specs.Mesh.{Cell, at}
 use Rattle.table.specs.Formed.{Formed}
@@ -16,7 +14,7 @@ use Rattle.table.proofs.Meshes.{num-below, kids-in}
 use Rattle.descent.specs.Search.{meet, Under}
 use Rattle.descent.specs.Marks.{Wanted, Marked}
 use Rattle.descent.proofs.Meeting.{Meet, Above, under-above, meet-is, of-meet, shares-meet, quadrant-meet, straight}
-use Rattle.descent.proofs.Least.{Kids, under-leaf, under-kid}
+use Rattle.descent.proofs.Least.{Among, under-leaf, among_next, among_kids}
 use Rattle.descent.proofs.Roots.{Aside}
 
 module _ (wanted : ℕ → Type 0) where
@@ -37,38 +35,6 @@ module _ (wanted : ℕ → Type 0) where
   -- the same of less
   pub marked-as : (seen less : ℕ → Type 0) (old new : List Bool) → Marked seen wanted old new → ((a : ℕ) → less a → wanted a → seen a) → Marked less wanted old new
   marked-as seen less old new x h = record { size = x.size; kept = x.kept; marked = λ a s w. x.marked a (h a s w) w }
-
--- one mark
-pub marked-set : (c : ℕ) (wanted : ℕ → Type 0) (old : List Bool) → c < 8 * length old → Marked (λ (a : ℕ). c ≡ a) wanted old (set old (c / 8) true)
-marked-set c wanted old h =
-    let i : c / 8 < length old = omega arith in
-    record {
-      size = length-set old (c / 8) true;
-      kept = λ j e. by_cases (ℕ_discrete j (c / 8))
-          (λ d. subst (λ (x : ℕ). get_or (set old (c / 8) true) x false ≡ true) (sym d) (get_or-set_same old (c / 8) true false i))
-          (λ d. get_or-set_other old (c / 8) j true false d ∙ e);
-      marked = λ a s w. subst (λ (x : ℕ). get_or (set old (c / 8) true) (x / 8) false ≡ true) s (get_or-set_same old (c / 8) true false i);
-    }
-
--- four ids from f on lie in the blocks of the first and the last
-pub four-marked : (f : ℕ) (old : List Bool) → f + 3 < 8 * length old
-    → Marked (λ (a : ℕ). (f ≤ a) × (a < f + 4)) (λ (a : ℕ). a ≡ a) old (set (set old (f / 8) true) ((f + 3) / 8) true)
-four-marked f old h =
-    let one = set old (f / 8) true in
-    let z = length-set old (f / 8) true in
-    let x = marked-set f (λ (a : ℕ). a ≡ a) old (omega arith) in
-    let y = marked-set (f + 3) (λ (a : ℕ). a ≡ a) one (omega arith) in
-    record {
-      size = y.size ∙ x.size;
-      kept = λ i e. y.kept i (x.kept i e);
-      marked = λ a s w. by_cases (ℕ_discrete (a / 8) (f / 8))
-          (λ d. subst (λ (j : ℕ). get_or (set one ((f + 3) / 8) true) j false ≡ true) (sym d) (y.kept (f / 8) (x.marked f refl refl)))
-          (λ d.
-          let g = s.0 in
-          let l = s.1 in
-          let q : a / 8 ≡ (f + 3) / 8 = omega arith in
-          subst (λ (j : ℕ). get_or (set one ((f + 3) / 8) true) j false ≡ true) (sym q) (y.marked (f + 3) refl refl));
-    }
 
 -- ---- the subtree of a cell
 
@@ -95,17 +61,19 @@ module _ (M : ℕ) (t : List Cell) (formed : Formed M t) (p low high c : ℕ) wh
             x.marked a s (omega arith));
       }
 
-  pub kids-marked : (f : ℕ) → (at t c).kids ≡ some f → (m0 m1 m2 m3 m4 : List Bool)
-      → Marked (Under t f) (Wanted t p low high) m0 m1 → Marked (Under t (f + 1)) (Wanted t p low high) m1 m2
-      → Marked (Under t (f + 2)) (Wanted t p low high) m2 m3 → Marked (Under t (f + 3)) (Wanted t p low high) m3 m4
-      → Marked (Under t c) (Wanted t p low high) m0 m4
-  kids-marked f kids m0 m1 m2 m3 m4 x0 x1 x2 x3 =
-      let w = Wanted t p low high in
-      marked-as w (Kids t c f kids) (Under t c) m0 m4
-      (marked-then w (λ (b : ℕ). (Under t f b ⊎ Under t (f + 1) b) ⊎ Under t (f + 2) b) (Under t (f + 3)) m0 m3 m4
-      (marked-then w (λ (b : ℕ). Under t f b ⊎ Under t (f + 1) b) (Under t (f + 2)) m0 m2 m3
-      (marked-then w (Under t f) (Under t (f + 1)) m0 m1 m2 x0 x1) x2) x3)
-      (λ a u v. under-kid t c f kids a u v.leaf)
+  -- what the marking of the four marks, one after another
+  module _ (f : ℕ) where
+    pub next-marked : (j : ℕ) (old mid new : List Bool) → Marked (Among t f j) (Wanted t p low high) old mid
+        → Marked (Under t j) (Wanted t p low high) mid new → Marked (Among t f (j + 1)) (Wanted t p low high) old new
+    next-marked j old mid new x y =
+        let w = Wanted t p low high in
+        marked-as w (λ (a : ℕ). Among t f j a ⊎ Under t j a) (Among t f (j + 1)) old new
+        (marked-then w (Among t f j) (Under t j) old mid new x y) (λ a u v. among_next t f j a u)
+
+    pub kids-marked : (j : ℕ) (old new : List Bool) → (at t c).kids ≡ some f → f + 4 ≤ j → Marked (Among t f j) (Wanted t p low high) old new
+        → Marked (Under t c) (Wanted t p low high) old new
+    kids-marked j old new kids h x =
+        marked-as (Wanted t p low high) (Among t f j) (Under t c) old new x (λ a u v. among_kids t c f j kids h a u v.leaf)
 
 -- roots that do not meet p
 pub aside-unwanted : (M : ℕ) (t : List Cell) → Formed M t → (p low high a : ℕ) → Aside t p a → Wanted t p low high a → ⊥

@@ -210,3 +210,8 @@ module _ (a b : Box) where
       last-no true true = refl
       last-no true false = refl
       last-no false y = refl
+
+-- what the tests of boxes need
+pub ruleset apart = (apart-west, apart-east, apart-south, apart-north)
+
+pub ruleset nearing = (near-level, near_apart)

@@ -68,3 +68,6 @@ module _ (t : List ℤ) (a c : ℕ) (ia : in_slot t a ≡ true) (ic : in_slot t 
   pub lie-north : lt_z (number t a 3) (number t c 1) ≡ true → meet (boxOf (cell_at t a)) (boxOf (cell_at t c)) ≡ false
   unfolding cell_at
   lie-north e = apart-north (boxOf (cell_at t a)) (boxOf (cell_at t c)) (off_less (number t a 3) (number t c 1) (corners t a ia).y1 (corners t c ic).y0 e)
+
+-- what the test of two slots needs
+pub ruleset lying = (lie-west, lie-east, lie-south, lie-north)

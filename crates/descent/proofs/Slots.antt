@@ -4,20 +4,22 @@ use mathlib.Core.Bool.{Bool, true, false, true≢false}
 use mathlib.Core.Logic.{by_cases}
 use mathlib.Core.Option.{none, some}
 use mathlib.Core.List.{List}
-use Prim.Native.Nat.{ℕ, ◌+◌, ◌-◌, ◌<◌}
+use Prim.Native.Nat.{ℕ, ◌+◌, ◌-◌, ◌<◌, ◌≤◌}
 use native.Mathlib.Omega.{arith}
 use native.Mathlib.Decide.{dec_lt}
 use lib.IntN.{ℤ}
 use borrow.Author.Tests.{eq-eqb, ne_eqb}
-use Rattle.cell.specs.Boxes.{Quad, num}
+use Rattle.cell.specs.Boxes.{Quad, num, quadAt}
 use Rattle.cell.specs.Cells.{noCell, boxOf}
 use Rattle.table.specs.Slots.{cell_at}
 use Rattle.table.specs.Mesh.{Cell, at, table, meshCell, optIf}
 use Rattle.table.specs.Formed.{WellFormed}
 use Rattle.table.proofs.Cells.{length-table, at_table}
 use Rattle.table.proofs.Meshes.{num-below}
+use Rattle.table.proofs.Wellformed.{num-quad}
 use Rattle.coarsest.specs.Passes.{dueCells, due}
 use Rattle.descent.specs.Search.{meet, nearCells, Under}
+use Rattle.descent.proofs.Least.{least-none, least-own}
 use Rattle.descent.proofs.Meeting.{near_of, meet-of, due-past, past-due}
 
 module _ (t : List ℤ) (n : ℕ) where
@@ -53,10 +55,12 @@ module _ (t : List ℤ) (n : ℕ) where
       let m = s.finer in
       record { inside = i; falls = omega arith }
 
-  -- the same for the id that the code reads
-  pub kid-slot : (M c f : ℕ) → WellFormed t n M → c < n → f ≡ (cell_at t c).first → (f ≡ noCell → ⊥) → (q : Quad) (j : ℕ) → j ≡ f + num q → Child M c j
-  kid-slot M c f w h e o q j d =
-      subst (Child M c) (sym (d ∙ ap (λ (x : ℕ). x + num q) e)) (child-slot M c w h (λ z. o (e ∙ z)) q)
+  -- the same for the four ids from the one that the code reads
+  pub kid-slot : (M c f j : ℕ) → WellFormed t n M → c < n → f ≡ (cell_at t c).first → (f ≡ noCell → ⊥) → f ≤ j → j < f + 4 → Child M c j
+  kid-slot M c f j w h e o g l =
+      let k = num-quad (j - f) (omega arith) in
+      let d : (cell_at t c).first + num (quadAt (j - f)) ≡ j = omega arith in
+      subst (Child M c) d (child-slot M c w h (λ z. o (e ∙ z)) (quadAt (j - f)))
 
   pub meet-slots : (a c : ℕ) → a < n → c < n → meet (at (table t n) a).box (at (table t n) c).box ≡ meet (boxOf (cell_at t a)) (boxOf (cell_at t c))
   meet-slots a c ha hc = ap₂ (λ (x y : Cell). meet x.box y.box) (at_table t n a ha) (at_table t n c hc)
@@ -76,3 +80,6 @@ module _ (t : List ℤ) (n : ℕ) where
         by_cases (dec_lt b n)
         (λ h. true≢false (sym (meet-of M (table t n) w.cells k a c b (rw l ha) (rw l h) u d) ∙ meet-slots a c ha hc ∙ e))
         (λ h. past-due k (table t n) a b (rw l (omega arith)) d)
+
+-- what the test of one leaf needs
+pub ruleset own_least = (due-slots, least-none, least-own)

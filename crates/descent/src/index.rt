@@ -22,22 +22,18 @@ pub struct Bounds {
     pub y1: u64,
 }
 
-fn lesser(a: u64, b: u64) -> u64
-    ensures { (result ≤ a) × (result ≤ b) }
-{
-    if a < b {
-        return a;
+impl Bounds {
+    // The least box that holds both.
+    fn widen(self, other: Bounds) -> Bounds
+        ensures { Within (boundsBox self) (boundsBox result) × Within (boundsBox other) (boundsBox result) }
+    {
+        Bounds {
+            x0: self.x0.min(other.x0),
+            y0: self.y0.min(other.y0),
+            x1: self.x1.max(other.x1),
+            y1: self.y1.max(other.y1),
+        }
     }
-    b
-}
-
-fn greater(a: u64, b: u64) -> u64
-    ensures { (a ≤ result) × (b ≤ result) }
-{
-    if a < b {
-        return b;
-    }
-    a
 }
 
 // The box of the cell in slot i. Internal: the slot is in the row.
@@ -54,18 +50,6 @@ pub fn bounds_at(t: &[i64], i: usize) -> Bounds
     }
 }
 
-// The least box that holds both.
-fn widen(a: Bounds, b: Bounds) -> Bounds
-    ensures { Within (boundsBox a) (boundsBox result) × Within (boundsBox b) (boundsBox result) }
-{
-    Bounds {
-        x0: lesser(a.x0, b.x0),
-        y0: lesser(a.y0, b.y0),
-        x1: greater(a.x1, b.x1),
-        y1: greater(a.y1, b.y1),
-    }
-}
-
 // The box b, widened by the cell in slot i if that is a root.
 fn with_root(t: &[i64], i: usize, b: Bounds) -> Bounds
     requires { i * 8 + 8 ≤ length t.now }
@@ -73,10 +57,11 @@ fn with_root(t: &[i64], i: usize, b: Bounds) -> Bounds
     ensures within_2 { (cell_at t.now i).level ≡ 0
         → Within (boxOf (cell_at t.now i)) (boundsBox result) }
 {
-    if level_at(t, i) != 0 {
-        return b;
+    if level_at(t, i) == 0 {
+        b.widen(bounds_at(t, i))
+    } else {
+        b
     }
-    widen(b, bounds_at(t, i))
 }
 
 // A box that holds the roots from `from` below `to`.
@@ -90,10 +75,8 @@ fn block(t: &[i64], n: usize, from: usize, to: usize) -> Bounds
         x1: 0,
         y1: 0,
     };
-    let mut i = from;
-    while i < to {
+    for i in from..to {
         b = with_root(t, i, b);
-        i += 1;
     }
     b
 }
@@ -104,10 +87,7 @@ fn block_end(j: usize, top: usize) -> usize
     requires top_bound { top ≤ 16384 }
     ensures { (result ≤ top) × (result ≤ j * 64 + 64) × ((i : ℕ) → i < top → i < j * 64 + 64 → i < result) }
 {
-    if top < j * 64 + 64 {
-        return top;
-    }
-    j * 64 + 64
+    top.min(j * 64 + 64)
 }
 
 fn put_block(boxes: &mut [[u64; 4]], j: usize, b: Bounds)
@@ -124,30 +104,20 @@ pub fn index(t: &[i64], m: u64, n: usize, top: usize, boxes: &mut [[u64; 4]])
     requires roots_below { RootsBelow (table t.now n) top }
     ensures { Indexed top boxes.new (table t.now n) }
 {
-    let mut j = 0;
-    while j * 64 < top {
-        let to = block_end(j, top);
-        let b = block(t, n, j * 64, to);
+    for j in 0..top.div_ceil(64) {
+        let b = block(t, n, j * 64, block_end(j, top));
         put_block(boxes, j, b);
-        j += 1;
     }
 }
 
 // Whether block j lies apart from b, and with it every box that it holds.
+#[tactic(auto, using(crate::proofs::Meeting::apart))]
 fn apart(boxes: &[[u64; 4]], j: usize, b: Bounds) -> bool
     requires { j < length boxes.now }
     ensures { result ≡ true → Clears (boundsBox b) (blockBox boxes.now j) }
 {
-    if boxes[j][2] < b.x0 {
-        return true;
-    }
-    if b.x1 < boxes[j][0] {
-        return true;
-    }
-    if boxes[j][3] < b.y0 {
-        return true;
-    }
-    b.y1 < boxes[j][1]
+    let block = &boxes[j];
+    block[2] < b.x0 || b.x1 < block[0] || block[3] < b.y0 || b.y1 < block[1]
 }
 
 // Whether the ids from i on are a block that lies apart from b.
@@ -155,10 +125,7 @@ fn skips(boxes: &[[u64; 4]], i: usize, b: Bounds) -> bool
     requires { i / 64 < length boxes.now }
     ensures { result ≡ true → (i % 64 ≡ 0) × Clears (boundsBox b) (blockBox boxes.now (i / 64)) }
 {
-    if i % 64 != 0 {
-        return false;
-    }
-    apart(boxes, i / 64, b)
+    i % 64 == 0 && apart(boxes, i / 64, b)
 }
 
 // The first root from c on that meets the cell a, whose box is b; an id from top on, where there is none.
@@ -181,10 +148,9 @@ pub fn next_root(
     while i < top {
         if skips(boxes, i, b) {
             i += 64;
+        } else if root_meets(t, a, i) {
+            return i;
         } else {
-            if root_meets(t, a, i) {
-                return i;
-            }
             i += 1;
         }
     }

@@ -27,47 +27,30 @@ fn below(t: &[i64], i: usize, j: usize) -> bool
 }
 
 // False only if the closed boxes of two cells have no point in common: the numbers are compared as they stand.
+#[tactic(auto, using(crate::proofs::Numbers::lying))]
 pub fn meets_at(t: &[i64], a: usize, c: usize) -> bool
     requires a_in_bounds { (a * 8 + 8 ≤ length t.now) × (c * 8 + 8 ≤ length t.now) }
     requires a_value { (in_slot t.now a ≡ true) × (in_slot t.now c ≡ true) }
     ensures { result ≡ false
         → meet (boxOf (cell_at t.now a)) (boxOf (cell_at t.now c)) ≡ false }
 {
-    if below(t, c * 8 + 2, a * 8) {
-        return false;
-    }
-    if below(t, a * 8 + 2, c * 8) {
-        return false;
-    }
-    if below(t, c * 8 + 3, a * 8 + 1) {
-        return false;
-    }
-    if below(t, a * 8 + 3, c * 8 + 1) {
-        return false;
-    }
-    true
+    let apart = below(t, c * 8 + 2, a * 8)
+        || below(t, a * 8 + 2, c * 8)
+        || below(t, c * 8 + 3, a * 8 + 1)
+        || below(t, a * 8 + 3, c * 8 + 1);
+    !apart
 }
 
 // False only if the cell c is not, and does not hold, a leaf to be split for a: it does not meet a, or is not coarser
 // by more than k.
+#[tactic(auto, using(crate::proofs::Meeting::nearing))]
 fn near(t: &[i64], k: u64, a: usize, c: usize) -> bool
     requires a_in_bounds { (a * 8 + 8 ≤ length t.now) × (c * 8 + 8 ≤ length t.now) }
     requires a_value { (in_slot t.now a ≡ true) × (in_slot t.now c ≡ true) }
     ensures { result ≡ false
         → nearCells k (meshCell (cell_at t.now a)) (meshCell (cell_at t.now c)) ≡ false }
 {
-    if !meets_at(t, a, c) {
-        return false;
-    }
-    let low = level_at(t, c);
-    let high = level_at(t, a);
-    if high <= low {
-        return false;
-    }
-    if high - low <= k {
-        return false;
-    }
-    true
+    meets_at(t, a, c) && k < level_at(t, a).saturating_sub(level_at(t, c))
 }
 
 // The same of a root's box: false for any other cell.
@@ -77,10 +60,7 @@ pub fn root_meets(t: &[i64], a: usize, c: usize) -> bool
     ensures { result ≡ false → (cell_at t.now c).level ≡ 0
         → meet (boxOf (cell_at t.now a)) (boxOf (cell_at t.now c)) ≡ false }
 {
-    if level_at(t, c) != 0 {
-        return false;
-    }
-    meets_at(t, a, c)
+    level_at(t, c) == 0 && meets_at(t, a, c)
 }
 
 // Whether the leaf c is to be split for the leaf f.
@@ -92,20 +72,16 @@ fn due_at(t: &[i64], f: usize, c: usize, k: u64) -> bool
 }
 
 // c itself, if it is to be split for a and lies from `from` below `best`.
+#[tactic(auto, using(crate::proofs::Slots::own_least))]
 fn own(t: &[i64], k: u64, n: usize, a: usize, c: usize, from: usize, best: usize) -> usize
     requires { (n * 8 ≤ length t.now) × (a < n) × (c < n) }
     ensures { Least (due k (table t.now n) a) (λ b. c ≡ b) from best result }
 {
-    if c < from {
-        return best;
+    if from <= c && c < best && due_at(t, a, c, k) {
+        c
+    } else {
+        best
     }
-    if best <= c {
-        return best;
-    }
-    if due_at(t, a, c, k) {
-        return c;
-    }
-    best
 }
 
 // The least id from `from` below `best` of a leaf in the subtree of c that is to be split for a; best, where there is
@@ -132,10 +108,11 @@ fn least_under(
         return own(t, k, n, a, c, from, best);
     }
     let f = first as usize;
-    let r0 = least_under(t, m, k, n, a, f, from, best);
-    let r1 = least_under(t, m, k, n, a, f + 1, from, r0);
-    let r2 = least_under(t, m, k, n, a, f + 2, from, r1);
-    least_under(t, m, k, n, a, f + 3, from, r2)
+    let mut least = best;
+    for j in f..f + 4 {
+        least = least_under(t, m, k, n, a, j, from, least);
+    }
+    least
 }
 
 // An id that every root's is below: one past the last cell of level 0. Roots stand first in a table that was built,
@@ -144,14 +121,12 @@ pub fn roots_end(t: &[i64], m: u64, n: usize) -> usize
     requires { WellFormed t.now n m }
     ensures { (result ≤ n) × RootsBelow (table t.now n) result }
 {
-    let mut i = n;
-    while 0 < i {
-        if level_at(t, i - 1) == 0 {
-            return i;
+    for i in (0..n).rev() {
+        if level_at(t, i) == 0 {
+            return i + 1;
         }
-        i -= 1;
     }
-    i
+    0
 }
 
 // The least id from `from` below `stop` of a leaf that is to be split for a; stop, where there is none.
@@ -186,10 +161,7 @@ fn own_asks(t: &[i64], k: u64, n: usize, a: usize, c: usize, stop: usize) -> boo
     requires { (n * 8 ≤ length t.now) × (a < n) × (c < n) }
     ensures { Found (λ b. due k (table t.now n) b a) (λ b. c ≡ b) stop result }
 {
-    if stop <= c {
-        return false;
-    }
-    due_at(t, c, a, k)
+    c < stop && due_at(t, c, a, k)
 }
 
 // Whether a leaf in the subtree of c, of an id below stop, asks for a to be split.
@@ -206,16 +178,12 @@ fn any_under(t: &[i64], m: u64, k: u64, n: usize, a: usize, c: usize, stop: usiz
         return own_asks(t, k, n, a, c, stop);
     }
     let f = first as usize;
-    if any_under(t, m, k, n, a, f, stop) {
-        return true;
+    for j in f..f + 4 {
+        if any_under(t, m, k, n, a, j, stop) {
+            return true;
+        }
     }
-    if any_under(t, m, k, n, a, f + 1, stop) {
-        return true;
-    }
-    if any_under(t, m, k, n, a, f + 2, stop) {
-        return true;
-    }
-    any_under(t, m, k, n, a, f + 3, stop)
+    false
 }
 
 // Whether a leaf of an id below stop asks for a to be split.

@@ -13,15 +13,6 @@ use table::slots::{first_at, level_at};
 // One mark for each eight ids of the most slots that a table can have.
 pub const MARKS: usize = 2048;
 
-// Takes every mark away.
-pub fn clear(marks: &mut [bool]) {
-    let mut i = 0;
-    while i < marks.len() {
-        marks[i] = false;
-        i += 1;
-    }
-}
-
 // Marks the four ids from f on.
 pub fn mark_four(marks: &mut [bool], f: usize)
     requires { (f + 3 < 8 * length marks.old) × (length marks.old ≤ 2048) }
@@ -70,10 +61,9 @@ fn mark_under(
         return;
     }
     let f = first as usize;
-    mark_under(t, m, n, p, low, high, f, marks);
-    mark_under(t, m, n, p, low, high, f + 1, marks);
-    mark_under(t, m, n, p, low, high, f + 2, marks);
-    mark_under(t, m, n, p, low, high, f + 3, marks);
+    for j in f..f + 4 {
+        mark_under(t, m, n, p, low, high, j, marks);
+    }
 }
 
 // Marks each leaf that meets p and has a level from low to high.

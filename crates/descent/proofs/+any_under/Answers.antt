@@ -4,7 +4,6 @@ use Rattle.std.proofs.Common.{ℕ, ◌-◌, ◌+◌, ◌≡◌, ◌<◌}
 use mathlib.Core.Path.{sym, ap, subst, ◌∙◌}
 use mathlib.Core.Option.{some}
 use native.Mathlib.Omega.{arith}
-use Rattle.cell.specs.Boxes.{sw, se, nw, ne}
 use Rattle.table.specs.Slots.{cell_at}
 use Rattle.table.specs.Mesh.{table}
 use Rattle.coarsest.specs.Passes.{due}
@@ -29,69 +28,26 @@ returns-then-first-eq-NO_CELL t c =
     (λ b u d. under-leaf T c.args.c (leaf-slot c.args.t.now c.args.n c.args.c c.requires.a_lt_n.1
     (sym c.first_at-first.ensures ∙ c.if-first-eq-NO_CELL.true)) b u)
 
+pub overflow_add-j-end : goal.overflow_add-j-end
+overflow_add-j-end t c =
+    let f = c.first_at-first.result in
+    let k = kid-slot _ _ _ c.args.c f (f + 3) c.requires.well_formed c.requires.a_lt_n.1 c.first_at-first.ensures
+    c.if-first-eq-NO_CELL.false (omega arith) (omega arith) in
+    omega (arith, k.inside, c.requires.well_formed.slots, c.requires.well_formed.count)
+
 pub any_under-requires : goal.any_under-requires
 any_under-requires t c =
-    let f = c.first_at-first.result in
-    let k = kid-slot c.args.t.now c.args.n c.args.m c.args.c f c.requires.well_formed c.requires.a_lt_n.1
-    c.first_at-first.ensures c.if-first-eq-NO_CELL.false sw f (omega arith) in (
-      subst (λ (x : ℕ). c.args.m - (cell_at c.args.t.now f).level < x) c.decreases k.falls,
-      (c.requires.well_formed, (c.requires.a_lt_n.0, k.inside)),
-    )
-
-pub overflow_add-f : goal.overflow_add-f
-overflow_add-f t c =
-    let f = c.first_at-first.result in
-    let k = kid-slot c.args.t.now c.args.n c.args.m c.args.c f c.requires.well_formed c.requires.a_lt_n.1
-    c.first_at-first.ensures c.if-first-eq-NO_CELL.false se (f + 1) (omega arith) in
-    omega (arith, k.inside, c.requires.well_formed.slots, c.requires.well_formed.count)
-
-pub any_under-requires-2 : goal.any_under-requires-2
-any_under-requires-2 t c =
-    let f = c.first_at-first.result in
-    let k = kid-slot c.args.t.now c.args.n c.args.m c.args.c f c.requires.well_formed c.requires.a_lt_n.1
-    c.first_at-first.ensures c.if-first-eq-NO_CELL.false se (f + 1) (omega arith) in (
-      subst (λ (x : ℕ). c.args.m - (cell_at c.args.t.now (f + 1)).level < x) c.decreases k.falls,
-      (c.requires.well_formed, (c.requires.a_lt_n.0, k.inside)),
-    )
-
-pub overflow_add-f-2 : goal.overflow_add-f-2
-overflow_add-f-2 t c =
-    let f = c.first_at-first.result in
-    let k = kid-slot c.args.t.now c.args.n c.args.m c.args.c f c.requires.well_formed c.requires.a_lt_n.1
-    c.first_at-first.ensures c.if-first-eq-NO_CELL.false nw (f + 2) (omega arith) in
-    omega (arith, k.inside, c.requires.well_formed.slots, c.requires.well_formed.count)
-
-pub any_under-requires-3 : goal.any_under-requires-3
-any_under-requires-3 t c =
-    let f = c.first_at-first.result in
-    let k = kid-slot c.args.t.now c.args.n c.args.m c.args.c f c.requires.well_formed c.requires.a_lt_n.1
-    c.first_at-first.ensures c.if-first-eq-NO_CELL.false nw (f + 2) (omega arith) in (
-      subst (λ (x : ℕ). c.args.m - (cell_at c.args.t.now (f + 2)).level < x) c.decreases k.falls,
-      (c.requires.well_formed, (c.requires.a_lt_n.0, k.inside)),
-    )
-
-pub overflow_add-f-3 : goal.overflow_add-f-3
-overflow_add-f-3 t c =
-    let f = c.first_at-first.result in
-    let k = kid-slot c.args.t.now c.args.n c.args.m c.args.c f c.requires.well_formed c.requires.a_lt_n.1
-    c.first_at-first.ensures c.if-first-eq-NO_CELL.false ne (f + 3) (omega arith) in
-    omega (arith, k.inside, c.requires.well_formed.slots, c.requires.well_formed.count)
-
-pub any_under-requires-4 : goal.any_under-requires-4
-any_under-requires-4 t c =
-    let f = c.first_at-first.result in
-    let k = kid-slot c.args.t.now c.args.n c.args.m c.args.c f c.requires.well_formed c.requires.a_lt_n.1
-    c.first_at-first.ensures c.if-first-eq-NO_CELL.false ne (f + 3) (omega arith) in (
-      subst (λ (x : ℕ). c.args.m - (cell_at c.args.t.now (f + 3)).level < x) c.decreases k.falls,
+    let j = c.loop-j.j in
+    let k = kid-slot _ _ _ c.args.c c.first_at-first.result j c.requires.well_formed c.requires.a_lt_n.1
+    c.first_at-first.ensures c.if-first-eq-NO_CELL.false c.loop-j.auto.j c.loop-j-test.true in (
+      subst (λ (x : ℕ). c.args.m - (cell_at c.args.t.now j).level < x) c.decreases k.falls,
       (c.requires.well_formed, (c.requires.a_lt_n.0, k.inside)),
     )
 
 pub returns : goal.returns
 returns t c =
     let g = c.first_at-first in
-    found-kids (table c.args.t.now c.args.n) c.args.c g.result
+    found-kids _ g.result c.args.k c.args.a _ c.args.c c.loop-j.j
     (split-slot c.args.t.now c.args.n c.args.c c.requires.a_lt_n.1 (λ z. c.if-first-eq-NO_CELL.false (g.ensures ∙ z))
     ∙ ap some (sym g.ensures))
-    c.args.k c.args.a c.args.stop c.any_under.result c.any_under-2.result c.any_under-3.result c.any_under-4.result
-    c.if-any_under.false c.if-any_under-2.false c.if-any_under-3.false
-    c.any_under.ensures c.any_under-2.ensures c.any_under-3.ensures c.any_under-4.ensures
+    c.loop-j-test.false c.loop-j.invariant

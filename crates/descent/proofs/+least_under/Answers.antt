@@ -1,10 +1,9 @@
 -- A cell that is not near a holds nothing to be split for it, and the four children's subtrees hold all leaves of a
 -- split cell's.
 use Rattle.std.proofs.Common.{ℕ, ◌-◌, ◌+◌, ◌≡◌, ◌<◌}
-use mathlib.Core.Path.{sym, ap, subst, ◌∙◌}
+use mathlib.Core.Path.{sym, subst, ap, ◌∙◌}
 use mathlib.Core.Option.{some}
 use native.Mathlib.Omega.{arith}
-use Rattle.cell.specs.Boxes.{sw, se, nw, ne}
 use Rattle.table.specs.Slots.{cell_at}
 use Rattle.table.specs.Mesh.{table}
 use Rattle.coarsest.specs.Passes.{due}
@@ -28,69 +27,26 @@ returns-then-first-eq-NO_CELL t c =
     (λ b u d. under-leaf T c.args.c (leaf-slot c.args.t.now c.args.n c.args.c c.requires.a_lt_n.1
     (sym c.first_at-first.ensures ∙ c.if-first-eq-NO_CELL.true)) b u)
 
-pub least_under-r0-requires : goal.least_under-r0-requires
-least_under-r0-requires t c =
+pub overflow_add-j-end : goal.overflow_add-j-end
+overflow_add-j-end t c =
     let f = c.first_at-first.result in
-    let k = kid-slot c.args.t.now c.args.n c.args.m c.args.c f c.requires.well_formed c.requires.a_lt_n.1
-    c.first_at-first.ensures c.if-first-eq-NO_CELL.false sw f (omega arith) in (
-      subst (λ (x : ℕ). c.args.m - (cell_at c.args.t.now f).level < x) c.decreases k.falls,
-      (c.requires.well_formed, (c.requires.a_lt_n.0, k.inside)),
-    )
-
-pub overflow_add-f : goal.overflow_add-f
-overflow_add-f t c =
-    let f = c.first_at-first.result in
-    let k = kid-slot c.args.t.now c.args.n c.args.m c.args.c f c.requires.well_formed c.requires.a_lt_n.1
-    c.first_at-first.ensures c.if-first-eq-NO_CELL.false se (f + 1) (omega arith) in
+    let k = kid-slot _ _ _ c.args.c f (f + 3) c.requires.well_formed c.requires.a_lt_n.1 c.first_at-first.ensures
+    c.if-first-eq-NO_CELL.false (omega arith) (omega arith) in
     omega (arith, k.inside, c.requires.well_formed.slots, c.requires.well_formed.count)
 
-pub least_under-r1-requires : goal.least_under-r1-requires
-least_under-r1-requires t c =
-    let f = c.first_at-first.result in
-    let k = kid-slot c.args.t.now c.args.n c.args.m c.args.c f c.requires.well_formed c.requires.a_lt_n.1
-    c.first_at-first.ensures c.if-first-eq-NO_CELL.false se (f + 1) (omega arith) in (
-      subst (λ (x : ℕ). c.args.m - (cell_at c.args.t.now (f + 1)).level < x) c.decreases k.falls,
-      (c.requires.well_formed, (c.requires.a_lt_n.0, k.inside)),
-    )
-
-pub overflow_add-f-2 : goal.overflow_add-f-2
-overflow_add-f-2 t c =
-    let f = c.first_at-first.result in
-    let k = kid-slot c.args.t.now c.args.n c.args.m c.args.c f c.requires.well_formed c.requires.a_lt_n.1
-    c.first_at-first.ensures c.if-first-eq-NO_CELL.false nw (f + 2) (omega arith) in
-    omega (arith, k.inside, c.requires.well_formed.slots, c.requires.well_formed.count)
-
-pub least_under-r2-requires : goal.least_under-r2-requires
-least_under-r2-requires t c =
-    let f = c.first_at-first.result in
-    let k = kid-slot c.args.t.now c.args.n c.args.m c.args.c f c.requires.well_formed c.requires.a_lt_n.1
-    c.first_at-first.ensures c.if-first-eq-NO_CELL.false nw (f + 2) (omega arith) in (
-      subst (λ (x : ℕ). c.args.m - (cell_at c.args.t.now (f + 2)).level < x) c.decreases k.falls,
-      (c.requires.well_formed, (c.requires.a_lt_n.0, k.inside)),
-    )
-
-pub overflow_add-f-3 : goal.overflow_add-f-3
-overflow_add-f-3 t c =
-    let f = c.first_at-first.result in
-    let k = kid-slot c.args.t.now c.args.n c.args.m c.args.c f c.requires.well_formed c.requires.a_lt_n.1
-    c.first_at-first.ensures c.if-first-eq-NO_CELL.false ne (f + 3) (omega arith) in
-    omega (arith, k.inside, c.requires.well_formed.slots, c.requires.well_formed.count)
-
-pub least_under-requires : goal.least_under-requires
-least_under-requires t c =
-    let f = c.first_at-first.result in
-    let k = kid-slot c.args.t.now c.args.n c.args.m c.args.c f c.requires.well_formed c.requires.a_lt_n.1
-    c.first_at-first.ensures c.if-first-eq-NO_CELL.false ne (f + 3) (omega arith) in (
-      subst (λ (x : ℕ). c.args.m - (cell_at c.args.t.now (f + 3)).level < x) c.decreases k.falls,
+pub least_under-least-requires : goal.least_under-least-requires
+least_under-least-requires t c =
+    let j = c.loop-j.j in
+    let k = kid-slot _ _ _ c.args.c c.first_at-first.result j c.requires.well_formed c.requires.a_lt_n.1
+    c.first_at-first.ensures c.if-first-eq-NO_CELL.false c.loop-j.auto.j c.loop-j-test.true in (
+      subst (λ (x : ℕ). c.args.m - (cell_at c.args.t.now j).level < x) c.decreases k.falls,
       (c.requires.well_formed, (c.requires.a_lt_n.0, k.inside)),
     )
 
 pub returns : goal.returns
 returns t c =
     let g = c.first_at-first in
-    least-kids (table c.args.t.now c.args.n) c.args.c g.result
+    least-kids _ g.result _ _ _ _ c.args.c c.loop-j.j _
     (split-slot c.args.t.now c.args.n c.args.c c.requires.a_lt_n.1 (λ z. c.if-first-eq-NO_CELL.false (g.ensures ∙ z))
     ∙ ap some (sym g.ensures))
-    c.args.k c.args.a c.args.from c.args.best c.least_under-r0.result c.least_under-r1.result c.least_under-r2.result
-    c.least_under.result c.least_under-r0.ensures c.least_under-r1.ensures c.least_under-r2.ensures
-    c.least_under.ensures
+    c.loop-j-test.false c.loop-j.invariant

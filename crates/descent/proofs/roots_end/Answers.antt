@@ -10,17 +10,14 @@ use Rattle.descent.proofs.roots_end.Goals as goal
 pub loop-i-init : goal.loop-i-init
 loop-i-init c =
     let T = table c.args.t.now c.args.n in
-    (omega arith, subst (RootsBelow T) (length-table c.args.t.now c.args.n) (roots-all T))
+    subst (RootsBelow T) (length-table c.args.t.now c.args.n) (roots-all T)
 
 pub loop-i-preserved : goal.loop-i-preserved
 loop-i-preserved c =
     let l = c.loop-i in
     let T = table c.args.t.now c.args.n in
-    let g : 0 < l.i = c.loop-i-test.true in
     let e : l.i ≡ l.i - 1 + 1 = omega arith in
-    let h : l.i - 1 < c.args.n = omega (arith, l.invariant.0) in
-    let level = ap (λ (x : Cell). x.level) (at_table c.args.t.now c.args.n (l.i - 1) h) in (
-      omega (arith, l.invariant.0),
-      roots_less c.args.m T c.requires.cells (l.i - 1) (subst (RootsBelow T) e l.invariant.1)
-          (λ z. c.if-level_at-eq0.false (c.level_at.ensures ∙ sym level ∙ z)),
-    )
+    let h : l.i - 1 < c.args.n = omega arith in
+    let level = ap (λ (x : Cell). x.level) (at_table c.args.t.now c.args.n (l.i - 1) h) in
+    roots_less c.args.m T c.requires.cells (l.i - 1) (subst (RootsBelow T) e l.invariant)
+    (λ z. c.if-level_at-eq0.false (c.level_at.ensures ∙ sym level ∙ z))

@@ -1,11 +1,7 @@
 -- Every root's id is below i.
-use Rattle.std.proofs.Common.{◌≤◌}
 use Rattle.table.specs.Mesh.{table}
 use Rattle.descent.specs.Search.{RootsBelow}
 use Rattle.descent.proofs.roots_end.Given as goal
 
 abbrev pub invariant-loop-i : goal.invariant-loop-i
-invariant-loop-i l = (l.i ≤ l.n) × RootsBelow (table l.t l.n) l.i
-
-abbrev pub decreases-loop-i : goal.decreases-loop-i
-decreases-loop-i l = l.i
+invariant-loop-i l = RootsBelow (table l.t l.n) l.i

@@ -6,11 +6,8 @@ use Rattle.table.specs.Mesh.{Cell, table}
 use Rattle.table.proofs.Cells.{at_table}
 use Rattle.descent.specs.Search.{Clears, blockBox}
 use Rattle.descent.proofs.Slots.{meet-slots}
-use Rattle.descent.proofs.Boxes.{passed_none, passed-block, passed-one}
+use Rattle.descent.proofs.Boxes.{passed-block, passed-one}
 use Rattle.descent.proofs.index.next_root.Goals as goal
-
-pub loop-i-init : goal.loop-i-init
-loop-i-init c = (omega arith, passed_none (table c.args.t.now c.args.n) c.args.a c.args.c)
 
 pub loop-i-preserved-then-skips : goal.loop-i-preserved-then-skips
 loop-i-preserved-then-skips c =

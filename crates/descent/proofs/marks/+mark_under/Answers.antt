@@ -4,13 +4,12 @@ use Rattle.std.proofs.Common.{ℕ, ◌-◌, ◌+◌, ◌<◌}
 use mathlib.Core.Path.{sym, ap, subst, ◌∙◌}
 use mathlib.Core.Option.{some}
 use native.Mathlib.Omega.{arith}
-use Rattle.cell.specs.Boxes.{sw, se, nw, ne}
 use Rattle.table.specs.Slots.{cell_at}
 use Rattle.table.specs.Mesh.{Cell, table}
 use Rattle.table.proofs.Cells.{at_table}
 use Rattle.descent.specs.Search.{Under}
 use Rattle.descent.specs.Marks.{Wanted}
-use Rattle.descent.proofs.Marking.{marked-none, apart-unwanted, fine-unwanted, leaf-marked, kids-marked}
+use Rattle.descent.proofs.Marking.{marked-none, apart-unwanted, fine-unwanted, leaf-marked, next-marked, kids-marked}
 use Rattle.descent.proofs.Slots.{leaf-slot, split-slot, kid-slot, meet-slots}
 use Rattle.descent.proofs.marks.+mark_under.Goals as goal
 
@@ -40,99 +39,33 @@ returns-then-first-eq-NO_CELL t c =
     (leaf-slot c.args.t.now c.args.n c.args.c h (sym c.first_at-first.ensures ∙ c.if-first-eq-NO_CELL.true))
     (l ∙ sym c.level_at-level.ensures) c.mark_own.ensures
 
+pub overflow_add-j-end : goal.overflow_add-j-end
+overflow_add-j-end t c =
+    let f = c.first_at-first.result in
+    let k = kid-slot _ _ _ c.args.c f (f + 3) c.requires.well_formed c.requires.p_lt_n.0.1 c.first_at-first.ensures
+    c.if-first-eq-NO_CELL.false (omega arith) (omega arith) in
+    omega (arith, k.inside, c.requires.well_formed.slots, c.requires.well_formed.count)
+
 pub mark_under-requires : goal.mark_under-requires
 mark_under-requires t c =
-    let f = c.first_at-first.result in
-    let k = kid-slot c.args.t.now c.args.n c.args.m c.args.c f c.requires.well_formed c.requires.p_lt_n.0.1
-    c.first_at-first.ensures c.if-first-eq-NO_CELL.false sw f (omega arith) in (
-      subst (λ (x : ℕ). c.args.m - (cell_at c.args.t.now f).level < x) c.decreases k.falls,
+    let j = c.loop-j.j in
+    let k = kid-slot _ _ _ c.args.c c.first_at-first.result j c.requires.well_formed c.requires.p_lt_n.0.1
+    c.first_at-first.ensures c.if-first-eq-NO_CELL.false c.loop-j.auto.j c.loop-j-test.true in (
+      subst (λ (x : ℕ). c.args.m - (cell_at c.args.t.now j).level < x) c.decreases k.falls,
       (
         c.requires.well_formed,
-        (
-          (c.requires.p_lt_n.0.0, k.inside),
-          omega (arith, c.requires.p_lt_n.1),
-        ),
+        ((c.requires.p_lt_n.0.0, k.inside), omega (arith, c.requires.p_lt_n.1, c.loop-j.auto.marks)),
       ),
     )
 
-pub overflow_add-f : goal.overflow_add-f
-overflow_add-f t c =
-    let f = c.first_at-first.result in
-    let k = kid-slot c.args.t.now c.args.n c.args.m c.args.c f c.requires.well_formed c.requires.p_lt_n.0.1
-    c.first_at-first.ensures c.if-first-eq-NO_CELL.false se (f + 1) (omega arith) in
-    omega (arith, k.inside, c.requires.well_formed.slots, c.requires.well_formed.count)
-
-pub mark_under-requires-2 : goal.mark_under-requires-2
-mark_under-requires-2 t c =
-    let f = c.first_at-first.result in
-    let k = kid-slot c.args.t.now c.args.n c.args.m c.args.c f c.requires.well_formed c.requires.p_lt_n.0.1
-    c.first_at-first.ensures c.if-first-eq-NO_CELL.false se (f + 1) (omega arith) in (
-      subst (λ (x : ℕ). c.args.m - (cell_at c.args.t.now (f + 1)).level < x) c.decreases k.falls,
-      (
-        c.requires.well_formed,
-        (
-          (c.requires.p_lt_n.0.0, k.inside),
-          omega (arith, c.requires.p_lt_n.1, c.mark_under.ensures.size),
-        ),
-      ),
-    )
-
-pub overflow_add-f-2 : goal.overflow_add-f-2
-overflow_add-f-2 t c =
-    let f = c.first_at-first.result in
-    let k = kid-slot c.args.t.now c.args.n c.args.m c.args.c f c.requires.well_formed c.requires.p_lt_n.0.1
-    c.first_at-first.ensures c.if-first-eq-NO_CELL.false nw (f + 2) (omega arith) in
-    omega (arith, k.inside, c.requires.well_formed.slots, c.requires.well_formed.count)
-
-pub mark_under-requires-3 : goal.mark_under-requires-3
-mark_under-requires-3 t c =
-    let f = c.first_at-first.result in
-    let k = kid-slot c.args.t.now c.args.n c.args.m c.args.c f c.requires.well_formed c.requires.p_lt_n.0.1
-    c.first_at-first.ensures c.if-first-eq-NO_CELL.false nw (f + 2) (omega arith) in (
-      subst (λ (x : ℕ). c.args.m - (cell_at c.args.t.now (f + 2)).level < x) c.decreases k.falls,
-      (
-        c.requires.well_formed,
-        (
-          (c.requires.p_lt_n.0.0, k.inside),
-          omega (arith, c.requires.p_lt_n.1, c.mark_under.ensures.size, c.mark_under-2.ensures.size),
-        ),
-      ),
-    )
-
-pub overflow_add-f-3 : goal.overflow_add-f-3
-overflow_add-f-3 t c =
-    let f = c.first_at-first.result in
-    let k = kid-slot c.args.t.now c.args.n c.args.m c.args.c f c.requires.well_formed c.requires.p_lt_n.0.1
-    c.first_at-first.ensures c.if-first-eq-NO_CELL.false ne (f + 3) (omega arith) in
-    omega (arith, k.inside, c.requires.well_formed.slots, c.requires.well_formed.count)
-
-pub mark_under-requires-4 : goal.mark_under-requires-4
-mark_under-requires-4 t c =
-    let f = c.first_at-first.result in
-    let k = kid-slot c.args.t.now c.args.n c.args.m c.args.c f c.requires.well_formed c.requires.p_lt_n.0.1
-    c.first_at-first.ensures c.if-first-eq-NO_CELL.false ne (f + 3) (omega arith) in (
-      subst (λ (x : ℕ). c.args.m - (cell_at c.args.t.now (f + 3)).level < x) c.decreases k.falls,
-      (
-        c.requires.well_formed,
-        (
-          (c.requires.p_lt_n.0.0, k.inside),
-          omega (
-            arith,
-            c.requires.p_lt_n.1,
-            c.mark_under.ensures.size,
-            c.mark_under-2.ensures.size,
-            c.mark_under-3.ensures.size,
-          ),
-        ),
-      ),
-    )
+pub loop-j-preserved : goal.loop-j-preserved
+loop-j-preserved t c =
+    next-marked c.args.m _ c.requires.well_formed.cells _ _ _ c.args.c _ _ _ _ _ c.loop-j.invariant c.mark_under.ensures
 
 pub returns : goal.returns
 returns t c =
     let g = c.first_at-first in
-    kids-marked c.args.m (table c.args.t.now c.args.n) c.requires.well_formed.cells c.args.p c.args.low c.args.high
-    c.args.c g.result
+    kids-marked c.args.m _ c.requires.well_formed.cells _ _ _ c.args.c g.result c.loop-j.j _ _
     (split-slot c.args.t.now c.args.n c.args.c c.requires.p_lt_n.0.1 (λ z. c.if-first-eq-NO_CELL.false (g.ensures ∙ z))
     ∙ ap some (sym g.ensures))
-    c.args.marks.now c.mark_under.new.marks c.mark_under-2.new.marks c.mark_under-3.new.marks c.mark_under-4.new.marks
-    c.mark_under.ensures c.mark_under-2.ensures c.mark_under-3.ensures c.mark_under-4.ensures
+    c.loop-j-test.false c.loop-j.invariant
