@@ -1,12 +1,11 @@
 -- For every board in range: its rows are its board again, so what `write` puts is the record of the board, which reads as the board. Assumes nothing.
 use Prim.Native.Nat.{ℕ, ◌+◌, ◌*◌, ◌-◌, ◌^◌, ◌≤◌}
 use mathlib.Core.Path.{◌≡◌, refl, sym, ap, subst, ◌∙◌}
-use mathlib.Core.Bool.{Bool, true, false, not}
+use mathlib.Core.Bool.{true, not}
 use mathlib.Core.List.{List, [], ◌∷◌, map, map-append}
 use native.Mathlib.Omega.{arith}
 use lib.Dec.{T}
-use lib.Ieee as Ieee
-use lib.Ieee.{Float, nan, inf, fin, up, down, binary64, of_bits, is_nan, eq}
+use lib.Ieee.{binary64, of_bits, is_nan}
 use lib.Ieee.Bits.{to_bits-of_bits, nan_bits_is}
 use lib.ListN.{length, take, drop, length-map}
 use lib.Seq.{take_at, drop_at}
@@ -14,6 +13,7 @@ use borrow.Author.Tests.{eq-eqb, le-leb}
 use native.Mathlib.Nat.{mul-suc}
 use lib.Seq.{sets, sets-eq}
 use Rattle.board.proofs.RoundTrip.{round_trip}
+use Rattle.writing.proofs.Stores.{eq_self}
 use Rattle.writing.proofs.Records.{record-long}
 use lib.ListN.{length-append}
 use Rattle.refusals.specs.Said.{accepted}
@@ -39,18 +39,6 @@ entries-back (e ∷ es) = ap (λ l. e ∷ l) (entries-back es)
 ring-back : (ps : List Point) → ringOf (map pointRow ps) ≡ ps
 ring-back [] = refl
 ring-back (p ∷ ps) = ap (λ l. p ∷ l) (ring-back ps)
-
-same_sign : (s : Bool) → Ieee.eq (inf s) (inf s) ≡ true
-unfolding eq
-same_sign true = refl
-same_sign false = refl
-
-eq_self : (x : Float) → T (not (is_nan x)) → eq x x ≡ true
-unfolding eq is_nan
-eq_self nan h = absurd h
-eq_self (inf s) h = same_sign s
-eq_self (fin true m e) h = rw (eq-eqb (m * up e * down e) (m * up e * down e) refl) refl
-eq_self (fin false m e) h = rw (eq-eqb (m * up e * down e) (m * up e * down e) refl) refl
 
 sheet-back : (n : ℕ) → n ≤ sheetHigh → sheetBits (of_bits binary64 n) ≡ n
 sheet-back n h =

@@ -1,19 +1,15 @@
 -- Laws of bytes stored in a row. Assumes nothing.
-use Prim.Native.Nat.{ℕ, zero, suc, ◌+◌, ◌*◌, ◌-◌, ◌/◌, ◌%◌, ◌≤◌, ◌<◌, ◌^◌}
+use Prim.Native.Nat.{ℕ, zero, suc, ◌+◌, ◌*◌, ◌-◌, ◌/◌, ◌%◌, ◌≤◌, ◌<◌}
 use mathlib.Core.Path.{◌≡◌, refl, sym, ap, ◌∙◌}
 use mathlib.Core.List.{List, [], ◌∷◌, ◌++◌, map}
-use native.Mathlib.Nat.{mul-suc, mul-zero}
+use native.Mathlib.Nat.{mul-suc}
 use native.Mathlib.Omega.{arith}
 use native.Mathlib.Numerals.{add-one}
 use lib.ListN.{length, set, drop, get_or, length-drop}
-use mathlib.Core.Bool.{true, false, not, false≢true}
-use lib.Ieee.{Float, nan, inf, fin, eq, is_nan}
+use mathlib.Core.Bool.{Bool, true, false, not}
+use lib.Ieee.{Float, nan, inf, fin, up, down, eq, is_nan}
 use lib.Dec.{T}
-use lib.IntN.{ℤ, pos, negsuc, nat_abs, ◌-ℤ◌}
-use lib.Signed.{le_z, non_neg}
-use mir.Syntax.{w64}
-use mir.Val.{Fits, SFits, of_z}
-use borrow.Author.Tests.{le-ltb, leb-false}
+use borrow.Author.Tests.{eq-eqb}
 use lib.Seq.{sets, set_comm, drop-cons}
 use Rattle.board.proofs.Shapes.{sets-append}
 use Rattle.board.proofs.RoundTrip.{bytes-length}
@@ -26,20 +22,20 @@ set-behind l i j (x ∷ xs) b h =
     ap (λ m. sets m (suc i) xs) (set_comm l j i b x (λ e. omega arith)) ∙ set-behind (set l i x) (suc i) j xs b (omega arith)
 
 -- the last byte of a number, then the others
-pub bytes-turn : (out : List ℕ) (at i v : ℕ) → 0 < i → sets out at (bytes i v) ≡ sets (set out (at + (i - 1)) (v % 256)) at (bytes (i - 1) (v / 256))
+pub bytes_turn : (out : List ℕ) (at i v : ℕ) → 0 < i → sets out at (bytes i v) ≡ sets (set out (at + (i - 1)) (v % 256)) at (bytes (i - 1) (v / 256))
 unfolding bytes
-bytes-turn out at zero v h = absurd (omega arith)
-bytes-turn out at (suc k) v h =
+bytes_turn out at zero v h = absurd (omega arith)
+bytes_turn out at (suc k) v h =
     let e : suc k - 1 ≡ k = omega arith in
     let l = bytes-length k (v / 256) in
     rw e
     (sets-append out at (bytes k (v / 256)) (v % 256 ∷ []) ∙ ap (λ n. set (sets out at (bytes k (v / 256))) (at + n) (v % 256)) l
     ∙ sym (set-behind out at (at + k) (bytes k (v / 256)) (v % 256) (omega arith)))
 
-pub bytes-none : (out : List ℕ) (at i v : ℕ) → i ≤ 0 → sets out at (bytes i v) ≡ out
+pub bytes_none : (out : List ℕ) (at i v : ℕ) → i ≤ 0 → sets out at (bytes i v) ≡ out
 unfolding bytes
-bytes-none out at zero v h = refl
-bytes-none out at (suc i) v h = absurd (omega arith)
+bytes_none out at zero v h = refl
+bytes_none out at (suc i) v h = absurd (omega arith)
 
 -- ---- items one after another, k bytes each
 
@@ -62,9 +58,6 @@ module _ {A : Type 0} (f : A → List ℕ) (k : ℕ) (long : (x : A) → length 
       next : (from : ℕ) → from + k * i + k ≡ from + k * suc i
       next from = rw (mul-suc k i) (omega arith)
 
-  pub row-start : (out : List ℕ) (row : List A) (from : ℕ) → sets out (from + k * 0) (each f (drop 0 row)) ≡ sets out from (each f row)
-  row-start out row from = ap (λ n. sets out n (each f row)) (omega (arith, mul-zero k))
-
   pub row-end : (out : List ℕ) (row : List A) (at i : ℕ) → length row ≤ i → sets out at (each f (drop i row)) ≡ out
   unfolding each
   row-end out row at i h = ap (λ l. sets out at (each f l)) (nil (drop i row) (length-drop i row ∙ omega arith))
@@ -73,27 +66,44 @@ module _ {A : Type 0} (f : A → List ℕ) (k : ℕ) (long : (x : A) → length 
       nil [] e = refl
       nil (x ∷ l) e = absurd (omega arith)
 
+-- the same of what the items stand for
+module _ {A B : Type 0} (f : B → List ℕ) (g : A → B) (k : ℕ) (long : (x : B) → length (f x) ≡ k) (none : A) where
+  pub mapped-turn : (out : List ℕ) (row : List A) (from i : ℕ) → i < length row
+      → sets out (from + k * i) (each f (map g (drop i row)))
+      ≡ sets (sets out (from + k * i) (f (g (get_or row i none)))) (from + k * (i + 1)) (each f (map g (drop (i + 1) row)))
+  mapped-turn out row from i h =
+      rw (each_map f g (drop i row), each_map f g (drop (i + 1) row)) (row-turn (λ x. f (g x)) k (λ x. long (g x)) none out row from i h)
+
+  pub mapped-end : (out : List ℕ) (row : List A) (at i : ℕ) → length row ≤ i → sets out at (each f (map g (drop i row))) ≡ out
+  mapped-end out row at i h = rw (each_map f g (drop i row)) (row-end (λ x. f (g x)) k (λ x. long (g x)) none out row at i h)
+
+-- ids
+pub splits_turn : (out row : List ℕ) (from i : ℕ) → i < length row
+    → sets out (from + 4 * i) (each (bytes 4) (drop i row))
+    ≡ sets (sets out (from + 4 * i) (bytes 4 (get_or row i 0))) (from + 4 * (i + 1)) (each (bytes 4) (drop (i + 1) row))
+splits_turn = row-turn (bytes 4) 4 (bytes-length 4) 0
+
+pub splits_end : (out row : List ℕ) (at i : ℕ) → length row ≤ i → sets out at (each (bytes 4) (drop i row)) ≡ out
+splits_end = row-end (bytes 4) 4 (bytes-length 4) 0
+
 -- two parts put one after the other
 pub sets_then : {A : Type 0} {o m : List A} (l : List A) (at next : ℕ) (p r : List A) → next ≡ at + length p → m ≡ sets l at p → o ≡ sets m next r → o ≡ sets l at (p ++ r)
 sets_then l at next p r e f g = g ∙ ap (λ x. sets x next r) f ∙ ap (λ n. sets (sets l at p) n r) e ∙ sym (sets-append l at p r)
 
+-- a number and then others
+pub bytes_then : (l : List ℕ) (at k v : ℕ) (r : List ℕ) → sets l at (bytes k v ++ r) ≡ sets (sets l at (bytes k v)) (at + k) r
+bytes_then l at k v r = sym (sets_then l at (at + k) (bytes k v) r (omega (arith, bytes-length k v)) refl refl)
+
 -- a number equals itself
-pub no_nan : (x : Float) → eq x x ≡ true → T (not (is_nan x))
-unfolding is_nan eq
-no_nan nan h = absurd (false≢true h)
-no_nan (inf s) h = tt
-no_nan (fin s m e) h = tt
 
--- ---- the bits of a signed number
+same_sign : (s : Bool) → eq (inf s) (inf s) ≡ true
+unfolding eq
+same_sign true = refl
+same_sign false = refl
 
-pub up : (z : ℤ) → le_z (pos 0) z ≡ true → SFits w64 z → T (non_neg z) × Fits w64 (nat_abs z) × (nat_abs z ≡ of_z w64 z)
-up (pos n) h f = (tt, record { fits = omega (arith, f.sfits) }, refl)
-up (negsuc n) h f = absurd (false≢true h)
-
-back : (n : ℕ) → negsuc 0 -ℤ negsuc n ≡ pos n
-back n = let h : 1 ≤ suc n = omega arith in simp (le-ltb (suc n) 1 h) (ap pos (omega arith))
-
-pub down : (z : ℤ) → le_z (pos 0) z ≡ false → SFits w64 z
-    → SFits w64 (negsuc 0 -ℤ z) × T (non_neg (negsuc 0 -ℤ z)) × (nat_abs (negsuc 0 -ℤ z) < 2 ^ 63) × (2 ^ 64 - 1 - nat_abs (negsuc 0 -ℤ z) ≡ of_z w64 z)
-down (pos n) h f = absurd (omega (arith, leb-false 0 n h))
-down (negsuc n) h f = let b = f.sfits in rw (back n) (record { sfits = omega arith }, tt, omega arith, omega arith)
+pub eq_self : (x : Float) → T (not (is_nan x)) → eq x x ≡ true
+unfolding eq is_nan
+eq_self nan h = absurd h
+eq_self (inf s) h = same_sign s
+eq_self (fin true m e) h = rw (eq-eqb (m * up e * down e) (m * up e * down e) refl) refl
+eq_self (fin false m e) h = rw (eq-eqb (m * up e * down e) (m * up e * down e) refl) refl

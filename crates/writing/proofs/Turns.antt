@@ -10,15 +10,15 @@ use lib.Dec.{leb, eqb}
 use lib.IntN.{ℤ}
 use lib.Ieee.{Float, nan}
 use lib.ListN.{length, get_or, take, drop, length-append, length-map, length-drop}
-use lib.Seq.{sets, drop-cons, drop-drop, length-take-le}
+use lib.Seq.{sets, drop-cons, length-take-le}
 use borrow.Author.Tests.{leb-true, le-leb, lt-leb, eqb-true}
 use mir.Syntax.{w64}
 use mir.Val.{of_z}
 use Rattle.record.specs.Board.{Entry, Polygon, Point}
 use Rattle.board.specs.Writing.{bytes, each, entryBytes, pointBytes, polygonBytes}
 use Rattle.board.proofs.RoundTrip.{bytes-length}
-use Rattle.writing.specs.Boards.{entriesOf, ringOf, sheetBits, count_of, polygonsOf, addUp}
-use Rattle.writing.proofs.Stores.{sets_then}
+use Rattle.writing.specs.Boards.{entry_of, entriesOf, point_of, ringOf, sheetBits, count_of, polygonsOf, addUp}
+use Rattle.writing.proofs.Stores.{sets_then, mapped-turn, mapped-end}
 
 pub and_both : (a b : Bool) → (a && b) ≡ true → (a ≡ true) × (b ≡ true)
 and_both true b p = (refl, p)
@@ -57,40 +57,37 @@ head-long a b c d =
       bytes-length 2 d,
     )
 
-module _ (ps : List (List ℕ)) (rs : List Float) (qs : List (List ℤ)) (i at first n : ℕ) (h : i < length ps) (same : length ps ≡ length rs)
-    (counted : n ≡ count_of (get_or ps i [])) (room : first + n ≤ length qs) where
+module _ (ps : List (List ℕ)) (rs : List Float) (qs : List (List ℤ)) (i at n : ℕ) (h : i < length ps) (same : length ps ≡ length rs)
+    (counted : n ≡ count_of (get_or ps i [])) (room : n ≤ length qs) where
   here : Polygon
-  here = record { layer = get_or (get_or ps i []) 0 0; component = get_or (get_or ps i []) 1 0; sheet = sheetBits (get_or rs i nan); points = ringOf (take n (drop first qs)) }
+  here = record { layer = get_or (get_or ps i []) 0 0; component = get_or (get_or ps i []) 1 0; sheet = sheetBits (get_or rs i nan); points = ringOf (take n qs) }
 
-  next : polygonsOf (drop i ps) (drop i rs) (drop first qs) ≡ here ∷ polygonsOf (drop (i + 1) ps) (drop (i + 1) rs) (drop (first + n) qs)
+  next : polygonsOf (drop i ps) (drop i rs) qs ≡ here ∷ polygonsOf (drop (i + 1) ps) (drop (i + 1) rs) (drop n qs)
   unfolding polygonsOf here
   next =
-      ap (λ l. polygonsOf l (drop i rs) (drop first qs)) (drop-cons ps i [] h)
-      ∙ ap (λ l. polygonsOf (get_or ps i [] ∷ drop (suc i) ps) l (drop first qs)) (drop-cons rs i nan (omega arith))
-      ∙ rw (← counted, drop-drop n first qs, add-one i) refl
+      ap (λ l. polygonsOf l (drop i rs) qs) (drop-cons ps i [] h)
+      ∙ ap (λ l. polygonsOf (get_or ps i [] ∷ drop (suc i) ps) l qs) (drop-cons rs i nan (omega arith))
+      ∙ rw (← counted, add-one i) refl
 
-  few : length (take n (drop first qs)) ≡ n
-  few = length-take-le n (drop first qs) (omega (arith, length-drop first qs))
-
-  pub polygon-turn : (out head ring : List ℕ) (part : List (List ℤ)) → part ≡ take n (drop first qs)
+  -- the polygon of a turn: its head and then its ring, and what is left is put behind them
+  pub polygon-turn : (out head ring : List ℕ)
       → head ≡ sets out at (bytes 2 (get_or (get_or ps i []) 0 0) ++ (bytes 4 (get_or (get_or ps i []) 1 0) ++ (bytes 8 (sheetBits (get_or rs i nan)) ++ bytes 2 n)))
-      → ring ≡ sets head (at + 16) (each pointBytes (ringOf part))
-      → sets ring (at + (16 + 16 * n)) (each polygonBytes (polygonsOf (drop (i + 1) ps) (drop (i + 1) rs) (drop (first + n) qs)))
-      ≡ sets out at (each polygonBytes (polygonsOf (drop i ps) (drop i rs) (drop first qs)))
+      → ring ≡ sets head (at + 16) (each pointBytes (ringOf (take n qs)))
+      → sets ring (at + (16 + 16 * n)) (each polygonBytes (polygonsOf (drop (i + 1) ps) (drop (i + 1) rs) (drop n qs)))
+      ≡ sets out at (each polygonBytes (polygonsOf (drop i ps) (drop i rs) qs))
   unfolding each here
-  polygon-turn out head ring part e p r =
+  polygon-turn out head ring p r =
       let a = get_or (get_or ps i []) 0 0 in
       let b = get_or (get_or ps i []) 1 0 in
       let c = sheetBits (get_or rs i nan) in
       let t = bytes 2 a ++ (bytes 4 b ++ (bytes 8 c ++ bytes 2 n)) in
       let u = each pointBytes here.points in
-      let l : length here.points ≡ n = length-map (take n (drop first qs)) _ ∙ few in
+      let l : length here.points ≡ n = length-map (take n qs) _ ∙ length-take-le n qs room in
       let w : t ++ u ≡ polygonBytes here = regroup (bytes 2 a) (bytes 4 b) (bytes 8 c) (bytes 2 n) u ∙ ap (λ k. bytes 2 a ++ (bytes 4 b ++ (bytes 8 c ++ (bytes 2 k ++ u)))) (sym l) in
-      let v : ring ≡ sets out at (polygonBytes here) =
-      sets_then out at (at + 16) t u (omega (arith, head-long a b c n)) p (r ∙ ap (λ x. sets head (at + 16) (each pointBytes (ringOf x))) e) ∙ ap (sets out at) w in
+      let v : ring ≡ sets out at (polygonBytes here) = sets_then out at (at + 16) t u (omega (arith, head-long a b c n)) p r ∙ ap (sets out at) w in
       let z : 16 + 16 * n ≡ length (polygonBytes here) =
       omega (arith, ap length w, length-append t u, head-long a b c n, each-length pointBytes 16 point-long here.points, l) in
-      let rest = each polygonBytes (polygonsOf (drop (i + 1) ps) (drop (i + 1) rs) (drop (first + n) qs)) in
+      let rest = each polygonBytes (polygonsOf (drop (i + 1) ps) (drop (i + 1) rs) (drop n qs)) in
       sets_then out at (at + (16 + 16 * n)) (polygonBytes here) rest (ap (λ k. at + k) z) v refl ∙ ap (λ x. sets out at (each polygonBytes x)) (sym next)
 
 nil : {A : Type 0} (l : List A) → length l ≡ 0 → l ≡ []
@@ -105,17 +102,17 @@ polygons-end ps rs qs i at out h = ap (λ l. sets out at (each polygonBytes (pol
 -- ---- counts that add up
 
 module _ (ps : List (List ℕ)) (i m : ℕ) where
-  pub add-up-short : i < length ps → m < count_of (get_or ps i []) → addUp (drop i ps) m ≡ false
+  pub add_short : i < length ps → m < count_of (get_or ps i []) → addUp (drop i ps) m ≡ false
   unfolding addUp
-  add-up-short h l = ap (λ x. addUp x m) (drop-cons ps i [] h) ∙ rw (lt-leb (count_of (get_or ps i [])) m l) refl
+  add_short h l = ap (λ x. addUp x m) (drop-cons ps i [] h) ∙ rw (lt-leb (count_of (get_or ps i [])) m l) refl
 
-  pub add-up-next : i < length ps → count_of (get_or ps i []) ≤ m → addUp (drop i ps) m ≡ addUp (drop (i + 1) ps) (m - count_of (get_or ps i []))
+  pub add_next : i < length ps → count_of (get_or ps i []) ≤ m → addUp (drop i ps) m ≡ addUp (drop (i + 1) ps) (m - count_of (get_or ps i []))
   unfolding addUp
-  add-up-next h l = ap (λ x. addUp x m) (drop-cons ps i [] h) ∙ rw (le-leb (count_of (get_or ps i [])) m l, add-one i) refl
+  add_next h l = ap (λ x. addUp x m) (drop-cons ps i [] h) ∙ rw (le-leb (count_of (get_or ps i [])) m l, add-one i) refl
 
-  pub add-up-end : length ps ≤ i → addUp (drop i ps) m ≡ eqb m 0
+  pub add_end : length ps ≤ i → addUp (drop i ps) m ≡ eqb m 0
   unfolding addUp
-  add-up-end h = ap (λ x. addUp x m) (nil (drop i ps) (length-drop i ps ∙ omega arith))
+  add_end h = ap (λ x. addUp x m) (nil (drop i ps) (length-drop i ps ∙ omega arith))
 
 -- ---- lengths
 
@@ -152,3 +149,21 @@ polygons-long (p ∷ ps) (r ∷ rs) qs h e =
     let n : length x.points ≡ count_of p = length-map (take (count_of p) qs) _ ∙ length-take-le (count_of p) qs k in
     let i = polygons-long ps rs (drop (count_of p) qs) (omega arith) (ap (addUp ps) d ∙ b.1) in
     length-append (polygonBytes x) (each polygonBytes (polygonsOf ps rs (drop (count_of p) qs))) ∙ omega (arith, polygon-long x, n, i, d)
+
+-- ---- entries and points, turn by turn
+
+pub entries_turn : (out : List ℕ) (row : List (List ℕ)) (from i : ℕ) → i < length row
+    → sets out (from + 10 * i) (each entryBytes (entriesOf (drop i row)))
+    ≡ sets (sets out (from + 10 * i) (entryBytes (entry_of (get_or row i [])))) (from + 10 * (i + 1)) (each entryBytes (entriesOf (drop (i + 1) row)))
+entries_turn = mapped-turn entryBytes entry_of 10 entry-long []
+
+pub entries_end : (out : List ℕ) (row : List (List ℕ)) (at i : ℕ) → length row ≤ i → sets out at (each entryBytes (entriesOf (drop i row))) ≡ out
+entries_end = mapped-end entryBytes entry_of 10 entry-long []
+
+pub ring_turn : (out : List ℕ) (row : List (List ℤ)) (from i : ℕ) → i < length row
+    → sets out (from + 16 * i) (each pointBytes (ringOf (drop i row)))
+    ≡ sets (sets out (from + 16 * i) (pointBytes (point_of (get_or row i [])))) (from + 16 * (i + 1)) (each pointBytes (ringOf (drop (i + 1) row)))
+ring_turn = mapped-turn pointBytes point_of 16 point-long []
+
+pub ring_end : (out : List ℕ) (row : List (List ℤ)) (at i : ℕ) → length row ≤ i → sets out at (each pointBytes (ringOf (drop i row))) ≡ out
+ring_end = mapped-end pointBytes point_of 16 point-long []

@@ -11,8 +11,9 @@ use refusals::limits::{LAYERS, POLYGONS, RING_POINTS};
 
 mod put;
 
-// The record of a board, from the start of `out`, and how many bytes it took. Counts are judged, since they shape the record; a value that its field does not
-// hold is written by its low bytes, and a NaN for r_sheet as 0. For every board in range the record reads as the board again.
+// The record of a board, from the start of `out`, and how many bytes it took. Counts are judged, since they shape the
+// record; a value that its field does not hold is written by its low bytes, and a NaN for r_sheet as 0. For every board
+// in range the record reads as the board again.
 pub fn write(
     settings: Settings,
     layers: &[[u64; 2]],

@@ -7,30 +7,29 @@ ghost use Rattle.board.specs.Writing.{bytes, each, entryBytes, pointBytes, polyg
 ghost use Rattle.writing.specs.Boards.{entriesOf, ringOf, sheetBits, polygonsOf, addUp};
 
 // A number in `width` bytes, the last of them first. What is above them is lost.
+#[tactic(auto, using(crate::proofs::Stores::bytes_turn, crate::proofs::Stores::bytes_none))]
 pub fn put(out: &mut [u8], at: usize, width: usize, v: u64)
     requires { at + width ≤ length out.old }
     ensures { out.new ≡ sets out.old at (bytes width v) }
 {
     let mut rest = v;
-    let mut i = width;
-    while 0 < i {
-        i -= 1;
+    for i in (0..width).rev() {
         out[at + i] = (rest % 256) as u8;
-        rest = rest / 256;
+        rest /= 256;
     }
 }
 
+#[tactic(auto, using(crate::proofs::Stores::splits_turn, crate::proofs::Stores::splits_end))]
 pub fn put_splits(out: &mut [u8], start: usize, row: &[u64])
     requires { start + 4 * length row.now ≤ length out.old }
     ensures { out.new ≡ sets out.old start (each (bytes 4) row.now) }
 {
-    let mut i: usize = 0;
-    while i < row.len() {
-        put(out, start + 4 * i, 4, row[i]);
-        i += 1;
+    for (i, id) in row.iter().enumerate() {
+        put(out, start + 4 * i, 4, *id);
     }
 }
 
+#[tactic(auto, using(crate::proofs::Stores::bytes_then))]
 fn put_entry(out: &mut [u8], at: usize, layer: u64, cell: u64)
     requires { at + 10 ≤ length out.old }
     ensures { out.new ≡ sets out.old at (bytes 2 layer ++ bytes 8 cell) }
@@ -39,53 +38,44 @@ fn put_entry(out: &mut [u8], at: usize, layer: u64, cell: u64)
     put(out, at + 2, 8, cell);
 }
 
+#[tactic(auto, using(crate::proofs::Turns::entries_turn, crate::proofs::Turns::entries_end))]
 pub fn put_layers(out: &mut [u8], start: usize, row: &[[u64; 2]])
     requires { start + 10 * length row.now ≤ length out.old }
     ensures { out.new ≡ sets out.old start (each entryBytes (entriesOf row.now)) }
 {
-    let mut i: usize = 0;
-    while i < row.len() {
-        put_entry(out, start + 10 * i, row[i][0], row[i][1]);
-        i += 1;
+    for (i, entry) in row.iter().enumerate() {
+        put_entry(out, start + 10 * i, entry[0], entry[1]);
     }
 }
 
-// The 64 bits of a signed number, in two's complement.
-fn bits(z: i64) -> u64
-    ensures { result ≡ of_z w64 z }
-{
-    if z >= 0 {
-        return z as u64;
-    }
-    18446744073709551615 - ((-1 - z) as u64)
-}
-
+#[tactic(auto, using(crate::proofs::Stores::bytes_then))]
 fn put_point(out: &mut [u8], at: usize, x: i64, y: i64)
     requires { at + 16 ≤ length out.old }
     ensures { out.new ≡ sets out.old at (bytes 8 (of_z w64 x) ++ bytes 8 (of_z w64 y)) }
 {
-    put(out, at, 8, bits(x));
-    put(out, at + 8, 8, bits(y));
+    put(out, at, 8, x.cast_unsigned());
+    put(out, at + 8, 8, y.cast_unsigned());
 }
 
+#[tactic(auto, using(crate::proofs::Turns::ring_turn, crate::proofs::Turns::ring_end))]
 pub fn put_ring(out: &mut [u8], start: usize, row: &[[i64; 2]])
     requires { start + 16 * length row.now ≤ length out.old }
     ensures { out.new ≡ sets out.old start (each pointBytes (ringOf row.now)) }
 {
-    let mut i: usize = 0;
-    while i < row.len() {
-        put_point(out, start + 16 * i, row[i][0], row[i][1]);
-        i += 1;
+    for (i, point) in row.iter().enumerate() {
+        put_point(out, start + 16 * i, point[0], point[1]);
     }
 }
 
+#[tactic(auto, using(crate::proofs::Stores::eq_self))]
 fn sheet_bits(r: f64) -> u64
     ensures { result ≡ sheetBits r }
 {
-    if r == r { f64::to_bits(r) } else { 0 }
+    if r.is_nan() { 0 } else { r.to_bits() }
 }
 
 // A polygon but for its points.
+#[tactic(auto, using(crate::proofs::Stores::bytes_then))]
 fn put_head(out: &mut [u8], at: usize, layer: u64, component: u64, sheet: u64, count: u64)
     requires { at + 16 ≤ length out.old }
     ensures { out.new ≡ sets out.old at (bytes 2 layer ++ (bytes 4 component ++ (bytes 8 sheet ++ bytes 2 count))) }
@@ -109,44 +99,35 @@ pub fn put_polygons(
     ensures { out.new ≡ sets out.old start (each polygonBytes (polygonsOf polygons.now sheets.now points.now)) }
 {
     let mut at = start;
-    let mut first: usize = 0;
-    let mut i: usize = 0;
-    while i < polygons.len() {
-        let count = polygons[i][2];
-        let n = count as usize;
-        put_head(
-            out,
-            at,
-            polygons[i][0],
-            polygons[i][1],
-            sheet_bits(sheets[i]),
-            count,
-        );
-        put_ring(out, at + 16, &points[first..first + n]);
-        at += 16 + 16 * n;
-        first += n;
-        i += 1;
+    let mut left = points;
+    for i in 0..polygons.len() {
+        let [layer, component, count] = polygons[i];
+        put_head(out, at, layer, component, sheet_bits(sheets[i]), count);
+        let (ring, others) = left.split_at(count as usize);
+        put_ring(out, at + 16, ring);
+        at += 16 + 16 * ring.len();
+        left = others;
     }
 }
 
 // Whether the point counts add up to so many points.
+#[tactic(auto, using(crate::proofs::Turns::add_short, crate::proofs::Turns::add_next, crate::proofs::Turns::add_end))]
 pub fn add_up(polygons: &[[u64; 3]], points: usize) -> bool
     ensures { result ≡ addUp polygons.now points }
 {
     let mut left = points;
-    let mut i: usize = 0;
-    while i < polygons.len() {
-        let count = polygons[i][2] as usize;
+    for p in polygons {
+        let count = p[2] as usize;
         if left < count {
             return false;
         }
         left -= count;
-        i += 1;
     }
     left == 0
 }
 
 // The first fields, with the length of all that follows it.
+#[tactic(auto, using(crate::proofs::Stores::bytes_then))]
 pub fn put_settings(out: &mut [u8], rest: u64, level: u64, cap: u64, target: u64)
     requires { 16 ≤ length out.old }
     ensures { out.new ≡ sets out.old 0 (bytes 1 1 ++ (bytes 4 rest ++ (bytes 1 level ++ (bytes 2 cap ++ bytes 8 target)))) }

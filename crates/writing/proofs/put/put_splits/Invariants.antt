@@ -1,15 +1,11 @@
 -- The ids still to be put make the row what it is to be.
-use Prim.Native.Nat.{◌≤◌, ◌+◌, ◌*◌, ◌-◌}
+use Prim.Native.Nat.{◌+◌, ◌*◌}
 use mathlib.Core.Path.{◌≡◌}
-use lib.ListN.{length, drop}
+use lib.ListN.{drop}
 use lib.Seq.{sets}
 use Rattle.board.specs.Writing.{bytes, each}
 use Rattle.writing.proofs.put.put_splits.Given as goal
 
 abbrev pub invariant-loop-i : goal.invariant-loop-i
 invariant-loop-i l =
-    (l.i ≤ length l.row) ×
     (sets l.out (l.start + 4 * l.i) (each (bytes 4) (drop l.i l.row)) ≡ sets l.fn.out l.start (each (bytes 4) l.row))
-
-abbrev pub decreases-loop-i : goal.decreases-loop-i
-decreases-loop-i l = length l.row - l.i
