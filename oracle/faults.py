@@ -4,8 +4,9 @@
     faults.py [WORD...]    only the faults whose line has one of the words
 
 Each fault is an edit of one file. `rt try` then runs the replay program that is named, with no proof, and what it
-writes compiled at -O3 is held to the stored answers. Printed is the first stored case that differs, by its name and its
-line in `stdout`. Exit status 1 if a fault survives or an edit no longer fits. Not in the gate: each takes some seconds.
+writes compiled with checks is held to the stored answers. Printed is the first stored case that differs, by its name
+and its line in `stdout`, or where the checks stopped the program, which has written nothing then. Exit status 1 if a
+fault survives or an edit no longer fits. Not in the gate: each takes half a minute.
 
 Of replay_table, replay_net and replay_boards only the cases at the limits are run, which stand in front.
 """
@@ -28,17 +29,15 @@ CHECK = "record/src/check.rt"
 JUDGE = "network/src/judge.rt"
 NETWORK = "network/src/lib.rt"
 
-SHEETS = """    if let judge::Sheet::Bad(p) = judge::judge_sheets(sheets) {
-        return Netted::Refused(Refusal::OutOfRange(p));
-    }
+SHEETS = """    judge::judge_sheets(sheets)?;
 """
 ROOM = """    let l = table::leaves::count_leaves(t, head.count);
     if !judge::roomy(l, nodes.len(), conductances.len(), cells.len(), work.len()) {
-        return Netted::Refused(Refusal::NoRoom);
+        return Err(Refusal::NoRoom);
     }
 """
 POLYGON_COUNT = """    if limits::POLYGONS < layers.len() {
-        return Netted::Refused(Refusal::OutOfRange(0));
+        return Err(Refusal::OutOfRange(0));
     }
 """
 
@@ -49,13 +48,13 @@ FAULTS = [
     ("length of whole slots dropped", TABLE, FORMED, " & (size % 8 == 0)", ""),
     ("16,385 slots", TABLE, FORMED, " & (size / 8 <= limits::SLOTS)", ""),
     ("count past the slots", TABLE, FORMED, " & (n <= size / 8)", ""),
-    ("spare slots not looked at", TABLE, FORMED, "rest_zero(t, n) & cells_ok", "cells_ok"),
+    ("spare slots not looked at", TABLE, FORMED, "rest_zero(t, n) && cells_ok", "cells_ok"),
     ("a spare slot's last number not looked at", TABLE, FORMED, "\n        & is_at(t, b + 7, 0)", ""),
     ("root of any level", TABLE, FORMED, "(c.level == 0) & side_ok(step, c.x0", "side_ok(step, c.x0"),
     ("root of any width", TABLE, FORMED, " & side_ok(step, c.x0, c.x1)", ""),
     ("root of any height", TABLE, FORMED, " & side_ok(step, c.y0, c.y1)", ""),
-    ("root of no width", TABLE, FORMED, "if a < b {", "if a <= b {"),
-    ("step 2^m in a table", TABLE, FORMED, "let mut p: u64 = 2;", "let mut p: u64 = 1;"),
+    ("root of no width", TABLE, FORMED, "a < b && ", "a <= b && "),
+    ("step 2^m in a table", TABLE, FORMED, "2 << m", "1 << m"),
     ("root's numbers of any range", TABLE, FORMED, "if !in_slot(t, i) {", "if n < i {"),
     ("root's x0 of any range", TABLE, SLOTS, "in_range_at(t, b)\n        & ", ""),
     ("root's y0 of any range", TABLE, SLOTS, "\n        & in_range_at(t, b + 1)", ""),
@@ -75,8 +74,8 @@ FAULTS = [
     ("child's polygon not looked at", TABLE, FORMED, "\n        & is_at(t, b + 7, poly)", ""),
     ("first child of another parent", TABLE, FORMED, "((i < g) & is_at(t, g * 8 + 5, i as i64))", "(i < g)"),
     ("a child's children not looked at", TABLE, FORMED, "led(t, n, i) & led(t, n, i + 1) & ", "led(t, n, i + 1) & "),
-    ("fewer than four children", TABLE, FORMED, "if n - i < 4 {", "if n < i {"),
-    ("parent not before its children", TABLE, FORMED, "if i as u64 <= p {", "if p == Cell::NO_CELL {"),
+    ("fewer than four children", TABLE, FORMED, "if n - i < 4 || ", "if n < i || "),
+    ("parent not before its children", TABLE, FORMED, " || i as u64 <= p {", " || p == Cell::NO_CELL {"),
     ("not one of its parent's four", TABLE, FORMED, "is_at(t, q * 8 + 6, i as i64) & kids_ok", "kids_ok"),
     ("level 13", BOARDS, LIMITS, "MAX_LEVEL: u64 = 12;", "MAX_LEVEL: u64 = 13;"),
     ("level 11", BOARDS, LIMITS, "MAX_LEVEL: u64 = 12;", "MAX_LEVEL: u64 = 11;"),
@@ -84,8 +83,8 @@ FAULTS = [
     ("255 polygons", BOARDS, CHECK, "0, POLYGONS as u64)", "0, POLYGONS as u64 - 1)"),
     ("step 2^m", BOARDS, "build/src/grid.rt", "1u64 << (max_level + 1)", "1u64 << max_level"),
     ("255 means 4", BOARDS, LIMITS, "DEFAULT_LEVEL: u64 = 3;", "DEFAULT_LEVEL: u64 = 4;"),
-    ("254 means 3", BOARDS, CHECK, "if v == 255 {", "if v >= 254 {"),
-    ("equal layers", BOARDS, CHECK, "least = l + 1;", "least = l;"),
+    ("254 means 3", BOARDS, CHECK, "255 => Ok(", "v if v >= 254 => Ok("),
+    ("equal layers", BOARDS, CHECK, "r.ranged(2, least, 65535)? + 1;", "r.ranged(2, least, 65535)?;"),
     ("r_sheet above 2^40", BOARDS, LIMITS, "0x4270_0000_0000_0000", "0x4270_0000_0000_0001"),
     ("r_sheet 2^40 refused", BOARDS, LIMITS, "0x4270_0000_0000_0000", "0x426f_ffff_ffff_ffff"),
     ("r_sheet below 2^-40", BOARDS, LIMITS, "0x3d70_0000_0000_0000", "0x3d6f_ffff_ffff_ffff"),
@@ -109,7 +108,7 @@ FAULTS = [
     ("network: 257 polygons", NET, NETWORK, "limits::POLYGONS < layers", "limits::POLYGONS + 1 < layers"),
     ("network: 256 polygons refused", NET, NETWORK, "limits::POLYGONS < layers", "limits::POLYGONS <= layers"),
     ("network: no sheet judged", NET, NETWORK, SHEETS, ""),
-    ("network: the last bad sheet", NET, JUDGE, "return Sheet::Bad(p);", "return Sheet::Bad(sheets.len() - 1);"),
+    ("network: the last bad sheet", NET, JUDGE, "OutOfRange(p)", "OutOfRange(sheets.len() - 1)"),
     ("network: a sheet above 2^40", NET, LIMITS, "1099511627776.0", "1099511627776.001"),
     ("network: a node short", NET, JUDGE, "4 * l <= nodes / 4", "4 * l <= nodes / 4 + 1"),
     ("network: an edge short", NET, JUDGE, "8 * l <= edges", "8 * l <= edges + 1"),
@@ -169,17 +168,24 @@ def cut(folder, program):
 
 
 def tried(folder, program):
-    """What rt says of the program compiled at -O3: None if all is as stored, else where it differs."""
-    run = subprocess.run(["rt", "try", program], cwd=folder, capture_output=True, text=True, errors="replace")
-    said = run.stdout + run.stderr
-    found = re.search(r"^(ok|FAIL): the native program at -O3.*$", said, re.M)
-    if not found:
+    """None if the program writes all as stored, else the byte where it differs (-1: it was stopped) and what rt says.
+
+    The interpreter wouldn't come to a stream's end, so it gets one step.
+    """
+    crate = os.path.join(folder, "crates", program)
+    with open(os.path.join(crate, "stdin"), "rb") as stdin:
+        run = subprocess.run(["rt", "try", "--steps", "1"], cwd=crate, stdin=stdin, capture_output=True)
+    said = run.stderr.decode(errors="replace")
+    stopped = re.search(r"^checked: (fault.*?)(?: at=.*)?$", said, re.M)
+    if stopped:
+        return -1, stopped.group(1)
+    ended = re.search(r"^run=ended status=.*$", said, re.M)
+    if not ended:
         raise ValueError(said)
-    if found.group(1) == "ok":
+    stored = read(os.path.join(crate, "stdout"))
+    if run.returncode == 0 and run.stdout == stored:
         return None
-    rest = said[found.end() :].split("\nok:")[0].split("\nFAIL:")[0]
-    byte = re.search(r"on standard output, at byte (\d+)", rest)
-    return (int(byte.group(1)) if byte else -1), found.group(0)
+    return len(os.path.commonprefix([run.stdout, stored])), ended.group(0)
 
 
 def case_at(folder, program, byte):
@@ -202,7 +208,7 @@ def result_of(folder, fault):
     try:
         differs = tried(folder, program)
     except ValueError as why:
-        return f"NOT COMPILED: {str(why)[:300]}", False
+        return f"NOT COMPILED, or no answer: {str(why)[:300]}", False
     finally:
         write(path, before)
     if differs is None:
@@ -216,13 +222,15 @@ def main():
     faults = [fault for fault in FAULTS if not words or any(word in " ".join(fault[:3]) for word in words)]
     folder = tempfile.mkdtemp()
     try:
-        shutil.copytree(os.path.join(ROOT, "crates"), os.path.join(folder, "crates"))
+        kept_work = shutil.ignore_patterns("out")
+        shutil.copytree(os.path.join(ROOT, "crates"), os.path.join(folder, "crates"), ignore=kept_work)
         shutil.copy(os.path.join(ROOT, "crates.txt"), folder)
         for program in (TABLE, NET, BOARDS):
             cut(folder, program)
         for program in sorted({fault[1] for fault in faults}):
-            if tried(folder, program) is not None:
-                raise SystemExit(f"{program} differs from its stored answers without a fault")
+            differs = tried(folder, program)
+            if differs is not None:
+                raise SystemExit(f"{program} differs from its stored answers without a fault: {differs}")
         missed = 0
         for fault in faults:
             said, caught = result_of(folder, fault)
