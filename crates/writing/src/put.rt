@@ -57,7 +57,7 @@ fn put_point(out: &mut [u8], at: usize, x: i64, y: i64)
     put(out, at + 8, 8, y.cast_unsigned());
 }
 
-#[tactic(auto, using(crate::proofs::Turns::ring_turn, crate::proofs::Turns::ring_end))]
+#[tactic(auto, using(crate::proofs::Turns::ring_end))]
 pub fn put_ring(out: &mut [u8], start: usize, row: &[[i64; 2]])
     requires { start + 16 * length row.now ≤ length out.old }
     ensures { out.new ≡ sets out.old start (each pointBytes (ringOf row.now)) }

@@ -1,0 +1,24 @@
+use Prim.Native.Nat.{◌+◌, ◌*◌}
+use mathlib.Core.Path.{sym, ap, ◌∙◌}
+use mathlib.Core.List.{[]}
+use lib.IntN.{pos}
+use lib.ListN.{drop, get_or}
+use lib.Seq.{sets}
+use mir.Syntax.{w64}
+use mir.Val.{SFits}
+use mir.Facts.{to_z-of_z}
+use Rattle.std.proofs.Common.{rules}
+use Rattle.board.specs.Writing.{each, pointBytes}
+use Rattle.writing.specs.Boards.{ringOf}
+use Rattle.writing.proofs.Turns.{ring_turn}
+use Rattle.writing.proofs.put.put_ring.Goals as goal
+
+pub loop-i-preserved : goal.loop-i-preserved
+loop-i-preserved c =
+    let l = c.loop-i in
+    let a = c.args in
+    let x : SFits w64 (get_or (get_or a.row.now l.i []) 0 (pos 0)) = search rules in
+    let y : SFits w64 (get_or (get_or a.row.now l.i []) 1 (pos 0)) = search rules in
+    let e = simp (to_z-of_z x, to_z-of_z y) at c.put_point.ensures in
+    ap (λ o. sets o (a.start + 16 * (l.i + 1)) (each pointBytes (ringOf (drop (l.i + 1) a.row.now)))) e
+    ∙ sym (ring_turn l.out a.row.now a.start l.i c.loop-i-test.true) ∙ l.invariant
