@@ -39,10 +39,10 @@ extern "C" {
 #endif
 
 /* The version of this header and its library; CHANGELOG.md says what changed. */
-#define LEAFMESH_VERSION "0.2.0"
+#define LEAFMESH_VERSION "0.2.1"
 #define LEAFMESH_VERSION_MAJOR 0
 #define LEAFMESH_VERSION_MINOR 2
-#define LEAFMESH_VERSION_PATCH 0
+#define LEAFMESH_VERSION_PATCH 1
 
 /* Ranges. */
 #define LEAFMESH_COORDINATE 68719476736LL /* coordinates lie from minus this to this: 2^36 ticks */
