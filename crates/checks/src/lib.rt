@@ -278,7 +278,9 @@ fn put_finer(nodes: &[i64], f: usize, work: &mut [u64], from: usize, to: usize)
     requires f_bound { (f < 4) × (nodeCount nodes.now ≤ maxNodes) }
     requires nodes_bound { (from + nodeCount nodes.now ≤ to) × (to + nodeCount nodes.now ≤ length work.old) }
     requires small { Small maxNodes (part work.old from (nodeCount nodes.now)) }
-    ensures { work.new ≡ put work.old to (tab (λ i. get_or work.old (from + i) 0 * wide + off (get_or nodes.now (i * 4 + f) (pos 0))) (nodeCount nodes.now)) }
+    ensures { work.new
+        ≡ put work.old to (tab (λ i. get_or work.old (from + i) 0 * wide + off (get_or nodes.now (i * 4 + f)
+        (pos 0))) (nodeCount nodes.now)) }
 {
     for i in 0..nodes.len() / 4 {
         let v = cell::ticks::offset(nodes[i * 4 + f]);
@@ -323,8 +325,10 @@ fn make_classes(own: bool, nodes: &[i64], work: &mut [u64])
 fn make_finer(nodes: &[i64], f: usize, work: &mut [u64], at: usize)
     requires f_bound { (f < 4) × (nodeCount nodes.now ≤ maxNodes) }
     requires nodes_in_bounds { at + 6 * nodeCount nodes.now ≤ length work.old }
-    requires nodes_value { part work.old (at + (nodeCount nodes.now + nodeCount nodes.now)) (nodeCount nodes.now) ≡ tab (last_of (part work.old at (nodeCount nodes.now))) (nodeCount nodes.now) }
-    ensures { Made (finer (part work.old at (nodeCount nodes.now)) nodes.now f) work.old work.new (at + 3 * nodeCount nodes.now) (nodeCount nodes.now) }
+    requires nodes_value { part work.old (at + (nodeCount nodes.now + nodeCount nodes.now)) (nodeCount nodes.now)
+        ≡ tab (last_of (part work.old at (nodeCount nodes.now))) (nodeCount nodes.now) }
+    ensures { Made (finer (part work.old at (nodeCount nodes.now)) nodes.now f) work.old work.new
+        (at + 3 * nodeCount nodes.now) (nodeCount nodes.now) }
 {
     let n = nodes.len() / 4;
     let to = at + 3 * n;
@@ -386,8 +390,12 @@ fn check(
     work: &mut [u64],
 ) -> Result<Fault, Refusal>
     requires { roomy (nodeCount nodes.now) (length ends.now / 2) (length work.old) ≡ true }
-    ensures said { checkedSaid result ≡ ownSays own t.now head.count head.max_level (netOf nodes.now ends.now conductances.now corners.now sheets.now) layers.now components.now }
-    ensures work_after { work.new ≡ workRow (nodeCount nodes.now) (length ends.now / 2) (passes own t.now head.count head.max_level (netOf nodes.now ends.now conductances.now corners.now sheets.now) layers.now components.now) work.old }
+    ensures said { checkedSaid result
+        ≡ ownSays own t.now head.count head.max_level
+        (netOf nodes.now ends.now conductances.now corners.now sheets.now) layers.now components.now }
+    ensures work_after { work.new
+        ≡ workRow (nodeCount nodes.now) (length ends.now / 2) (passes own t.now head.count head.max_level
+        (netOf nodes.now ends.now conductances.now corners.now sheets.now) layers.now components.now) work.old }
 {
     let n = head.count;
     if !table::formed::well_formed(t, head)
@@ -414,8 +422,13 @@ pub fn check_network_conforming(
     sheets: &[f64],
     work: &mut [u64],
 ) -> Result<Fault, Refusal>
-    ensures result_value { checkedSaid result ≡ conformingSays t.now head.count head.max_level (netOf nodes.now ends.now conductances.now corners.now sheets.now) }
-    ensures work_after { work.new ≡ workRow (nodeCount nodes.now) (length ends.now / 2) (wellFormed t.now head.count head.max_level && soundNet (netOf nodes.now ends.now conductances.now corners.now sheets.now)) work.old }
+    ensures result_value { checkedSaid result
+        ≡ conformingSays t.now head.count head.max_level
+        (netOf nodes.now ends.now conductances.now corners.now sheets.now) }
+    ensures work_after { work.new
+        ≡ workRow (nodeCount nodes.now) (length ends.now / 2)
+        (wellFormed t.now head.count head.max_level && soundNet
+        (netOf nodes.now ends.now conductances.now corners.now sheets.now)) work.old }
 {
     if !has_room(nodes, ends, work) {
         return conforming::check_network_conforming(
@@ -459,8 +472,14 @@ pub fn check_by_layer(
     components: &[u32],
     work: &mut [u64],
 ) -> Result<Fault, Refusal>
-    ensures result_value { checkedSaid result ≡ layersSays t.now head.count head.max_level (netOf nodes.now ends.now conductances.now corners.now sheets.now) layers.now components.now }
-    ensures work_after { work.new ≡ workRow (nodeCount nodes.now) (length ends.now / 2) (wellFormed t.now head.count head.max_level && soundNet (netOf nodes.now ends.now conductances.now corners.now sheets.now) && polygonsFit t.now head.count layers.now components.now) work.old }
+    ensures result_value { checkedSaid result
+        ≡ layersSays t.now head.count head.max_level
+        (netOf nodes.now ends.now conductances.now corners.now sheets.now) layers.now components.now }
+    ensures work_after { work.new
+        ≡ workRow (nodeCount nodes.now) (length ends.now / 2)
+        (wellFormed t.now head.count head.max_level && soundNet
+        (netOf nodes.now ends.now conductances.now corners.now sheets.now) && polygonsFit t.now head.count
+        layers.now components.now) work.old }
 {
     if !has_room(nodes, ends, work) {
         return conforming::check_by_layer(

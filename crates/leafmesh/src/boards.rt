@@ -88,8 +88,14 @@ pub extern "C" fn leafmesh_build(
     points: &[[i64; 2]],
     table: &mut [i64],
 ) -> Outcome
-    ensures value { result ≡ outcomeOf (buildSays (board (cutSettings max_level cap target) list.now layers.now counts.now points.now) components.now sheets.now (length table.old)) }
-    ensures table_after { table.new ≡ buildLeaves (board (cutSettings max_level cap target) list.now layers.now counts.now points.now) components.now sheets.now table.old }
+    ensures value { result
+        ≡ outcomeOf (buildSays (board
+        (cutSettings max_level cap target) list.now layers.now counts.now points.now) components.now sheets.now
+        (length table.old)) }
+    ensures table_after { table.new
+        ≡ buildLeaves (board
+        (cutSettings max_level cap target) list.now layers.now counts.now points.now) components.now sheets.now
+        table.old }
 {
     let s = build::Settings {
         max_level,
@@ -109,8 +115,10 @@ pub extern "C" fn leafmesh_read(
     points: &mut [[i64; 2]],
     splits: &mut [u64],
 ) -> ReadOutcome
-    ensures value { result ≡ readOutcomeOf (readSays bytes.now (rows_of layers.old polygons.old sheets.old points.old splits.old)) }
-    ensures splits_after { rows_of layers.new polygons.new sheets.new points.new splits.new ≡ readLeaves bytes.now (rows_of layers.old polygons.old sheets.old points.old splits.old) }
+    ensures value { result
+        ≡ readOutcomeOf (readSays bytes.now (rows_of layers.old polygons.old sheets.old points.old splits.old)) }
+    ensures splits_after { rows_of layers.new polygons.new sheets.new points.new splits.new
+        ≡ readLeaves bytes.now (rows_of layers.old polygons.old sheets.old points.old splits.old) }
 {
     of_read(board::read(bytes, layers, polygons, sheets, points, splits))
 }
@@ -128,8 +136,11 @@ pub extern "C" fn leafmesh_write(
     splits: &[u64],
     out: &mut [u8],
 ) -> Outcome
-    ensures value { result ≡ outcomeOf (writeSays (rows_of layers.now polygons.now sheets.now points.now splits.now) (length out.old)) }
-    ensures out_after { out.new ≡ writeLeaves (boardSettings level cap target) (rows_of layers.now polygons.now sheets.now points.now splits.now) out.old }
+    ensures value { result
+        ≡ outcomeOf (writeSays (rows_of layers.now polygons.now sheets.now points.now splits.now) (length out.old)) }
+    ensures out_after { out.new
+        ≡ writeLeaves (boardSettings level cap target)
+        (rows_of layers.now polygons.now sheets.now points.now splits.now) out.old }
 {
     let s = record::Settings { level, cap, target };
     of_count(writing::write(s, layers, polygons, sheets, points, splits, out))

@@ -134,7 +134,8 @@ pub extern "C" fn leafmesh_leaves(
     max_level: u64,
     out: &mut [u64],
 ) -> Outcome
-    ensures value { result ≡ outcomeOf (listSays (wellFormed table.now count max_level) (leafIds table.now count) out.old) }
+    ensures value { result
+        ≡ outcomeOf (listSays (wellFormed table.now count max_level) (leafIds table.now count) out.old) }
     ensures out_after { out.new ≡ listRow (wellFormed table.now count max_level) (leafIds table.now count) out.old }
 {
     of_count(table::leaves::leaves(table, Head { count, max_level }, out))
@@ -148,7 +149,8 @@ pub extern "C" fn leafmesh_leaf_order(
     max_level: u64,
     out: &mut [u64],
 ) -> Outcome
-    ensures value { result ≡ outcomeOf (listSays (wellFormed table.now count max_level) (orderIds table.now count) out.old) }
+    ensures value { result
+        ≡ outcomeOf (listSays (wellFormed table.now count max_level) (orderIds table.now count) out.old) }
     ensures out_after { out.new ≡ listRow (wellFormed table.now count max_level) (orderIds table.now count) out.old }
 {
     of_count(table::leaves::leaf_order(table, Head { count, max_level }, out))

@@ -125,8 +125,11 @@ pub extern "C" fn leafmesh_power(
     potentials: &[f64],
     answers: &mut [f64],
 ) -> Outcome
-    ensures value { result ≡ outcomeOf (powerSays (netOf nodes.now ends.now conductances.now corners.now sheets.now) potentials.now answers.old) }
-    ensures answers_after { answers.new ≡ powerRow (netOf nodes.now ends.now conductances.now corners.now sheets.now) potentials.now answers.old }
+    ensures value { result
+        ≡ outcomeOf (powerSays
+        (netOf nodes.now ends.now conductances.now corners.now sheets.now) potentials.now answers.old) }
+    ensures answers_after { answers.new
+        ≡ powerRow (netOf nodes.now ends.now conductances.now corners.now sheets.now) potentials.now answers.old }
 {
     of_power(power::cell_power(
         nodes,
@@ -155,8 +158,12 @@ pub extern "C" fn leafmesh_network(
     cells: &mut [f64],
     work: &mut [u64],
 ) -> NetOutcome
-    ensures value { result ≡ netOutcomeOf (networkSays table.now count max_level (polygons layers.now components.now sheets.now) (rows nodes.old ends.old conductances.old corners.old cells.old work.old)) }
-    ensures work_after { rows nodes.new ends.new conductances.new corners.new cells.new work.new ≡ networkLeaves table.now count max_level (polygons layers.now components.now sheets.now) (rows nodes.old ends.old conductances.old corners.old cells.old work.old) }
+    ensures value { result
+        ≡ netOutcomeOf (networkSays table.now count max_level (polygons layers.now components.now sheets.now)
+        (rows nodes.old ends.old conductances.old corners.old cells.old work.old)) }
+    ensures work_after { rows nodes.new ends.new conductances.new corners.new cells.new work.new
+        ≡ networkLeaves table.now count max_level (polygons layers.now components.now sheets.now)
+        (rows nodes.old ends.old conductances.old corners.old cells.old work.old) }
 {
     of_netted(network::network(
         table,
@@ -186,8 +193,12 @@ pub extern "C" fn leafmesh_check_network_conforming(
     sheets: &[f64],
     work: &mut [u64],
 ) -> CheckOutcome
-    ensures value { result ≡ checkOutcomeOf (Checks.conformingSays table.now count max_level (netOf nodes.now ends.now conductances.now corners.now sheets.now)) }
-    ensures work_after { work.new ≡ workRow (nodeCount nodes.now) (length ends.now / 2) (wellFormed table.now count max_level && soundNet (netOf nodes.now ends.now conductances.now corners.now sheets.now)) work.old }
+    ensures value { result
+        ≡ checkOutcomeOf (Checks.conformingSays table.now count max_level
+        (netOf nodes.now ends.now conductances.now corners.now sheets.now)) }
+    ensures work_after { work.new
+        ≡ workRow (nodeCount nodes.now) (length ends.now / 2) (wellFormed table.now count max_level && soundNet
+        (netOf nodes.now ends.now conductances.now corners.now sheets.now)) work.old }
 {
     of_checked(checks::check_network_conforming(
         table,
@@ -216,8 +227,13 @@ pub extern "C" fn leafmesh_check_by_layer(
     components: &[u32],
     work: &mut [u64],
 ) -> CheckOutcome
-    ensures value { result ≡ checkOutcomeOf (Checks.layersSays table.now count max_level (netOf nodes.now ends.now conductances.now corners.now sheets.now) layers.now components.now) }
-    ensures work_after { work.new ≡ workRow (nodeCount nodes.now) (length ends.now / 2) (wellFormed table.now count max_level && soundNet (netOf nodes.now ends.now conductances.now corners.now sheets.now) && Checks.polygonsFit table.now count layers.now components.now) work.old }
+    ensures value { result
+        ≡ checkOutcomeOf (Checks.layersSays table.now count max_level
+        (netOf nodes.now ends.now conductances.now corners.now sheets.now) layers.now components.now) }
+    ensures work_after { work.new
+        ≡ workRow (nodeCount nodes.now) (length ends.now / 2) (wellFormed table.now count max_level && soundNet
+        (netOf nodes.now ends.now conductances.now corners.now sheets.now) && Checks.polygonsFit table.now count
+        layers.now components.now) work.old }
 {
     of_checked(checks::check_by_layer(
         table,

@@ -33,8 +33,11 @@ fn fill(
     requires given { Given t.now head.count head.max_level layers.now components.now sheets.now }
     requires l_value { (l ≡ length (leafIds t.now head.count)) × (length components.now ≡ length layers.now) }
     requires roomy { Roomy l (rows nodes.old ends.old conductances.old corners.old cells.old work.old) }
-    ensures result_value { countsSaid result ≡ counted (netOf t.now head.count (polygons layers.now components.now sheets.now)) }
-    ensures work_after { rows nodes.new ends.new conductances.new corners.new cells.new work.new ≡ filled (netOf t.now head.count (polygons layers.now components.now sheets.now)) (rows nodes.old ends.old conductances.old corners.old cells.old work.old) }
+    ensures result_value { countsSaid result
+        ≡ counted (netOf t.now head.count (polygons layers.now components.now sheets.now)) }
+    ensures work_after { rows nodes.new ends.new conductances.new corners.new cells.new work.new
+        ≡ filled (netOf t.now head.count (polygons layers.now components.now sheets.now))
+        (rows nodes.old ends.old conductances.old corners.old cells.old work.old) }
 {
     leafrows::fill_leaves(t, head.count, l, corners, work);
     let c = unweighted::write_net(
@@ -78,8 +81,12 @@ pub fn network(
     cells: &mut [f64],
     work: &mut [u64],
 ) -> Result<Counts, Refusal>
-    ensures result_value { nettedSaid result ≡ networkSays t.now head.count head.max_level (polygons layers.now components.now sheets.now) (rows nodes.old ends.old conductances.old corners.old cells.old work.old) }
-    ensures work_after { rows nodes.new ends.new conductances.new corners.new cells.new work.new ≡ networkLeaves t.now head.count head.max_level (polygons layers.now components.now sheets.now) (rows nodes.old ends.old conductances.old corners.old cells.old work.old) }
+    ensures result_value { nettedSaid result
+        ≡ networkSays t.now head.count head.max_level (polygons layers.now components.now sheets.now)
+        (rows nodes.old ends.old conductances.old corners.old cells.old work.old) }
+    ensures work_after { rows nodes.new ends.new conductances.new corners.new cells.new work.new
+        ≡ networkLeaves t.now head.count head.max_level (polygons layers.now components.now sheets.now)
+        (rows nodes.old ends.old conductances.old corners.old cells.old work.old) }
 {
     if !table::formed::well_formed(t, head) {
         return Err(Refusal::BadTable);

@@ -23,8 +23,10 @@ pub fn write(
     splits: &[u64],
     out: &mut [u8],
 ) -> Result<usize, Refusal>
-    ensures result_value { writeSaid result ≡ writeSays (rows_of layers.now polygons.now sheets.now points.now splits.now) (length out.old) }
-    ensures out_after { out.new ≡ writeLeaves settings (rows_of layers.now polygons.now sheets.now points.now splits.now) out.old }
+    ensures result_value { writeSaid result
+        ≡ writeSays (rows_of layers.now polygons.now sheets.now points.now splits.now) (length out.old) }
+    ensures out_after { out.new
+        ≡ writeLeaves settings (rows_of layers.now polygons.now sheets.now points.now splits.now) out.old }
 {
     let shaped = (polygons.len() == sheets.len()) & put::add_up(polygons, points.len());
     if !shaped {

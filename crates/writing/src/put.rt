@@ -130,7 +130,8 @@ pub fn add_up(polygons: &[[u64; 3]], points: usize) -> bool
 #[tactic(auto, using(crate::proofs::Stores::bytes_then))]
 pub fn put_settings(out: &mut [u8], rest: u64, level: u64, cap: u64, target: u64)
     requires { 16 ≤ length out.old }
-    ensures { out.new ≡ sets out.old 0 (bytes 1 1 ++ (bytes 4 rest ++ (bytes 1 level ++ (bytes 2 cap ++ bytes 8 target)))) }
+    ensures { out.new
+        ≡ sets out.old 0 (bytes 1 1 ++ (bytes 4 rest ++ (bytes 1 level ++ (bytes 2 cap ++ bytes 8 target)))) }
 {
     put(out, 0, 1, 1);
     put(out, 1, 4, rest);
@@ -150,8 +151,12 @@ pub fn put_lists(
 )
     requires polygons_len { length polygons.now ≡ length sheets.now }
     requires points_value { addUp polygons.now (length points.now) ≡ true }
-    requires splits_in_bounds { 22 + 10 * length layers.now + 16 * length polygons.now + 16 * length points.now + 4 * length splits.now ≤ length out.old }
-    ensures { out.new ≡ sets out.old 16 ((bytes 2 (length layers.now) ++ each entryBytes (entriesOf layers.now)) ++ ((bytes 2 (length polygons.now) ++ each polygonBytes (polygonsOf polygons.now sheets.now points.now)) ++ (bytes 2 (length splits.now) ++ each (bytes 4) splits.now))) }
+    requires splits_in_bounds { 22 + 10 * length layers.now + 16 * length polygons.now + 16 * length points.now + 4
+        * length splits.now ≤ length out.old }
+    ensures { out.new
+        ≡ sets out.old 16 ((bytes 2 (length layers.now) ++ each entryBytes (entriesOf layers.now)) ++ ((bytes 2
+        (length polygons.now) ++ each polygonBytes (polygonsOf polygons.now sheets.now points.now)) ++ (bytes 2
+        (length splits.now) ++ each (bytes 4) splits.now))) }
 {
     put(out, 16, 2, layers.len() as u64);
     put_layers(out, 18, layers);
