@@ -23,8 +23,10 @@ pub fn read(
     points: &mut [[i64; 2]],
     splits: &mut [u64],
 ) -> Result<Read, Refusal>
-    ensures result_value { readSaid result ≡ readSays s.now (rows_of layers.old polygons.old sheets.old points.old splits.old) }
-    ensures splits_after { rows_of layers.new polygons.new sheets.new points.new splits.new ≡ readLeaves s.now (rows_of layers.old polygons.old sheets.old points.old splits.old) }
+    ensures result_value { readSaid result
+        ≡ readSays s.now (rows_of layers.old polygons.old sheets.old points.old splits.old) }
+    ensures splits_after { rows_of layers.new polygons.new sheets.new points.new splits.new
+        ≡ readLeaves s.now (rows_of layers.old polygons.old sheets.old points.old splits.old) }
 {
     let answer = check(s)?;
     let counts = answer.counts;

@@ -22,7 +22,8 @@ fn cut_ready(
 ) -> Result<usize, Refusal>
     requires { Ready points.now heights.now edges.now × (Sizes cap c × (Counting unit 0 0 × Tabled table.old)) }
     ensures result_value { builtSaid result ≡ aloneSays unit cap c (stripsOf points.now) (length table.old / 8) }
-    ensures table_after { table.new ≡ ifAccepted (builtSaid result) (aloneLeaves cap c (stripsOf points.now) (length table.old)) table.old }
+    ensures table_after { table.new
+        ≡ ifAccepted (builtSaid result) (aloneLeaves cap c (stripsOf points.now) (length table.old)) table.old }
 {
     let slots = (table.len() / 8) as u64;
     let Some(n) = survey::tally_strips(points, heights, edges, c, cap, unit, slots, 0) else {
@@ -48,7 +49,8 @@ pub fn cut_alone(
 ) -> Result<usize, Refusal>
     requires { Roomy points.now heights.old edges.old × (Sizes cap c × (Counting unit 0 0 × Tabled table.old)) }
     ensures result_value { builtSaid result ≡ aloneSays unit cap c (stripsOf points.now) (length table.old / 8) }
-    ensures table_after { table.new ≡ ifAccepted (builtSaid result) (aloneLeaves cap c (stripsOf points.now) (length table.old)) table.old }
+    ensures table_after { table.new
+        ≡ ifAccepted (builtSaid result) (aloneLeaves cap c (stripsOf points.now) (length table.old)) table.old }
 {
     let n = points.len();
     let m = walk::prepare(points, heights, edges);

@@ -56,9 +56,14 @@ fn cut_many(
     edges: &mut [u64],
     table: &mut [i64],
 ) -> Result<usize, Refusal>
-    requires { Fit (board s list.now layers.now counts.now points.now) × (Putting (length heights.old) (length edges.old) × Tabled table.old) }
-    ensures result_value { builtSaid result ≡ evenFrom (board s list.now layers.now counts.now points.now) 0 (length counts.now) (room_for (length table.old / 8) (length (rootsOf (board s list.now layers.now counts.now points.now)))) }
-    ensures table_after { table.new ≡ ifAccepted (builtSaid result) (filled (board s list.now layers.now counts.now points.now) (length table.old)) table.old }
+    requires { Fit (board s list.now layers.now counts.now points.now) × (Putting (length heights.old)
+        (length edges.old) × Tabled table.old) }
+    ensures result_value { builtSaid result
+        ≡ evenFrom (board s list.now layers.now counts.now points.now) 0 (length counts.now) (room_for
+        (length table.old / 8) (length (rootsOf (board s list.now layers.now counts.now points.now)))) }
+    ensures table_after { table.new
+        ≡ ifAccepted (builtSaid result) (filled (board s list.now layers.now counts.now points.now)
+        (length table.old)) table.old }
 {
     let slots = (table.len() / 8) as u64;
     let n = polygons::survey_all(s, list, layers, counts, points, heights, edges, slots)?;
@@ -81,9 +86,14 @@ fn cut(
     edges: &mut [u64],
     table: &mut [i64],
 ) -> Result<usize, Refusal>
-    requires { Fit (board s list.now layers.now counts.now points.now) × (Putting (length heights.old) (length edges.old) × Tabled table.old) }
-    ensures result_value { builtSaid result ≡ evenFrom (board s list.now layers.now counts.now points.now) 0 (length counts.now) (room_for (length table.old / 8) (length (rootsOf (board s list.now layers.now counts.now points.now)))) }
-    ensures table_after { table.new ≡ ifAccepted (builtSaid result) (filled (board s list.now layers.now counts.now points.now) (length table.old)) table.old }
+    requires { Fit (board s list.now layers.now counts.now points.now) × (Putting (length heights.old)
+        (length edges.old) × Tabled table.old) }
+    ensures result_value { builtSaid result
+        ≡ evenFrom (board s list.now layers.now counts.now points.now) 0 (length counts.now) (room_for
+        (length table.old / 8) (length (rootsOf (board s list.now layers.now counts.now points.now)))) }
+    ensures table_after { table.new
+        ≡ ifAccepted (builtSaid result) (filled (board s list.now layers.now counts.now points.now)
+        (length table.old)) table.old }
 {
     if counts.len() == 1 {
         let unit = grid::unit_of(s.max_level);
@@ -105,8 +115,10 @@ pub fn build(
     points: &[[i64; 2]],
     table: &mut [i64],
 ) -> Result<usize, Refusal>
-    ensures result_value { builtSaid result ≡ buildSays (board s list.now layers.now counts.now points.now) components.now sheets.now (length table.old) }
-    ensures table_after { table.new ≡ buildLeaves (board s list.now layers.now counts.now points.now) components.now sheets.now table.old }
+    ensures result_value { builtSaid result
+        ≡ buildSays (board s list.now layers.now counts.now points.now) components.now sheets.now (length table.old) }
+    ensures table_after { table.new
+        ≡ buildLeaves (board s list.now layers.now counts.now points.now) components.now sheets.now table.old }
 {
     if !rows_fit(layers, components, sheets, counts, points, table.len()) {
         return Err(Refusal::BadTable);

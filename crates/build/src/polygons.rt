@@ -18,7 +18,8 @@ pub fn survey_all(
     edges: &mut [u64],
     slots: u64,
 ) -> Result<u64, Refusal>
-    requires { Fit (board s list.now layers.now counts.now points.now) × Surveying (length heights.old) (length edges.old) slots }
+    requires { Fit (board s list.now layers.now counts.now points.now) × Surveying (length heights.old)
+        (length edges.old) slots }
     ensures { Surveyed (board s list.now layers.now counts.now points.now) slots result }
 {
     let unit = grid::unit_of(s.max_level);
@@ -56,8 +57,11 @@ pub fn put_all(
     edges: &mut [u64],
     t: &mut [i64],
 ) -> usize
-    requires { Fit (board s list.now layers.now counts.now points.now) × (Putting (length heights.old) (length edges.old) × Slotted t.old 0 (length (rootsOf (board s list.now layers.now counts.now points.now)))) }
-    ensures { (result ≡ length (rootsOf (board s list.now layers.now counts.now points.now))) × (t.new ≡ placed t.old 0 (rootsOf (board s list.now layers.now counts.now points.now))) }
+    requires { Fit (board s list.now layers.now counts.now points.now) × (Putting (length heights.old)
+        (length edges.old) × Slotted t.old 0 (length (rootsOf (board s list.now layers.now counts.now points.now)))) }
+    ensures { (result
+        ≡ length (rootsOf (board s list.now layers.now counts.now points.now))) × (t.new ≡ placed t.old 0 (rootsOf
+        (board s list.now layers.now counts.now points.now))) }
 {
     let mut k = 0;
     let mut at = 0;

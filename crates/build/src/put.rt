@@ -63,7 +63,8 @@ fn row_of(s: Strip, g: Cut, j: u64) -> Strip
 
 // A row cut into n cells, from left to right.
 fn put_row(t: &mut [i64], k: usize, r: Strip, n: u64, poly: u64)
-    requires { ((r.x0 ≤ r.x1) × (r.x1 ≤ coordinate + coordinate)) × ((0 < n) × (Slotted t.old k n × (poly < maxPolygons))) }
+    requires { ((r.x0 ≤ r.x1) × (r.x1 ≤ coordinate + coordinate)) × ((0 < n) × (Slotted t.old k n ×
+        (poly < maxPolygons))) }
     ensures { t.new ≡ placed t.old k (rowTo poly r n n) }
 {
     let dx = (r.x1 - r.x0) / n;
@@ -102,8 +103,11 @@ pub fn put_strips(
     cap: u64,
     poly: u64,
 ) -> usize
-    requires { Ready points.now heights.now edges.now × (Sizes cap c × (Slotted t.old k (length (rootsIn poly cap c (stripsOf points.now))) × (poly < maxPolygons))) }
-    ensures { (result ≡ k + length (rootsIn poly cap c (stripsOf points.now))) × (t.new ≡ placed t.old k (rootsIn poly cap c (stripsOf points.now))) }
+    requires { Ready points.now heights.now edges.now × (Sizes cap c × (Slotted t.old k (length
+        (rootsIn poly cap c (stripsOf points.now))) × (poly < maxPolygons))) }
+    ensures { (result
+        ≡ k + length (rootsIn poly cap c (stripsOf points.now))) × (t.new ≡ placed t.old k (rootsIn poly cap c
+        (stripsOf points.now))) }
 {
     let mut band = walk::start(points, heights);
     let mut edge = 0;
@@ -130,8 +134,11 @@ pub fn put_ring(
     cap: u64,
     poly: u64,
 ) -> usize
-    requires { Roomy points.now heights.old edges.old × (Sizes cap c × (Slotted t.old k (length (rootsIn poly cap c (stripsOf points.now))) × (poly < maxPolygons))) }
-    ensures { (result ≡ k + length (rootsIn poly cap c (stripsOf points.now))) × (t.new ≡ placed t.old k (rootsIn poly cap c (stripsOf points.now))) }
+    requires { Roomy points.now heights.old edges.old × (Sizes cap c × (Slotted t.old k (length
+        (rootsIn poly cap c (stripsOf points.now))) × (poly < maxPolygons))) }
+    ensures { (result
+        ≡ k + length (rootsIn poly cap c (stripsOf points.now))) × (t.new ≡ placed t.old k (rootsIn poly cap c
+        (stripsOf points.now))) }
 {
     let n = points.len();
     let m = walk::prepare(points, heights, edges);
