@@ -10,7 +10,7 @@ use borrow.Rule.Slice.PartMut.{put_mid}
 use lib.Dec.{eqb}
 use lib.ListN.{length, get_or, take, drop, set, length-drop, get_or-eq_default}
 use lib.Seq.{length-take-le, take-take, drop-drop}
-use Rattle.refusals.specs.Limits.{maxPolygons}
+use Rattle.refusals.specs.Limits.{max_polygons}
 use Rattle.rows.specs.Order as Rows
 use Rattle.rows.specs.Parts.{part, put, tab}
 use Rattle.rows.specs.Contract.{Small}
@@ -18,10 +18,10 @@ use borrow.Author.Tests.{eq-eqb, ne_eqb}
 use Rattle.rows.proofs.Parts.{part_at, take_put, put-nil, put-snoc, part-all}
 use Rattle.rows.proofs.Fill.{length-tab, tab-at, tab-same, filled-long, filled-part}
 use Rattle.rows.proofs.Lent.{block-long, block-other, block-third}
-use Rattle.net.specs.First.{first_of, isNew}
-use Rattle.net.specs.Flat.{pickNum}
+use Rattle.net.specs.First.{first_of, is_new}
+use Rattle.net.specs.Flat.{pick_num}
 use Rattle.net.proofs.Find.{order}
-use Rattle.bare.specs.Slots.{many, corner, middle, hitAt, slotEnd, slotKey, slotKeys, Slotted, Parted, polysIn, numsIn, midsIn}
+use Rattle.bare.specs.Slots.{many, corner, middle, hit_at, slot_end, slot_key, slot_keys, Slotted, Parted, polys_in, nums_in, mids_in}
 use Rattle.places.proofs.Numbers.{first-of}
 use Rattle.places.proofs.Numbered.{tab-small}
 
@@ -33,23 +33,23 @@ small_at l n i p s =
     (λ (h : length l ≤ i). subst (λ (z : ℕ). z < n) (sym (get_or-eq_default l 0 h)) p)
     (order i (length l))
 
-pub pick_low : (b : Bool) (x y n : ℕ) → x < n → y < n → pickNum b x y < n
+pub pick_low : (b : Bool) (x y n : ℕ) → x < n → y < n → pick_num b x y < n
 pick_low true x y n h k = h
 pick_low false x y n h k = k
 
 module _ (rows : List ℕ) (l : ℕ) (S : Slotted rows l) where
-  end_low : (j e : ℕ) → slotEnd (polysIn rows l) (numsIn rows l) (midsIn rows l) l j e < many
-  unfolding slotEnd
+  end_low : (j e : ℕ) → slot_end (polys_in rows l) (nums_in rows l) (mids_in rows l) l j e < many
+  unfolding slot_end
   end_low j e =
-      pick_low (not (eqb (j % 2) e) && hitAt (polysIn rows l) (midsIn rows l) l (j / 8) (j % 8 / 2)) (get_or (numsIn rows l) (middle (midsIn rows l) (j / 8) (j % 8 / 2)) 0) (get_or (numsIn rows l) (4 * (j / 8) + corner (j % 8 / 2) e) 0) many
-      (small_at (numsIn rows l) many (middle (midsIn rows l) (j / 8) (j % 8 / 2)) (omega arith) S.low)
-      (small_at (numsIn rows l) many (4 * (j / 8) + corner (j % 8 / 2) e) (omega arith) S.low)
+      pick_low (not (eqb (j % 2) e) && hit_at (polys_in rows l) (mids_in rows l) l (j / 8) (j % 8 / 2)) (get_or (nums_in rows l) (middle (mids_in rows l) (j / 8) (j % 8 / 2)) 0) (get_or (nums_in rows l) (4 * (j / 8) + corner (j % 8 / 2) e) 0) many
+      (small_at (nums_in rows l) many (middle (mids_in rows l) (j / 8) (j % 8 / 2)) (omega arith) S.low)
+      (small_at (nums_in rows l) many (4 * (j / 8) + corner (j % 8 / 2) e) (omega arith) S.low)
 
-  pub key-low : (j : ℕ) → slotKey (polysIn rows l) (numsIn rows l) (midsIn rows l) l j < 2 ^ 40
-  unfolding slotKey
-  key-low j = by (get_or (polysIn rows l) (j / 8) 0) (slotEnd (polysIn rows l) (numsIn rows l) (midsIn rows l) l j 0) (slotEnd (polysIn rows l) (numsIn rows l) (midsIn rows l) l j 1) (small_at (polysIn rows l) maxPolygons (j / 8) (omega arith) S.polys) (end_low j 0) (end_low j 1)
+  pub key-low : (j : ℕ) → slot_key (polys_in rows l) (nums_in rows l) (mids_in rows l) l j < 2 ^ 40
+  unfolding slot_key
+  key-low j = by (get_or (polys_in rows l) (j / 8) 0) (slot_end (polys_in rows l) (nums_in rows l) (mids_in rows l) l j 0) (slot_end (polys_in rows l) (nums_in rows l) (mids_in rows l) l j 1) (small_at (polys_in rows l) max_polygons (j / 8) (omega arith) S.polys) (end_low j 0) (end_low j 1)
     where
-      by : (k a b : ℕ) → k < maxPolygons → a < many → b < many → (k * many + min a b) * many + max a b < 2 ^ 40
+      by : (k a b : ℕ) → k < max_polygons → a < many → b < many → (k * many + min a b) * many + max a b < 2 ^ 40
       by k a b p q r = omega arith
 
 -- the sort of the slots' keys
@@ -58,7 +58,7 @@ module _ (w₀ : List ℕ) (l : ℕ) (room : 50 * l ≤ length w₀) (S : Slotte
   rows = take (26 * l) w₀
 
   abbrev key : ℕ → ℕ
-  key = slotKey (polysIn rows l) (numsIn rows l) (midsIn rows l) l
+  key = slot_key (polys_in rows l) (nums_in rows l) (mids_in rows l) l
 
   module _ (w₁ : List ℕ) (e₁ : w₁ ≡ put w₀ (26 * l) (tab key (8 * l))) where
     room₁ : 26 * l + 8 * l ≤ length w₀
@@ -95,7 +95,7 @@ module _ (w₀ : List ℕ) (l : ℕ) (room : 50 * l ≤ length w₀) (S : Slotte
       slots-long = block-long w₁ (26 * l) (50 * l) (8 * l) Rows.first_of last at-end slots-room is ∙ long₁
 
       pub slots-parted : Parted rows w₂ l
-      unfolding slotKeys
+      unfolding slot_keys
       slots-parted =
           let n = slots-long in
           record {
@@ -131,13 +131,13 @@ front-copied {A} w l n h = ap (λ (k : ℕ). l ++ drop k w) (sym h ∙ sym (zero
 
 -- of the sorted slots those are new that are their own first
 module _ (rows w : List ℕ) (l : ℕ) (P : Parted rows w l) (j : ℕ) (t : j < 8 * l) where
-  first-at : get_or w (42 * l + j) 0 ≡ first_of (slotKeys rows l) j
+  first-at : get_or w (42 * l + j) 0 ≡ first_of (slot_keys rows l) j
   first-at =
       sym (part_at w (42 * l) (8 * l) j 0 t)
-      ∙ (ap (λ (z : List ℕ). get_or z j 0) P.firsts ∙ tab-at (first_of (slotKeys rows l)) (8 * l) j 0 t)
+      ∙ (ap (λ (z : List ℕ). get_or z j 0) P.firsts ∙ tab-at (first_of (slot_keys rows l)) (8 * l) j 0 t)
 
-  pub new-at : get_or w (42 * l + j) 0 ≡ j → isNew (slotKeys rows l) j ≡ true
+  pub new-at : get_or w (42 * l + j) 0 ≡ j → is_new (slot_keys rows l) j ≡ true
   new-at e = eq-eqb _ _ (sym first-at ∙ e)
 
-  pub old-at : (get_or w (42 * l + j) 0 ≡ j → ⊥) → isNew (slotKeys rows l) j ≡ false
+  pub old-at : (get_or w (42 * l + j) 0 ≡ j → ⊥) → is_new (slot_keys rows l) j ≡ false
   old-at e = ne_eqb _ _ (λ q. e (first-at ∙ q))

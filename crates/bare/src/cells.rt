@@ -3,7 +3,7 @@ ghost use Rattle.std.specs.Prelude.{◌≡◌, ◌+◌, ◌*◌, ◌<◌, ◌≤
 ghost use Rattle.std.specs.Float.{nan};
 ghost use Rattle.rows.specs.Parts.{put, tab};
 ghost use Rattle.rows.specs.Contract.{Small};
-ghost use Rattle.bare.specs.Slots.{Slotted, polysIn, numsIn};
+ghost use Rattle.bare.specs.Slots.{Slotted, polys_in, nums_in};
 
 use crate::slots::polygon;
 
@@ -12,7 +12,7 @@ use crate::slots::polygon;
 pub fn write_corners(rows: &[u64], l: usize, corners: &mut [u64])
     requires slotted { Slotted rows.now l }
     requires l_in_bounds { 4 * l ≤ length corners.old }
-    ensures { corners.new ≡ put corners.old 0 (tab (λ i. get_or (numsIn rows.now l) i 0) (4 * l)) }
+    ensures { corners.new ≡ put corners.old 0 (tab (λ i. get_or (nums_in rows.now l) i 0) (4 * l)) }
 {
     corners[..4 * l].copy_from_slice(&rows[18 * l..22 * l]);
 }
@@ -20,9 +20,9 @@ pub fn write_corners(rows: &[u64], l: usize, corners: &mut [u64])
 // Internal: each leaf's polygon is one of the polygons.
 pub fn write_sheets(sheets: &[f64], rows: &[u64], l: usize, sheet: &mut [f64])
     requires slotted { Slotted rows.now l }
-    requires small { Small (length sheets.now) (polysIn rows.now l) }
+    requires small { Small (length sheets.now) (polys_in rows.now l) }
     requires l_in_bounds { l ≤ length sheet.old }
-    ensures { sheet.new ≡ put sheet.old 0 (tab (λ v. get_or sheets.now (get_or (polysIn rows.now l) v 0) nan) l) }
+    ensures { sheet.new ≡ put sheet.old 0 (tab (λ v. get_or sheets.now (get_or (polys_in rows.now l) v 0) nan) l) }
 {
     for v in 0..l {
         let k = polygon(rows, l, v) as usize;

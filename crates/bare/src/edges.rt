@@ -4,7 +4,7 @@ ghost use Rattle.rows.specs.Parts.{put};
 ghost use Rattle.rows.specs.Contract.{Small};
 ghost use Rattle.net.specs.Net.{each};
 ghost use Rattle.net.specs.First.{rank, news};
-ghost use Rattle.bare.specs.Slots.{Slotted, Parted, Upright, slotKeys, endsOf, resistance, slotG, polysIn};
+ghost use Rattle.bare.specs.Slots.{Slotted, Parted, Upright, slot_keys, ends_of, resistance, slot_g, polys_in};
 
 use crate::slots::{hit_at, polygon, slot_end};
 
@@ -21,13 +21,13 @@ fn resistance_of(sheet: f64, w: u64, h: u64, q: usize) -> f64
 }
 
 // The conductance of slot j.
-#[tactic(auto, unfolding(crate::specs::Slots::slotG))]
+#[tactic(auto, unfolding(crate::specs::Slots::slot_g))]
 fn slot_g(sheets: &[f64], boxes: &[u64], rows: &[u64], l: usize, j: usize) -> f64
     requires upright { Upright boxes.now l }
     requires slotted { Slotted rows.now l }
-    requires small { Small (length sheets.now) (polysIn rows.now l) }
+    requires small { Small (length sheets.now) (polys_in rows.now l) }
     requires j_bound { j < 8 * l }
-    ensures { result ≡ slotG sheets.now boxes.now rows.now l j }
+    ensures { result ≡ slot_g sheets.now boxes.now rows.now l j }
 {
     let v = j / 8;
     let q = j % 8 / 2;
@@ -57,7 +57,7 @@ pub fn write_ends(rows: &[u64], work: &[u64], l: usize, ends: &mut [u64]) -> usi
     requires slotted { Slotted rows.now l }
     requires parted { Parted rows.now work.now l }
     requires l_in_bounds { 16 * l ≤ length ends.old }
-    ensures { (result ≡ rank (slotKeys rows.now l) (8 * l)) × (ends.new ≡ put ends.old 0 (each (endsOf rows.now l) (news (slotKeys rows.now l) (8 * l)))) }
+    ensures { (result ≡ rank (slot_keys rows.now l) (8 * l)) × (ends.new ≡ put ends.old 0 (each (ends_of rows.now l) (news (slot_keys rows.now l) (8 * l)))) }
 {
     let from = 42 * l;
     let mut c: usize = 0;
@@ -83,10 +83,10 @@ pub fn write_conductances(
 ) -> usize
     requires upright { Upright boxes.now l }
     requires slotted { Slotted rows.now l }
-    requires small { Small (length sheets.now) (polysIn rows.now l) }
+    requires small { Small (length sheets.now) (polys_in rows.now l) }
     requires parted { Parted rows.now work.now l }
     requires l_in_bounds { 8 * l ≤ length g.old }
-    ensures { (result ≡ rank (slotKeys rows.now l) (8 * l)) × (g.new ≡ put g.old 0 (each (λ j. slotG sheets.now boxes.now rows.now l j ∷ []) (news (slotKeys rows.now l) (8 * l)))) }
+    ensures { (result ≡ rank (slot_keys rows.now l) (8 * l)) × (g.new ≡ put g.old 0 (each (λ j. slot_g sheets.now boxes.now rows.now l j ∷ []) (news (slot_keys rows.now l) (8 * l)))) }
 {
     let from = 42 * l;
     let mut c: usize = 0;

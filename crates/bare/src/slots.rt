@@ -1,10 +1,10 @@
 // The parts of the leaves' sides: a side in halves where a node so far stands at its middle, and the whole side twice
 // where none does.
 ghost use Rattle.std.specs.Prelude.{◌≡◌, ◌+◌, ◌*◌, ◌/◌, ◌%◌, ◌<◌, ◌≤◌, length, take, get_or, ℕ};
-ghost use Rattle.refusals.specs.Limits.{maxPolygons};
+ghost use Rattle.refusals.specs.Limits.{max_polygons};
 ghost use Rattle.rows.specs.Contract.{Small};
 ghost use Rattle.rows.specs.Parts.{put, tab};
-ghost use Rattle.bare.specs.Slots.{many, corner, middle, hitAt, slotEnd, slotKey, Slotted, polysIn, numsIn, midsIn, Parted};
+ghost use Rattle.bare.specs.Slots.{many, corner, middle, hit_at, slot_end, slot_key, Slotted, polys_in, nums_in, mids_in, Parted};
 
 // More than any node's number.
 const MANY: u64 = 1 << 16;
@@ -25,9 +25,9 @@ fn corner_of(q: usize, e: usize) -> usize
 pub(crate) fn polygon(rows: &[u64], l: usize, v: usize) -> u64
     requires slotted { Slotted rows.now l }
     requires v_lt_l { v < l }
-    ensures value { result ≡ get_or (polysIn rows.now l) v 0 }
-    ensures low { result < maxPolygons }
-    ensures in_bounds { (n : ℕ) → Small n (polysIn rows.now l) → result < n }
+    ensures value { result ≡ get_or (polys_in rows.now l) v 0 }
+    ensures low { result < max_polygons }
+    ensures in_bounds { (n : ℕ) → Small n (polys_in rows.now l) → result < n }
 {
     rows[v]
 }
@@ -37,7 +37,7 @@ pub(crate) fn polygon(rows: &[u64], l: usize, v: usize) -> u64
 fn number(rows: &[u64], l: usize, i: usize) -> u64
     requires slotted { Slotted rows.now l }
     requires i_lt { i < 4 * l }
-    ensures value { result ≡ get_or (numsIn rows.now l) i 0 }
+    ensures value { result ≡ get_or (nums_in rows.now l) i 0 }
     ensures low { result < many }
 {
     rows[18 * l + i]
@@ -48,28 +48,28 @@ fn number(rows: &[u64], l: usize, i: usize) -> u64
 fn middle_of(rows: &[u64], l: usize, v: usize, q: usize) -> usize
     requires slotted { Slotted rows.now l }
     requires v_lt_l { (v < l) × (q < 4) }
-    ensures { result ≡ middle (midsIn rows.now l) v q }
+    ensures { result ≡ middle (mids_in rows.now l) v q }
 {
     rows[22 * l + (4 * v + q)] as usize
 }
 
 // Whether a node so far stands at the middle of side q of leaf v.
-#[tactic(auto, unfolding(crate::specs::Slots::hitAt))]
+#[tactic(auto, unfolding(crate::specs::Slots::hit_at))]
 pub fn hit_at(rows: &[u64], l: usize, v: usize, q: usize) -> bool
     requires slotted { Slotted rows.now l }
     requires v_lt_l { (v < l) × (q < 4) }
-    ensures { result ≡ hitAt (polysIn rows.now l) (midsIn rows.now l) l v q }
+    ensures { result ≡ hit_at (polys_in rows.now l) (mids_in rows.now l) l v q }
 {
     let f = middle_of(rows, l, v, q);
     f < 4 * l && polygon(rows, l, f / 4) <= polygon(rows, l, v)
 }
 
 // End e of slot j.
-#[tactic(auto, unfolding(crate::specs::Slots::slotEnd, crate::specs::Slots::hitAt))]
+#[tactic(auto, unfolding(crate::specs::Slots::slot_end, crate::specs::Slots::hit_at))]
 pub fn slot_end(rows: &[u64], l: usize, j: usize, e: usize) -> u64
     requires slotted { Slotted rows.now l }
     requires j_bound { (j < 8 * l) × (e < 2) }
-    ensures { (result ≡ slotEnd (polysIn rows.now l) (numsIn rows.now l) (midsIn rows.now l) l j e) × (result < many) }
+    ensures { (result ≡ slot_end (polys_in rows.now l) (nums_in rows.now l) (mids_in rows.now l) l j e) × (result < many) }
 {
     let v = j / 8;
     let q = j % 8 / 2;
@@ -81,11 +81,11 @@ pub fn slot_end(rows: &[u64], l: usize, j: usize, e: usize) -> u64
 }
 
 // The key of slot j.
-#[tactic(auto, unfolding(crate::specs::Slots::slotKey))]
+#[tactic(auto, unfolding(crate::specs::Slots::slot_key))]
 fn slot_key(rows: &[u64], l: usize, j: usize) -> u64
     requires slotted { Slotted rows.now l }
     requires j_bound { j < 8 * l }
-    ensures { result ≡ slotKey (polysIn rows.now l) (numsIn rows.now l) (midsIn rows.now l) l j }
+    ensures { result ≡ slot_key (polys_in rows.now l) (nums_in rows.now l) (mids_in rows.now l) l j }
 {
     let k = polygon(rows, l, j / 8);
     let a = slot_end(rows, l, j, 0);
@@ -97,7 +97,7 @@ fn slot_key(rows: &[u64], l: usize, j: usize) -> u64
 fn part_keys(work: &mut [u64], l: usize)
     requires l_in_bounds { 50 * l ≤ length work.old }
     requires slotted { Slotted (take (26 * l) work.old) l }
-    ensures { work.new ≡ put work.old (26 * l) (tab (slotKey (polysIn (take (26 * l) work.old) l) (numsIn (take (26 * l) work.old) l) (midsIn (take (26 * l) work.old) l) l) (8 * l)) }
+    ensures { work.new ≡ put work.old (26 * l) (tab (slot_key (polys_in (take (26 * l) work.old) l) (nums_in (take (26 * l) work.old) l) (mids_in (take (26 * l) work.old) l) l) (8 * l)) }
 {
     let (rows, keys) = work.split_at_mut(26 * l);
     for j in 0..8 * l {

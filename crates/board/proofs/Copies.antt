@@ -9,13 +9,13 @@ use lib.ListN.{length, set}
 use lib.Seq.{sets}
 use mir.Syntax.{w64}
 use mir.Val.{to_z}
-use Rattle.refusals.specs.Limits.{maxCell}
+use Rattle.refusals.specs.Limits.{max_cell}
 use Rattle.cell.specs.Ticks.{in_range}
 use Rattle.refusals.specs.declared.Refusal.TheVariants.{OutOfRange}
-use Rattle.record.specs.Fields.{Out, value, ◌then◌, many, bigEndian, field, ranged, signed}
-use Rattle.record.specs.Board.{lastLayer, Entry, entry, Point, point, coordinate}
+use Rattle.record.specs.Fields.{Out, value, ◌then◌, many, big_endian, field, ranged, signed}
+use Rattle.record.specs.Board.{last_layer, Entry, entry, Point, point, coordinate}
 use Rattle.record.proofs.Walks.{then-value, require-value, field-value, ranged-value, many-view}
-use Rattle.board.specs.Rows.{entryRow, pointRow}
+use Rattle.board.specs.Rows.{entry_row, point_row}
 use Rattle.board.specs.Copying.{Sound, items_of, end_of}
 
 -- ---- a row filled item by item
@@ -76,22 +76,22 @@ start item leaves f n seen j at row s =
 -- ---- what the bytes of an item say
 
 pub entry-made : (s : List ℕ) (least at : ℕ) {a : Entry} {e : ℕ} → entry s least at ≡ value a e
-    → (at + 10 ≤ length s) × (e ≡ at + 10) × (entryRow a ≡ bigEndian 2 s at ∷ bigEndian 8 s (at + 2) ∷ [])
+    → (at + 10 ≤ length s) × (e ≡ at + 10) × (entry_row a ≡ big_endian 2 s at ∷ big_endian 8 s (at + 2) ∷ [])
 unfolding entry
 entry-made s least at {a} {e} p =
-    let l = then-value (ranged least lastLayer 2 s at) _ p in
-    let l' = (ranged-value least lastLayer 2 s at l.2).0 in
-    let c = then-value (ranged 0 maxCell 8 s l.1) _ l.3 in
-    let c' = (ranged-value 0 maxCell 8 s l.1 c.2).0 in
+    let l = then-value (ranged least last_layer 2 s at) _ p in
+    let l' = (ranged-value least last_layer 2 s at l.2).0 in
+    let c = then-value (ranged 0 max_cell 8 s l.1) _ l.3 in
+    let c' = (ranged-value 0 max_cell 8 s l.1 c.2).0 in
     let q : value (record { layer = l.0; cell = c.0 }) c.1 ≡ value a e = c.3 in
     let made : a ≡ record { layer = l.0; cell = c.0 } = cc in
     let ended : c.1 ≡ e = cc in (
       omega (arith, c'.room, l'.end),
       omega (arith, c'.end, l'.end),
-      ap entryRow made ∙ ap (λ x. x ∷ c.0 ∷ []) l'.is ∙ ap (λ x. bigEndian 2 s at ∷ x ∷ []) (c'.is ∙ ap (bigEndian 8 s) l'.end),
+      ap entry_row made ∙ ap (λ x. x ∷ c.0 ∷ []) l'.is ∙ ap (λ x. big_endian 2 s at ∷ x ∷ []) (c'.is ∙ ap (big_endian 8 s) l'.end),
     )
 
-coordinate-made : (s : List ℕ) (at : ℕ) {z : ℤ} {e : ℕ} → coordinate s at ≡ value z e → (at + 8 ≤ length s) × (e ≡ at + 8) × (z ≡ to_z w64 (bigEndian 8 s at))
+coordinate-made : (s : List ℕ) (at : ℕ) {z : ℤ} {e : ℕ} → coordinate s at ≡ value z e → (at + 8 ≤ length s) × (e ≡ at + 8) × (z ≡ to_z w64 (big_endian 8 s at))
 unfolding coordinate signed
 coordinate-made s at {z} {e} p =
     let g = then-value (field 8 s at then λ v next. value (to_z w64 v) next) _ p in
@@ -105,7 +105,7 @@ coordinate-made s at {z} {e} p =
     (h'.room, omega (arith, h'.end), z' ∙ ap (to_z w64) h'.is)
 
 pub point-made : (s : List ℕ) (at : ℕ) {a : Point} {e : ℕ} → point s at ≡ value a e
-    → (at + 16 ≤ length s) × (e ≡ at + 16) × (pointRow a ≡ to_z w64 (bigEndian 8 s at) ∷ to_z w64 (bigEndian 8 s (at + 8)) ∷ [])
+    → (at + 16 ≤ length s) × (e ≡ at + 16) × (point_row a ≡ to_z w64 (big_endian 8 s at) ∷ to_z w64 (big_endian 8 s (at + 8)) ∷ [])
 unfolding point
 point-made s at {a} {e} p =
     let x = then-value (coordinate s at) _ p in
@@ -117,5 +117,5 @@ point-made s at {a} {e} p =
     let ended : y.1 ≡ e = cc in (
       omega (arith, y'.0, x'.1),
       omega (arith, y'.1, x'.1),
-      ap pointRow made ∙ ap (λ k. k ∷ y.0 ∷ []) x'.2 ∙ ap (λ k. to_z w64 (bigEndian 8 s at) ∷ k ∷ []) (y'.2 ∙ ap (λ k. to_z w64 (bigEndian 8 s k)) x'.1),
+      ap point_row made ∙ ap (λ k. k ∷ y.0 ∷ []) x'.2 ∙ ap (λ k. to_z w64 (big_endian 8 s at) ∷ k ∷ []) (y'.2 ∙ ap (λ k. to_z w64 (big_endian 8 s k)) x'.1),
     )

@@ -12,23 +12,23 @@ use lib.ListN.{length}
 use Rattle.std.specs.Prelude.{Result, Ok, Err}
 use Rattle.refusals.specs.declared.Refusal.{Refusal}
 use Rattle.refusals.specs.declared.Refusal.TheVariants.{WrongVersion, WrongLength, OutOfRange, NoRoom}
-use Rattle.refusals.specs.Limits.{maxLevel, maxCap, maxCell, maxLayers, maxPolygons}
+use Rattle.refusals.specs.Limits.{widest_level, max_cap, max_cell, max_layers, max_polygons}
 use Rattle.record.specs.declared.Settings.{Settings}
 use Rattle.record.specs.declared.Counts.{Counts}
 use Rattle.record.specs.declared.check.Read.{Read}
 use Rattle.record.specs.Fields.{Out, value, stop, field, ranged}
-use Rattle.record.specs.Board.{asDefault, defaultLevel, Entry, entry, entries, layerList, polygon, shapes, polygonList, ids, splitList, level, settings, lists, Board, board, points_of}
-use Rattle.record.specs.Answers.{countsOf, checked}
+use Rattle.record.specs.Board.{as_default, default_level, Entry, entry, entries, layer_list, polygon, shapes, polygon_list, ids, split_list, level, settings, lists, Board, board, points_of}
+use Rattle.record.specs.Answers.{counts_of, checked}
 use Rattle.record.proofs.Walks.{then-value, require-value, field-value, ranged-value, many-length, several-length}
 use Rattle.board.specs.Rows.{Rows, rows_of, filled}
-use Rattle.board.specs.Reading.{hasRoom, reading}
+use Rattle.board.specs.Reading.{has_room, reading}
 
 level-end : (s : List ℕ) (at : ℕ) {l e : ℕ} → level s at ≡ value l e → e ≡ at + 1
 unfolding level
 level-end s at {l} {e} p =
     let m = then-value (field 1 s at) _ p in
-    let k = require-value (leb m.0 maxLevel || eqb m.0 asDefault) (OutOfRange at) (value (cond (eqb m.0 asDefault) defaultLevel m.0) m.1) m.3 in
-    let q : value (cond (eqb m.0 asDefault) defaultLevel m.0) m.1 ≡ value l e = k.1 in
+    let k = require-value (leb m.0 widest_level || eqb m.0 as_default) (OutOfRange at) (value (cond (eqb m.0 as_default) default_level m.0) m.1) m.3 in
+    let q : value (cond (eqb m.0 as_default) default_level m.0) m.1 ≡ value l e = k.1 in
     let r : e ≡ m.1 = cc in
     r ∙ (field-value 1 s at m.2).end
 
@@ -41,11 +41,11 @@ settings-end s {g} {e} p =
     let n = then-value (field 4 s v.1) _ a.1 in
     let d = require-value (eqb n.0 (length s - n.1)) (WrongLength v.1) _ n.3 in
     let l = then-value (level s n.1) _ d.1 in
-    let c = then-value (ranged 1 maxCap 2 s l.1) _ l.3 in
-    let t = then-value (ranged 1 maxCell 8 s c.1) _ c.3 in
+    let c = then-value (ranged 1 max_cap 2 s l.1) _ l.3 in
+    let t = then-value (ranged 1 max_cell 8 s c.1) _ c.3 in
     let q : value (record { level = l.0; cap = c.0; target = t.0 }) t.1 ≡ value g e = t.3 in
     let r : t.1 ≡ e = cc in
-    omega (arith, (field-value 1 s 0 v.2).end, (field-value 4 s v.1 n.2).end, level-end s n.1 l.2, (ranged-value 1 maxCap 2 s l.1 c.2).0.end, (ranged-value 1 maxCell 8 s c.1 t.2).0.end)
+    omega (arith, (field-value 1 s 0 v.2).end, (field-value 4 s v.1 n.2).end, level-end s n.1 l.2, (ranged-value 1 max_cap 2 s l.1 c.2).0.end, (ranged-value 1 max_cell 8 s c.1 t.2).0.end)
 
 pub record Parts (s : List ℕ) (b : Board) : Type 0 where
   pub first : ℕ
@@ -58,19 +58,19 @@ pub record Parts (s : List ℕ) (b : Board) : Type 0 where
   pub more : second + 2 ≤ length s
 
 pub parts : (s : List ℕ) (b : Board) {e : ℕ} → board s ≡ value b e → Parts s b
-unfolding board lists layerList polygonList splitList
+unfolding board lists layer_list polygon_list split_list
 parts s b {e} p =
     let g = then-value (settings s) _ p in
-    let l = then-value (layerList s g.1) _ g.3 in
-    let q = then-value (polygonList s l.1) _ l.3 in
-    let k = then-value (splitList s q.1) _ q.3 in
+    let l = then-value (layer_list s g.1) _ g.3 in
+    let q = then-value (polygon_list s l.1) _ l.3 in
+    let k = then-value (split_list s q.1) _ q.3 in
     let z = require-value (eqb k.1 (length s)) (WrongLength k.1) (value (record { settings = g.0; layers = l.0; polygons = q.0; splits = k.0 }) k.1) k.3 in
     let r : value (record { settings = g.0; layers = l.0; polygons = q.0; splits = k.0 }) k.1 ≡ value b e = z.1 in
     let is : record { settings = g.0; layers = l.0; polygons = q.0; splits = k.0 } ≡ b = cc in
-    let l' = then-value (ranged 0 maxLayers 2 s g.1) _ l.2 in
-    let l'' = (ranged-value 0 maxLayers 2 s g.1 l'.2).0 in
-    let q' = then-value (ranged 0 maxPolygons 2 s l.1) _ q.2 in
-    let q'' = (ranged-value 0 maxPolygons 2 s l.1 q'.2).0 in
+    let l' = then-value (ranged 0 max_layers 2 s g.1) _ l.2 in
+    let l'' = (ranged-value 0 max_layers 2 s g.1 l'.2).0 in
+    let q' = then-value (ranged 0 max_polygons 2 s l.1) _ q.2 in
+    let q'' = (ranged-value 0 max_polygons 2 s l.1 q'.2).0 in
     let k' = then-value (field 2 s q.1) _ k.2 in
     let k'' = field-value 2 s q.1 k'.2 in
     let at18 : l'.1 ≡ 18 = omega (arith, l''.end, settings-end s g.2) in
@@ -92,7 +92,7 @@ ok≢err : {A B : Type 0} {a : A} {b : B} → ◌≡◌ {A = Result A B} (Ok a) 
 ok≢err p = let z : ◌≡◌ {A = ℕ} 0 1 = cc in omega arith
 
 pub accepted-board : (o : Out Board) {r : Read} → Ok r ≡ checked o
-    → (b : Board) × (e : ℕ) × (o ≡ value b e) × (r.settings ≡ b.settings) × (r.counts ≡ countsOf b)
+    → (b : Board) × (e : ℕ) × (o ≡ value b e) × (r.settings ≡ b.settings) × (r.counts ≡ counts_of b)
 accepted-board (value b e) p = (b, e, refl, cc, cc)
 accepted-board (stop x) p = absurd (ok≢err p)
 
@@ -107,11 +107,11 @@ module _ (s : List ℕ) (rows : Rows) where
   unfolding reading
   reading-refused p = rw p refl
 
-  pub reading-no-room : {b : Board} {e : ℕ} → board s ≡ value b e → hasRoom rows (countsOf b) ≡ false → reading s rows ≡ stop NoRoom
+  pub reading-no-room : {b : Board} {e : ℕ} → board s ≡ value b e → has_room rows (counts_of b) ≡ false → reading s rows ≡ stop NoRoom
   unfolding reading
   reading-no-room p q = rw (p, q) refl
 
-  pub reading-done : {b : Board} {e : ℕ} → board s ≡ value b e → hasRoom rows (countsOf b) ≡ true → reading s rows ≡ value b e
+  pub reading-done : {b : Board} {e : ℕ} → board s ≡ value b e → has_room rows (counts_of b) ≡ true → reading s rows ≡ value b e
   unfolding reading
   reading-done p q = rw (p, q) refl
 
@@ -130,7 +130,7 @@ pub record Plan (s : List ℕ) (rows : Rows) (g : Settings) (n : Counts) : Type 
   pub last : ℕ
   pub read : reading s rows ≡ value whole last
   pub same-settings : g ≡ whole.settings
-  pub same-counts : n ≡ countsOf whole
+  pub same-counts : n ≡ counts_of whole
   pub layers : entries s n.layers 18 ≡ value whole.layers first
   pub polygons : shapes s n.polygons (first + 2) ≡ value whole.polygons second
   pub splits : ids s n.splits (second + 2) ≡ value whole.splits end
@@ -142,7 +142,7 @@ pub record Plan (s : List ℕ) (rows : Rows) (g : Settings) (n : Counts) : Type 
   pub fit-points : points_of whole.polygons ≤ length rows.points
   pub fit-splits : n.splits ≤ length rows.splits
 
-pub plan : (s : List ℕ) (rows : Rows) {r : Read} → Ok r ≡ checked (board s) → hasRoom rows r.counts ≡ true → Plan s rows r.settings r.counts
+pub plan : (s : List ℕ) (rows : Rows) {r : Read} → Ok r ≡ checked (board s) → has_room rows r.counts ≡ true → Plan s rows r.settings r.counts
 plan s rows {r} p h =
     let n = r.counts in
     let a = accepted-board (board s) p in
@@ -158,7 +158,7 @@ plan s rows {r} p h =
       second = m.second;
       end = m.end;
       last = a.1;
-      read = reading-done s rows a.2 (ap (hasRoom rows) (sym a.4) ∙ h);
+      read = reading-done s rows a.2 (ap (has_room rows) (sym a.4) ∙ h);
       same-settings = a.3;
       same-counts = a.4;
       layers = ap (λ (k : Counts). entries s k.layers 18) a.4 ∙ m.layers;

@@ -16,18 +16,18 @@ abbrev pub rows_of : List (List ℕ) → List (List ℕ) → List Float → List
 rows_of layers polygons sheets points splits = record { layers = layers; polygons = polygons; sheets = sheets; points = points; splits = splits }
 
 -- an entry of the layer list: layer, cell
-abbrev pub entryRow : Entry → List ℕ
-entryRow e = e.layer ∷ e.cell ∷ []
+abbrev pub entry_row : Entry → List ℕ
+entry_row e = e.layer ∷ e.cell ∷ []
 
 -- a polygon: layer, component, point count
-abbrev pub polygonRow : Polygon → List ℕ
-polygonRow p = p.layer ∷ p.component ∷ length p.points ∷ []
+abbrev pub polygon_row : Polygon → List ℕ
+polygon_row p = p.layer ∷ p.component ∷ length p.points ∷ []
 
-abbrev pub sheetOf : Polygon → Float
-sheetOf p = of_bits binary64 p.sheet
+abbrev pub sheet_of : Polygon → Float
+sheet_of p = of_bits binary64 p.sheet
 
-abbrev pub pointRow : Point → List ℤ
-pointRow p = p.x ∷ p.y ∷ []
+abbrev pub point_row : Point → List ℤ
+point_row p = p.x ∷ p.y ∷ []
 
 -- the points of all polygons, in order
 unfoldable pub rings : List Polygon → List Point
@@ -38,9 +38,9 @@ rings (p ∷ ps) = p.points ++ rings ps
 abbrev pub filled : Rows → Board → Rows
 filled rows b =
     record {
-      layers = sets rows.layers 0 (map entryRow b.layers);
-      polygons = sets rows.polygons 0 (map polygonRow b.polygons);
-      sheets = sets rows.sheets 0 (map sheetOf b.polygons);
-      points = sets rows.points 0 (map pointRow (rings b.polygons));
+      layers = sets rows.layers 0 (map entry_row b.layers);
+      polygons = sets rows.polygons 0 (map polygon_row b.polygons);
+      sheets = sets rows.sheets 0 (map sheet_of b.polygons);
+      points = sets rows.points 0 (map point_row (rings b.polygons));
       splits = sets rows.splits 0 b.splits;
     }

@@ -1,11 +1,11 @@
--- Document 01's board record, from a board to bytes.
+-- The rules' board record, from a board to bytes.
 use Rattle.std.specs.Prelude.{ℕ, zero, suc, ◌+◌, ◌/◌, ◌%◌, ◌≤◌, ◌<◌, ◌^◌, ◌≡◌, true, List, [], ◌∷◌, ◌++◌, length}
 use Rattle.std.specs.Int.{w64}
 use Rattle.std.proofs.Common.{of_z}
-use Rattle.refusals.specs.Limits.{maxLevel, maxCap, maxCell, maxLayers, maxPolygons, maxPoints}
+use Rattle.refusals.specs.Limits.{widest_level, max_cap, max_cell, max_layers, max_polygons, max_points}
 use Rattle.cell.specs.Ticks.{in_range}
 use Rattle.record.specs.declared.Settings.{Settings}
-use Rattle.record.specs.Board.{Entry, Point, Polygon, Board, lastLayer, sheetLow, sheetHigh}
+use Rattle.record.specs.Board.{Entry, Point, Polygon, Board, last_layer, sheet_low, sheet_high}
 
 -- a number in k bytes, the first of them the most significant
 unfoldable pub bytes : ℕ → ℕ → List ℕ
@@ -17,42 +17,42 @@ unfoldable pub each : {A : Type 0} → (A → List ℕ) → List A → List ℕ
 each f [] = []
 each f (x ∷ xs) = f x ++ each f xs
 
-abbrev pub entryBytes : Entry → List ℕ
-entryBytes e = bytes 2 e.layer ++ bytes 8 e.cell
+abbrev pub entry_bytes : Entry → List ℕ
+entry_bytes e = bytes 2 e.layer ++ bytes 8 e.cell
 
-abbrev pub pointBytes : Point → List ℕ
-pointBytes p = bytes 8 (of_z w64 p.x) ++ bytes 8 (of_z w64 p.y)
+abbrev pub point_bytes : Point → List ℕ
+point_bytes p = bytes 8 (of_z w64 p.x) ++ bytes 8 (of_z w64 p.y)
 
-abbrev pub polygonBytes : Polygon → List ℕ
-polygonBytes p = bytes 2 p.layer ++ (bytes 4 p.component ++ (bytes 8 p.sheet ++ (bytes 2 (length p.points) ++ each pointBytes p.points)))
+abbrev pub polygon_bytes : Polygon → List ℕ
+polygon_bytes p = bytes 2 p.layer ++ (bytes 4 p.component ++ (bytes 8 p.sheet ++ (bytes 2 (length p.points) ++ each point_bytes p.points)))
 
-abbrev pub settingsBytes : Settings → List ℕ
-settingsBytes g = bytes 1 g.level ++ (bytes 2 g.cap ++ bytes 8 g.target)
+abbrev pub settings_bytes : Settings → List ℕ
+settings_bytes g = bytes 1 g.level ++ (bytes 2 g.cap ++ bytes 8 g.target)
 
-abbrev pub listsBytes : Board → List ℕ
-listsBytes b =
-    (bytes 2 (length b.layers) ++ each entryBytes b.layers)
-    ++ ((bytes 2 (length b.polygons) ++ each polygonBytes b.polygons)
+abbrev pub lists_bytes : Board → List ℕ
+lists_bytes b =
+    (bytes 2 (length b.layers) ++ each entry_bytes b.layers)
+    ++ ((bytes 2 (length b.polygons) ++ each polygon_bytes b.polygons)
     ++ (bytes 2 (length b.splits) ++ each (bytes 4) b.splits))
 
 -- all that follows the length
 abbrev pub body : Board → List ℕ
-body b = settingsBytes b.settings ++ listsBytes b
+body b = settings_bytes b.settings ++ lists_bytes b
 
-unfoldable pub recordOf : Board → List ℕ
-recordOf b = bytes 1 1 ++ (bytes 4 (length (body b)) ++ body b)
+unfoldable pub record_of : Board → List ℕ
+record_of b = bytes 1 1 ++ (bytes 4 (length (body b)) ++ body b)
 
--- ---- a board in range: document 01's table
+-- ---- a board in range: the rules' table
 
 pub record SettingsOk (g : Settings) : Type 0 where
-  pub level : g.level ≤ maxLevel
-  pub cap : (1 ≤ g.cap) × (g.cap ≤ maxCap)
-  pub target : (1 ≤ g.target) × (g.target ≤ maxCell)
+  pub level : g.level ≤ widest_level
+  pub cap : (1 ≤ g.cap) × (g.cap ≤ max_cap)
+  pub target : (1 ≤ g.target) × (g.target ≤ max_cell)
 
 -- an entry whose layer is at least the least that may follow
 pub record EntryOk (least : ℕ) (e : Entry) : Type 0 where
-  pub layer : (least ≤ e.layer) × (e.layer ≤ lastLayer)
-  pub cell : e.cell ≤ maxCell
+  pub layer : (least ≤ e.layer) × (e.layer ≤ last_layer)
+  pub cell : e.cell ≤ max_cell
 
 pub record PointOk (p : Point) : Type 0 where
   pub x : in_range p.x ≡ true
@@ -69,15 +69,15 @@ All ok = Chain (λ (_ : Unit {0}). ok) (λ _. tt) tt
 pub record PolygonOk (p : Polygon) : Type 0 where
   pub layer : p.layer < 2 ^ 16
   pub component : p.component < 2 ^ 32
-  pub sheet : (sheetLow ≤ p.sheet) × (p.sheet ≤ sheetHigh)
-  pub few : length p.points ≤ maxPoints
+  pub sheet : (sheet_low ≤ p.sheet) × (p.sheet ≤ sheet_high)
+  pub few : length p.points ≤ max_points
   pub points : All PointOk p.points
 
 pub record InRange (b : Board) : Type 0 where
   pub settings : SettingsOk b.settings
-  pub few-layers : length b.layers ≤ maxLayers
+  pub few-layers : length b.layers ≤ max_layers
   pub layers : Chain EntryOk (λ e. e.layer + 1) 0 b.layers
-  pub few-polygons : length b.polygons ≤ maxPolygons
+  pub few-polygons : length b.polygons ≤ max_polygons
   pub polygons : All PolygonOk b.polygons
   pub few-splits : length b.splits < 2 ^ 16
   pub splits : All (λ k. k < 2 ^ 32) b.splits

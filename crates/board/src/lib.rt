@@ -7,7 +7,7 @@
 
 ghost use Rattle.std.specs.Prelude.{◌≡◌};
 ghost use Rattle.board.specs.Rows.{rows_of};
-ghost use Rattle.board.specs.Reading.{readSaid, readSays, readLeaves};
+ghost use Rattle.board.specs.Reading.{read_said, read_says, read_leaves};
 
 use record::check::{Read, check};
 use refusals::Refusal;
@@ -23,10 +23,10 @@ pub fn read(
     points: &mut [[i64; 2]],
     splits: &mut [u64],
 ) -> Result<Read, Refusal>
-    ensures result_value { readSaid result
-        ≡ readSays s.now (rows_of layers.old polygons.old sheets.old points.old splits.old) }
+    ensures result_value { read_said result
+        ≡ read_says s.now (rows_of layers.old polygons.old sheets.old points.old splits.old) }
     ensures splits_after { rows_of layers.new polygons.new sheets.new points.new splits.new
-        ≡ readLeaves s.now (rows_of layers.old polygons.old sheets.old points.old splits.old) }
+        ≡ read_leaves s.now (rows_of layers.old polygons.old sheets.old points.old splits.old) }
 {
     let answer = check(s)?;
     let counts = answer.counts;

@@ -1,4 +1,4 @@
--- Document 01's "Boundary cases": what the definitions come to, and what the document says. proofs/Eight.antt holds the two lists together.
+-- The rules' "Boundary cases": what the definitions come to, and what the document says. proofs/Eight.antt holds the two lists together.
 -- Rows, rings and rectangles are in the caller's ticks. P7's strips are as the code holds them, 2^36 more.
 use Rattle.std.specs.Prelude.{ℕ, suc, ◌+◌, ◌*◌, ◌-◌, Bool, true, false, ◌&&◌, cond, List, [], ◌∷◌, ◌++◌, map, ℤ, pos, Float, replicate}
 use Rattle.std.specs.Int.Signed.{le_z}
@@ -7,18 +7,18 @@ use Rattle.std.specs.Float.Ieee.{to_bits}
 use Rattle.refusals.specs.Limits.{coordinate}
 use Rattle.refusals.specs.Said.{Said, accepted, refused, bit}
 use Rattle.contact.specs.declared.Rect.{Rect}
-use Rattle.contact.specs.Contact.{contactSays}
-use Rattle.cell.specs.Cells.{noCell}
+use Rattle.contact.specs.Contact.{contact_says}
+use Rattle.cell.specs.Cells.{no_cell}
 use Rattle.table.specs.Mesh.{Cell, is_none, table}
-use Rattle.table.specs.Refine.{refineRow}
+use Rattle.table.specs.Refine.{refine_row}
 use Rattle.coarsest.specs.Passes.{balancing, conforming}
-use Rattle.even.specs.Even.{evenSays, evenRow}
+use Rattle.even.specs.Even.{even_says, even_row}
 use Rattle.strips.specs.declared.walk.Strip.{Strip}
-use Rattle.strips.specs.Strips.{stripsOf}
+use Rattle.strips.specs.Strips.{strips_of}
 use Rattle.build.specs.Grid.{held_at}
 use Rattle.floats.specs.Fractions.{float}
-use Rattle.power.specs.Formulas.{slopeOf, powerOf}
-use Rattle.cell.specs.Ticks.{metresOf}
+use Rattle.power.specs.Formulas.{slope_of, power_of}
+use Rattle.cell.specs.Ticks.{metres_of}
 
 -- an answer: 0 and the call's values, or a refusal's number and place
 abbrev pub answer : Said → List ℕ
@@ -26,43 +26,43 @@ answer (accepted values) = 0 ∷ values
 answer (refused number place) = number ∷ place ∷ []
 
 -- what balance and conform say of a row of n cells at max_level 2, and the row after balance
-abbrev pub balanceSays : List ℤ → ℕ → List ℕ
-balanceSays t n = answer (evenSays balancing 1 t n 2)
+abbrev pub balance_says : List ℤ → ℕ → List ℕ
+balance_says t n = answer (even_says balancing 1 t n 2)
 
-abbrev pub conformSays : List ℤ → ℕ → List ℕ
-conformSays t n = answer (evenSays conforming 0 t n 2)
+abbrev pub conform_says : List ℤ → ℕ → List ℕ
+conform_says t n = answer (even_says conforming 0 t n 2)
 
 abbrev pub balanced : List ℤ → ℕ → List ℤ
-balanced t n = evenRow balancing 1 t n 2
+balanced t n = even_row balancing 1 t n 2
 
 -- the same numbers, as many of them
-unfoldable pub sameRow : List ℤ → List ℤ → Bool
-sameRow [] [] = true
-sameRow [] (b ∷ v) = false
-sameRow (a ∷ u) [] = false
-sameRow (a ∷ u) (b ∷ v) = le_z a b && le_z b a && sameRow u v
+unfoldable pub same_row : List ℤ → List ℤ → Bool
+same_row [] [] = true
+same_row [] (b ∷ v) = false
+same_row (a ∷ u) [] = false
+same_row (a ∷ u) (b ∷ v) = le_z a b && le_z b a && same_row u v
 
 -- 1 where balance leaves the row as it was
 abbrev pub untouched : List ℤ → ℕ → ℕ
-untouched t n = bit (sameRow (balanced t n) t)
+untouched t n = bit (same_row (balanced t n) t)
 
 -- the eight numbers of a root
 abbrev pub root : ℕ → ℕ → ℕ → ℕ → ℕ → List ℤ
-root x0 y0 x1 y1 polygon = pos x0 ∷ pos y0 ∷ pos x1 ∷ pos y1 ∷ pos 0 ∷ pos noCell ∷ pos noCell ∷ pos polygon ∷ []
+root x0 y0 x1 y1 polygon = pos x0 ∷ pos y0 ∷ pos x1 ∷ pos y1 ∷ pos 0 ∷ pos no_cell ∷ pos no_cell ∷ pos polygon ∷ []
 
 -- P2's input in a row of this many slots: "Roots (0,0,8,8), (8,0,16,8), max_level 2; split 0, then 3". It has 10 cells
 unfoldable pub lent : ℕ → List ℤ
 lent slots =
-    refineRow (refineRow (root 0 0 8 8 0 ++ root 8 0 16 8 1 ++ replicate ((slots - 2) * 8) (pos 0)) 2 2 0) 6 2 3
+    refine_row (refine_row (root 0 0 8 8 0 ++ root 8 0 16 8 1 ++ replicate ((slots - 2) * 8) (pos 0)) 2 2 0) 6 2 3
 
 unfoldable pub leaves : List Cell → ℕ
 leaves [] = 0
 leaves (c ∷ cs) = cond (is_none c.kids) (suc (leaves cs)) (leaves cs)
 
 -- the ids of the split cells, from i on
-unfoldable pub splitsFrom : ℕ → List Cell → List ℕ
-splitsFrom i [] = []
-splitsFrom i (c ∷ cs) = cond (is_none c.kids) (splitsFrom (suc i) cs) (i ∷ splitsFrom (suc i) cs)
+unfoldable pub splits_from : ℕ → List Cell → List ℕ
+splits_from i [] = []
+splits_from i (c ∷ cs) = cond (is_none c.kids) (splits_from (suc i) cs) (i ∷ splits_from (suc i) cs)
 
 abbrev pub rect : ℕ → ℕ → ℕ → ℕ → Rect
 rect a b c d = record { x0 = pos a; y0 = pos b; x1 = pos c; y1 = pos d }
@@ -76,23 +76,23 @@ corners (s ∷ ss) = s.x0 ∷ s.y0 ∷ s.x1 ∷ s.y1 ∷ corners ss
 
 -- "Cell 4 by 4, r_sheet 1, potentials 0,1,1,0"
 abbrev pub power : Float
-power = powerOf (slopeOf (float 0) (float 1) (float 1) (float 0) (metresOf 4) (metresOf 4)) (float 1)
+power = power_of (slope_of (float 0) (float 1) (float 1) (float 0) (metres_of 4) (metres_of 4)) (float 1)
 
 -- p2 stands for `lent`: a constant list is too dear to compute, and a function's is cheap
 unfoldable pub computed : (ℕ → List ℤ) → List (List ℕ)
 computed p2 =
-    balanceSays [] 0
-    ∷ balanceSays (p2 42) 10
-    ∷ splitsFrom 0 (table (balanced (p2 42) 10) 14)
+    balance_says [] 0
+    ∷ balance_says (p2 42) 10
+    ∷ splits_from 0 (table (balanced (p2 42) 10) 14)
     ∷ (leaves (table (balanced (p2 42) 10) 14) ∷ [])
-    ∷ conformSays (p2 42) 10
-    ∷ balanceSays (p2 13) 10
-    ∷ balanceSays (p2 14) 10
+    ∷ conform_says (p2 42) 10
+    ∷ balance_says (p2 13) 10
+    ∷ balance_says (p2 14) 10
     ∷ (untouched (p2 13) 10 ∷ untouched (p2 14) 10 ∷ [])
-    ∷ answer (contactSays (rect 0 0 4 4) (rect 4 4 8 8))
-    ∷ answer (contactSays (rect 0 0 4 4) (rect 4 3 8 8))
+    ∷ answer (contact_says (rect 0 0 4 4) (rect 4 4 8 8))
+    ∷ answer (contact_says (rect 0 0 4 4) (rect 4 3 8 8))
     ∷ (held_at 256 4 8 ∷ held_at 256 4 9 ∷ held_at 1 4 8 ∷ [])
-    ∷ corners (stripsOf (point 0 0 ∷ point 8 0 ∷ point 8 4 ∷ point 4 4 ∷ point 4 8 ∷ point 0 8 ∷ []))
+    ∷ corners (strips_of (point 0 0 ∷ point 8 0 ∷ point 8 4 ∷ point 4 4 ∷ point 4 8 ∷ point 0 8 ∷ []))
     ∷ (to_bits binary64 power ∷ [])
     ∷ []
 

@@ -1,3 +1,3 @@
-// Document 01's boundary cases, P1 to P8, computed of the definitions. There is no code: specs/ has the cases, proofs/ the one check.
+// The rules' boundary cases, P1 to P8, computed of the definitions. There is no code: specs/ has the cases, proofs/ the one check.
 
 #![tactic(auto)]

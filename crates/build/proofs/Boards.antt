@@ -12,12 +12,12 @@ use lib.IntN.{ℤ}
 use lib.ListN.{length, get_or, length-append}
 use borrow.Author.Tests.{eqb-false}
 use Rattle.cell.proofs.Offsets.{below?}
-use Rattle.refusals.specs.Limits.{maxLevel, maxCell}
+use Rattle.refusals.specs.Limits.{widest_level, max_cell}
 use Rattle.refusals.specs.Said.{Said, refused}
 use Rattle.strips.proofs.Picking.{split}
-use Rattle.build.specs.Grid.{allEven, listed_at, size_of, rootsIn}
-use Rattle.build.specs.Board.{Board, unit, size_at, stripsAt, rootsAt, rootsTo}
-use Rattle.build.specs.Says.{evenFrom}
+use Rattle.build.specs.Grid.{all_even, listed_at, size_of, roots_in}
+use Rattle.build.specs.Board.{Board, unit, size_at, strips_at, roots_at, roots_to}
+use Rattle.build.specs.Says.{even_from}
 use Rattle.build.specs.Steps.{Sizes, Fit, SameTo, placed}
 use Rattle.build.proofs.Tallying.{length-roots}
 use Rattle.build.proofs.Placing.{placed-more}
@@ -28,11 +28,11 @@ size-some l layer target h =
     (λ e. rw e h)
     (λ e. rw e (⊎_elim (λ (k : 0 < listed_at l layer). k) (λ (k : listed_at l layer ≤ 0). absurd (eqb-false (listed_at l layer) 0 e (omega arith))) (below? 0 (listed_at l layer))))
 
-size_fits : (l : List (List ℕ)) (layer target : ℕ) → target ≤ maxCell → listed_at l layer ≤ maxCell → size_of l layer target ≤ maxCell
+size_fits : (l : List (List ℕ)) (layer target : ℕ) → target ≤ max_cell → listed_at l layer ≤ max_cell → size_of l layer target ≤ max_cell
 size_fits l layer target h k = split (eqb (listed_at l layer) 0) (λ e. rw e h) (λ e. rw e k)
 
-pub unit-fits : (m : ℕ) → m ≤ maxLevel → 2 ^ (m + 1) ≤ 2 ^ (maxLevel + 1)
-unit-fits m h = let k : m + 1 ≤ maxLevel + 1 = omega arith in pow_mono {i = m + 1} {j = maxLevel + 1} k
+pub unit-fits : (m : ℕ) → m ≤ widest_level → 2 ^ (m + 1) ≤ 2 ^ (widest_level + 1)
+unit-fits m h = let k : m + 1 ≤ widest_level + 1 = omega arith in pow_mono {i = m + 1} {j = widest_level + 1} k
 
 module _ (b : Board) where
   pub sizes : Fit b → (p : ℕ) → Sizes b.settings.cap (size_at b p)
@@ -44,14 +44,14 @@ module _ (b : Board) where
         cell-fits = size_fits b.list (get_or b.layers p 0) b.settings.target f.target_fits (f.cells (get_or b.layers p 0));
       }
 
-  pub roots-more : (p : ℕ) → rootsTo b (p + 1) ≡ rootsTo b p ++ rootsAt b p
-  unfolding rootsTo
-  roots-more p = ap (rootsTo b) (add-one p)
+  pub roots-more : (p : ℕ) → roots_to b (p + 1) ≡ roots_to b p ++ roots_at b p
+  unfolding roots_to
+  roots-more p = ap (roots_to b) (add-one p)
 
-  pub length-roots-more : (p : ℕ) → length (rootsTo b (p + 1)) ≡ length (rootsTo b p) + length (rootsAt b p)
-  length-roots-more p = ap length (roots-more p) ∙ length-append (rootsTo b p) (rootsAt b p)
+  pub length-roots-more : (p : ℕ) → length (roots_to b (p + 1)) ≡ length (roots_to b p) + length (roots_at b p)
+  length-roots-more p = ap length (roots-more p) ∙ length-append (roots_to b p) (roots_at b p)
 
-  pub roots-mono : (p q : ℕ) → p ≤ q → length (rootsTo b p) ≤ length (rootsTo b q)
+  pub roots-mono : (p q : ℕ) → p ≤ q → length (roots_to b p) ≤ length (roots_to b q)
   roots-mono p zero h = let e : p ≡ 0 = omega arith in rw e (omega arith)
   roots-mono p (suc q) h =
       let r = roots-mono p q in
@@ -61,33 +61,33 @@ module _ (b : Board) where
       (λ (k : suc q ≤ p). let e : p ≡ suc q = omega arith in rw e (omega arith))
       (below? p (suc q))
 
-  pub no-roots : rootsTo b 0 ≡ []
-  unfolding rootsTo
+  pub no-roots : roots_to b 0 ≡ []
+  unfolding roots_to
   no-roots = refl
 
   module _ (p n : ℕ) (h : p < n) (o : Said) where
     rest : n - p ≡ suc (n - (p + 1))
     rest = omega arith
 
-    pub even-on : allEven (unit b) b.settings.cap (size_at b p) (stripsAt b p) ≡ true → evenFrom b p (n - p) o ≡ evenFrom b (p + 1) (n - (p + 1)) o
-    unfolding evenFrom
+    pub even-on : all_even (unit b) b.settings.cap (size_at b p) (strips_at b p) ≡ true → even_from b p (n - p) o ≡ even_from b (p + 1) (n - (p + 1)) o
+    unfolding even_from
     even-on e = rw (rest, e, add-one p) refl
 
-    pub even-stop : allEven (unit b) b.settings.cap (size_at b p) (stripsAt b p) ≡ false → evenFrom b p (n - p) o ≡ refused 5 p
-    unfolding evenFrom
+    pub even-stop : all_even (unit b) b.settings.cap (size_at b p) (strips_at b p) ≡ false → even_from b p (n - p) o ≡ refused 5 p
+    unfolding even_from
     even-stop e = rw (rest, e) refl
 
-  pub even-end : (p n : ℕ) (o : Said) → n ≤ p → evenFrom b p (n - p) o ≡ o
-  unfolding evenFrom
+  pub even-end : (p n : ℕ) (o : Said) → n ≤ p → even_from b p (n - p) o ≡ o
+  unfolding even_from
   even-end p n o h = let e : n - p ≡ 0 = omega arith in rw e refl
 
   -- a polygon's roots on top of a count
-  pub count-more : (slots sum r p : ℕ) → SameTo slots sum (length (rootsTo b p)) → SameTo slots r (sum + length (rootsIn 0 b.settings.cap (size_at b p) (stripsAt b p))) → SameTo slots r (length (rootsTo b (p + 1)))
-  count-more slots sum r p s t = omega (arith, length-roots-more p, length-roots p 0 b.settings.cap (size_at b p) (stripsAt b p))
+  pub count-more : (slots sum r p : ℕ) → SameTo slots sum (length (roots_to b p)) → SameTo slots r (sum + length (roots_in 0 b.settings.cap (size_at b p) (strips_at b p))) → SameTo slots r (length (roots_to b (p + 1)))
+  count-more slots sum r p s t = omega (arith, length-roots-more p, length-roots p 0 b.settings.cap (size_at b p) (strips_at b p))
 
   -- a polygon's roots placed behind those before it
-  pub polygon-placed : (t u v : List ℤ) (k p : ℕ) → k ≡ length (rootsTo b p) → u ≡ placed t 0 (rootsTo b p) → v ≡ placed u k (rootsAt b p) → length (rootsTo b (p + 1)) * 8 ≤ length t → v ≡ placed t 0 (rootsTo b (p + 1))
+  pub polygon-placed : (t u v : List ℤ) (k p : ℕ) → k ≡ length (roots_to b p) → u ≡ placed t 0 (roots_to b p) → v ≡ placed u k (roots_at b p) → length (roots_to b (p + 1)) * 8 ≤ length t → v ≡ placed t 0 (roots_to b (p + 1))
   polygon-placed t u v k p e f g h =
-      g ∙ ap (λ (l : List ℤ). placed l k (rootsAt b p)) f
-      ∙ placed-more t 0 k (rootsTo b p) (rootsAt b p) (omega arith) (omega (arith, length-roots-more p))
+      g ∙ ap (λ (l : List ℤ). placed l k (roots_at b p)) f
+      ∙ placed-more t 0 k (roots_to b p) (roots_at b p) (omega arith) (omega (arith, length-roots-more p))
       ∙ ap (placed t 0) (sym (roots-more p))

@@ -7,20 +7,20 @@ use native.Mathlib.Nat.{mul-le-mul, mul-pos, mul-le-mul_left, div-mul-le_self, o
 use native.Mathlib.Numerals.{add-one}
 use lib.ListN.{length, drop, get_or, drop_of_length-le}
 use lib.Seq.{drop-cons}
-use Rattle.refusals.specs.Limits.{maxCap}
+use Rattle.refusals.specs.Limits.{max_cap}
 use Rattle.strips.specs.declared.walk.Strip.{Strip}
-use Rattle.build.specs.Grid.{held_at, cutOf, listed_at}
+use Rattle.build.specs.Grid.{held_at, cut_of, listed_at}
 use Rattle.build.specs.Steps.{Sizes, Cuts}
 
 pub held-some : (cap c w : ℕ) → Sizes cap c → 1 ≤ held_at cap c w
 unfolding held_at
 held-some cap c w z = omega arith
 
-pub held_fits : (cap c w : ℕ) → Sizes cap c → held_at cap c w ≤ maxCap
+pub held_fits : (cap c w : ℕ) → Sizes cap c → held_at cap c w ≤ max_cap
 unfolding held_at
 held_fits cap c w z = omega arith
 
-pub cuts : (cap c : ℕ) (s : Strip) → Sizes cap c → Cuts (cutOf cap c s)
+pub cuts : (cap c : ℕ) (s : Strip) → Sizes cap c → Cuts (cut_of cap c s)
 cuts cap c s z =
     record {
       x-some = held-some cap c (s.x1 - s.x0) z;

@@ -13,39 +13,39 @@ use lib.Seq.{take_at, take_all}
 use borrow.Author.Tests.{eqb-true, leb-true}
 use Rattle.cell.proofs.Offsets.{below?}
 use Rattle.cell.proofs.Contact.{and_left, and_right}
-use Rattle.refusals.specs.Limits.{maxLevel, maxCap, maxCell, maxLayers, maxPoints, maxPolygons}
+use Rattle.refusals.specs.Limits.{widest_level, max_cap, max_cell, max_layers, max_points, max_polygons}
 use Rattle.refusals.specs.Said.{Said, accepted, refused, refusal}
 use Rattle.refusals.specs.declared.Refusal.{Refusal}
 use Rattle.refusals.specs.declared.Refusal.TheVariants.{WrongVersion, WrongLength, OutOfRange, Slanted, UnevenCell, NoRoom, BadTable, NoSuchCell, AlreadySplit, FinestLevel}
-use Rattle.strips.specs.Said.{ifAccepted}
-use Rattle.strips.specs.Rings.{ringInRange, ringSlants}
-use Rattle.strips.specs.Strips.{stripsOf}
+use Rattle.strips.specs.Said.{if_accepted}
+use Rattle.strips.specs.Rings.{ring_in_range, ring_slants}
+use Rattle.strips.specs.Strips.{strips_of}
 use Rattle.strips.proofs.Picking.{split}
 use Rattle.strips.proofs.Laying.{few-points}
-use Rattle.build.specs.Grid.{Root, allEven, listed_at, flat, rootsIn}
-use Rattle.build.specs.Board.{Board, sum_to, ringAt, polygons, unit, size_at, stripsAt, rootsTo, rootsOf}
-use Rattle.floats.specs.Fractions.{inSheet}
-use Rattle.build.specs.Says.{roomShaped, rowsShaped, layerIn, entryOk, entriesOk, listOk, numbersOk, settingsOk, judgeFrom, evenFrom, room_for, filled}
-use Rattle.build.specs.Steps.{Fit, Tabled, placed, aloneSays, aloneLeaves}
+use Rattle.build.specs.Grid.{Root, all_even, listed_at, flat, roots_in}
+use Rattle.build.specs.Board.{Board, sum_to, ring_at, polygons, unit, size_at, strips_at, roots_to, roots_of}
+use Rattle.floats.specs.Fractions.{in_sheet}
+use Rattle.build.specs.Says.{room_shaped, rows_shaped, layer_in, entry_ok, entries_ok, list_ok, numbers_ok, settings_ok, judge_from, even_from, room_for, filled}
+use Rattle.build.specs.Steps.{Fit, Tabled, placed, alone_says, alone_leaves}
 use Rattle.build.proofs.Placing.{length-flat}
 
 -- every entry of a list that is in order has a cell in range
-entry-cell : (l : List (List ℕ)) (n i : ℕ) → entriesOk l n ≡ true → i < n → get_or (get_or l i []) 1 0 ≤ maxCell
-unfolding entriesOk
+entry-cell : (l : List (List ℕ)) (n i : ℕ) → entries_ok l n ≡ true → i < n → get_or (get_or l i []) 1 0 ≤ max_cell
+unfolding entries_ok
 entry-cell l zero i e h = absurd (omega arith)
 entry-cell l (suc n) i e h =
-    let r = entry-cell l n i (and_left (entriesOk l n) (entryOk l n) e) in
+    let r = entry-cell l n i (and_left (entries_ok l n) (entry_ok l n) e) in
     ⊎_elim
     (λ (k : i < n). r k)
     (λ (k : n ≤ i).
     let q : i ≡ n = omega arith in
     rw q
     (leb-true _ _
-    (and_right (ltb (layerIn l n) (2 ^ 16)) _
-    (and_left (ltb (layerIn l n) (2 ^ 16) && leb (get_or (get_or l n []) 1 0) maxCell) _ (and_right (entriesOk l n) (entryOk l n) e)))))
+    (and_right (ltb (layer_in l n) (2 ^ 16)) _
+    (and_left (ltb (layer_in l n) (2 ^ 16) && leb (get_or (get_or l n []) 1 0) max_cell) _ (and_right (entries_ok l n) (entry_ok l n) e)))))
     (below? i n)
 
-listed-fits : (l : List (List ℕ)) (layer : ℕ) → ((i : ℕ) → i < length l → get_or (get_or l i []) 1 0 ≤ maxCell) → listed_at l layer ≤ maxCell
+listed-fits : (l : List (List ℕ)) (layer : ℕ) → ((i : ℕ) → i < length l → get_or (get_or l i []) 1 0 ≤ max_cell) → listed_at l layer ≤ max_cell
 unfolding listed_at
 listed-fits [] layer h = omega arith
 listed-fits (e ∷ l) layer h =
@@ -58,14 +58,14 @@ refused-accepted n place vs e = let z : ◌≡◌ {A = ℕ} 0 1 = cc in omega ar
 
 -- polygons that were found sound are in range; `o` is what was said of the rest
 module _ (rs : List Float) (cs : List ℕ) (ps : List (List ℤ)) (o : Said) (vs : List ℕ) where
-  sound-from : (q n p : ℕ) → judgeFrom rs cs ps q n o ≡ accepted vs → q ≤ p → p < q + n → ringInRange (ringAt cs ps p) ≡ true
-  unfolding judgeFrom
+  sound-from : (q n p : ℕ) → judge_from rs cs ps q n o ≡ accepted vs → q ≤ p → p < q + n → ring_in_range (ring_at cs ps p) ≡ true
+  unfolding judge_from
   sound-from q zero p e l h = absurd (omega arith)
   sound-from q (suc n) p e l h =
       let r = sound-from (suc q) n p in
-      split (inSheet (get_or rs q nan))
-      (λ s. split (ringInRange (ringAt cs ps q))
-      (λ t. split (ringSlants (ringAt cs ps q))
+      split (in_sheet (get_or rs q nan))
+      (λ s. split (ring_in_range (ring_at cs ps q))
+      (λ t. split (ring_slants (ring_at cs ps q))
       (λ u. absurd (refused-accepted 4 q vs (rw (s, t, u) at e)))
       (λ u. ⊎_elim
       (λ (k : q < p). r (rw (s, t, u) at e) k (omega arith))
@@ -74,17 +74,17 @@ module _ (rs : List Float) (cs : List ℕ) (ps : List (List ℤ)) (o : Said) (vs
       (λ t. absurd (refused-accepted 3 q vs (rw (s, t) at e))))
       (λ s. absurd (refused-accepted 3 q vs (rw s at e)))
 
-  pub sound-few : (n p : ℕ) → judgeFrom rs cs ps 0 n o ≡ accepted vs → p < n → length (ringAt cs ps p) ≤ maxPoints
-  sound-few n p e h = few-points (ringAt cs ps p) (sound-from 0 n p e (omega arith) (omega arith))
+  pub sound-few : (n p : ℕ) → judge_from rs cs ps 0 n o ≡ accepted vs → p < n → length (ring_at cs ps p) ≤ max_points
+  sound-few n p e h = few-points (ring_at cs ps p) (sound-from 0 n p e (omega arith) (omega arith))
 
-  pub sound-passes : (q n : ℕ) → judgeFrom rs cs ps q n o ≡ accepted vs → o ≡ accepted vs
-  unfolding judgeFrom
+  pub sound-passes : (q n : ℕ) → judge_from rs cs ps q n o ≡ accepted vs → o ≡ accepted vs
+  unfolding judge_from
   sound-passes q zero e = e
   sound-passes q (suc n) e =
       let r = sound-passes (suc q) n in
-      split (inSheet (get_or rs q nan))
-      (λ s. split (ringInRange (ringAt cs ps q))
-      (λ t. split (ringSlants (ringAt cs ps q))
+      split (in_sheet (get_or rs q nan))
+      (λ s. split (ring_in_range (ring_at cs ps q))
+      (λ t. split (ring_slants (ring_at cs ps q))
       (λ u. absurd (refused-accepted 4 q vs (rw (s, t, u) at e)))
       (λ u. r (rw (s, t, u) at e)))
       (λ t. absurd (refused-accepted 3 q vs (rw (s, t) at e))))
@@ -92,29 +92,29 @@ module _ (rs : List Float) (cs : List ℕ) (ps : List (List ℤ)) (o : Said) (vs
 
 -- and polygons that passed have even sides
 module _ (b : Board) (o : Said) (vs : List ℕ) where
-  even-from : (q n p : ℕ) → evenFrom b q n o ≡ accepted vs → q ≤ p → p < q + n → allEven (unit b) b.settings.cap (size_at b p) (stripsAt b p) ≡ true
-  unfolding evenFrom
+  even-from : (q n p : ℕ) → even_from b q n o ≡ accepted vs → q ≤ p → p < q + n → all_even (unit b) b.settings.cap (size_at b p) (strips_at b p) ≡ true
+  unfolding even_from
   even-from q zero p e l h = absurd (omega arith)
   even-from q (suc n) p e l h =
       let r = even-from (suc q) n p in
-      split (allEven (unit b) b.settings.cap (size_at b q) (stripsAt b q))
+      split (all_even (unit b) b.settings.cap (size_at b q) (strips_at b q))
       (λ s. ⊎_elim
       (λ (k : q < p). r (rw s at e) k (omega arith))
       (λ (k : p ≤ q). let z : p ≡ q = omega arith in rw z s)
       (below? q p))
       (λ s. absurd (refused-accepted 5 q vs (rw s at e)))
 
-  pub even-at : (n p : ℕ) → evenFrom b 0 n o ≡ accepted vs → p < n → allEven (unit b) b.settings.cap (size_at b p) (stripsAt b p) ≡ true
+  pub even-at : (n p : ℕ) → even_from b 0 n o ≡ accepted vs → p < n → all_even (unit b) b.settings.cap (size_at b p) (strips_at b p) ≡ true
   even-at n p e h = even-from 0 n p e (omega arith) (omega arith)
 
-  pub even-passes : (q n : ℕ) → evenFrom b q n o ≡ accepted vs → o ≡ accepted vs
-  unfolding evenFrom
+  pub even-passes : (q n : ℕ) → even_from b q n o ≡ accepted vs → o ≡ accepted vs
+  unfolding even_from
   even-passes q zero e = e
   even-passes q (suc n) e =
       let r = even-passes (suc q) n in
-      split (allEven (unit b) b.settings.cap (size_at b q) (stripsAt b q)) (λ s. r (rw s at e)) (λ s. absurd (refused-accepted 5 q vs (rw s at e)))
+      split (all_even (unit b) b.settings.cap (size_at b q) (strips_at b q)) (λ s. r (rw s at e)) (λ s. absurd (refused-accepted 5 q vs (rw s at e)))
 
-pub tabled : (t : List ℤ) → roomShaped (length t) ≡ true → Tabled t
+pub tabled : (t : List ℤ) → room_shaped (length t) ≡ true → Tabled t
 tabled t e = record { whole = eqb-true _ _ (and_left _ _ e); few = leb-true _ _ (and_right (eqb (length t % 8) 0) _ e) }
 
 -- the roots placed and the rest cleared
@@ -125,71 +125,71 @@ roots-cleared t u rs k e f n =
     let g : take (k * 8) u ≡ flat rs = ap (take (k * 8)) f ∙ take_at (flat rs) (drop ((0 + length rs) * 8) t) (k * 8) h in
     rw (g, n, e) refl
 
-pub cleared : (t u : List ℤ) (b : Board) (k : ℕ) → k ≡ length (rootsOf b) → u ≡ placed t 0 (rootsOf b) → length u ≡ length t → take (k * 8) u ++ replicate (length u - k * 8) (pos 0) ≡ filled b (length t)
+pub cleared : (t u : List ℤ) (b : Board) (k : ℕ) → k ≡ length (roots_of b) → u ≡ placed t 0 (roots_of b) → length u ≡ length t → take (k * 8) u ++ replicate (length u - k * 8) (pos 0) ≡ filled b (length t)
 unfolding filled
-cleared t u b k e f n = roots-cleared t u (rootsOf b) k e f n
+cleared t u b k e f n = roots-cleared t u (roots_of b) k e f n
 
 -- a board of one polygon
 module _ (b : Board) (f : Fit b) (one : length b.counts ≡ 1) where
-  pub ring-alone : ringAt b.counts b.points 0 ≡ b.points
-  unfolding ringAt sum_to
+  pub ring-alone : ring_at b.counts b.points 0 ≡ b.points
+  unfolding ring_at sum_to
   ring-alone =
       let s = rw one at f.sums in
       take_all (get_or b.counts 0 0) b.points (omega arith)
 
-  pub roots-alone : rootsOf b ≡ rootsIn 0 b.settings.cap (size_at b 0) (stripsOf b.points)
-  unfolding rootsTo
+  pub roots-alone : roots_of b ≡ roots_in 0 b.settings.cap (size_at b 0) (strips_of b.points)
+  unfolding roots_to
   roots-alone = rw (one, ring-alone) refl
 
-  pub says-alone : (slots : ℕ) → evenFrom b 0 (polygons b) (room_for slots (length (rootsOf b))) ≡ aloneSays (unit b) b.settings.cap (size_at b 0) (stripsOf b.points) slots
-  unfolding evenFrom
+  pub says-alone : (slots : ℕ) → even_from b 0 (polygons b) (room_for slots (length (roots_of b))) ≡ alone_says (unit b) b.settings.cap (size_at b 0) (strips_of b.points) slots
+  unfolding even_from
   says-alone slots = rw (roots-alone, one, ring-alone) refl
 
-  pub leaves-alone : (size : ℕ) → filled b size ≡ aloneLeaves b.settings.cap (size_at b 0) (stripsOf b.points) size
+  pub leaves-alone : (size : ℕ) → filled b size ≡ alone_leaves b.settings.cap (size_at b 0) (strips_of b.points) size
   unfolding filled
   leaves-alone size = rw roots-alone refl
 
 -- from the tests to what the steps ask
-module _ (b : Board) (components : List ℕ) (sheets : List Float) (size : ℕ) (shape : rowsShaped b.layers components sheets b.counts b.points size ≡ true) where
+module _ (b : Board) (components : List ℕ) (sheets : List Float) (size : ℕ) (shape : rows_shaped b.layers components sheets b.counts b.points size ≡ true) where
   rows_fit : (eqb (length b.layers) (length b.counts) && (eqb (length components) (length b.counts) && eqb (length sheets) (length b.counts))) ≡ true
-  unfolding rowsShaped
-  rows_fit = and_right (roomShaped size) _ (and_left _ (eqb (sum_to b.counts (length b.counts)) (length b.points)) shape)
+  unfolding rows_shaped
+  rows_fit = and_right (room_shaped size) _ (and_left _ (eqb (sum_to b.counts (length b.counts)) (length b.points)) shape)
 
-  pub room_fits : roomShaped size ≡ true
-  unfolding rowsShaped
-  room_fits = and_left (roomShaped size) _ (and_left _ (eqb (sum_to b.counts (length b.counts)) (length b.points)) shape)
+  pub room_fits : room_shaped size ≡ true
+  unfolding rows_shaped
+  room_fits = and_left (room_shaped size) _ (and_left _ (eqb (sum_to b.counts (length b.counts)) (length b.points)) shape)
 
   pub sheets-fit : length sheets ≡ length b.counts
   sheets-fit = eqb-true _ _ (and_right (eqb (length components) (length b.counts)) _ (and_right (eqb (length b.layers) (length b.counts)) _ rows_fit))
 
   pub points-fit : sum_to b.counts (length b.counts) ≡ length b.points
-  unfolding rowsShaped
-  points-fit = eqb-true _ _ (and_right (roomShaped size && (eqb (length b.layers) (length b.counts) && (eqb (length components) (length b.counts) && eqb (length sheets) (length b.counts)))) _ shape)
+  unfolding rows_shaped
+  points-fit = eqb-true _ _ (and_right (room_shaped size && (eqb (length b.layers) (length b.counts) && (eqb (length components) (length b.counts) && eqb (length sheets) (length b.counts)))) _ shape)
 
-  pub fit : settingsOk b ≡ true → (o : Said) (vs : List ℕ) → judgeFrom sheets b.counts b.points 0 (length b.counts) o ≡ accepted vs → Fit b
-  unfolding settingsOk listOk
+  pub fit : settings_ok b ≡ true → (o : Said) (vs : List ℕ) → judge_from sheets b.counts b.points 0 (length b.counts) o ≡ accepted vs → Fit b
+  unfolding settings_ok list_ok
   fit e o vs j =
-      let n = and_left (numbersOk b.settings (polygons b)) _ e in
-      let l = and_right (numbersOk b.settings (polygons b)) _ e in
-      let a = and_left ((leb b.settings.max_level maxLevel && leb (polygons b) maxPolygons) && (leb 1 b.settings.cap && leb b.settings.cap maxCap)) _ n in
-      let t = and_right ((leb b.settings.max_level maxLevel && leb (polygons b) maxPolygons) && (leb 1 b.settings.cap && leb b.settings.cap maxCap)) _ n in
-      let m = and_left (leb b.settings.max_level maxLevel && leb (polygons b) maxPolygons) _ a in
-      let c = and_right (leb b.settings.max_level maxLevel && leb (polygons b) maxPolygons) _ a in
+      let n = and_left (numbers_ok b.settings (polygons b)) _ e in
+      let l = and_right (numbers_ok b.settings (polygons b)) _ e in
+      let a = and_left ((leb b.settings.max_level widest_level && leb (polygons b) max_polygons) && (leb 1 b.settings.cap && leb b.settings.cap max_cap)) _ n in
+      let t = and_right ((leb b.settings.max_level widest_level && leb (polygons b) max_polygons) && (leb 1 b.settings.cap && leb b.settings.cap max_cap)) _ n in
+      let m = and_left (leb b.settings.max_level widest_level && leb (polygons b) max_polygons) _ a in
+      let c = and_right (leb b.settings.max_level widest_level && leb (polygons b) max_polygons) _ a in
       record {
         level = leb-true _ _ (and_left _ _ m);
         cap-some = leb-true _ _ (and_left _ _ c);
         cap-fits = leb-true _ _ (and_right (leb 1 b.settings.cap) _ c);
         target-some = leb-true _ _ (and_left _ _ t);
         target_fits = leb-true _ _ (and_right (leb 1 b.settings.target) _ t);
-        cells = λ layer. listed-fits b.list layer (λ i h. entry-cell b.list (length b.list) i (and_right (leb (length b.list) maxLayers) _ l) h);
+        cells = λ layer. listed-fits b.list layer (λ i h. entry-cell b.list (length b.list) i (and_right (leb (length b.list) max_layers) _ l) h);
         rows = eqb-true _ _ (and_left _ _ rows_fit);
         sums = points-fit;
         few = λ p h. sound-few sheets b.counts b.points o vs (length b.counts) p j h;
-        polys = leb-true _ _ (and_right (leb b.settings.max_level maxLevel) _ m);
+        polys = leb-true _ _ (and_right (leb b.settings.max_level widest_level) _ m);
       }
 
 -- what a refused call leaves
-pub refusal-keeps : {A : Type 0} (x : Refusal) (new old : A) → ifAccepted (refusal x) new old ≡ old
+pub refusal-keeps : {A : Type 0} (x : Refusal) (new old : A) → if_accepted (refusal x) new old ≡ old
 refusal-keeps WrongVersion new old = refl
 refusal-keeps (WrongLength p) new old = refl
 refusal-keeps (OutOfRange p) new old = refl

@@ -21,9 +21,9 @@ use Rattle.strips.specs.declared.walk.Strip.{Strip}
 use Rattle.strips.proofs.Bounds.{strips-sound, sound-first, sound-rest}
 use Rattle.strips.proofs.Picking.{split}
 use Rattle.build.specs.declared.grid.Cut.{Cut}
-use Rattle.build.specs.Grid.{Root, boxed, rowOf, cell_of, rowTo, gridTo, rootsIn, cutOf, evenStrip, allEven, flat}
-use Rattle.build.specs.Board.{Board, polygons, unit, size_at, stripsAt, rootsAt, rootsTo, rootsOf}
-use Rattle.build.specs.Says.{rowsShaped, settingsOk, judgeFrom, evenFrom, room_for, buildSays, filled, buildLeaves}
+use Rattle.build.specs.Grid.{Root, boxed, row_of, cell_of, row_to, grid_to, roots_in, cut_of, even_strip, all_even, flat}
+use Rattle.build.specs.Board.{Board, polygons, unit, size_at, strips_at, roots_at, roots_to, roots_of}
+use Rattle.build.specs.Says.{rows_shaped, settings_ok, judge_from, even_from, room_for, build_says, filled, build_leaves}
 use Rattle.build.specs.Steps.{Sizes, Cuts, Fit, Tabled}
 use Rattle.build.proofs.Cutting.{cuts}
 use Rattle.build.proofs.Placing.{length-flat}
@@ -48,37 +48,37 @@ each_at P (r ∷ rs) d zero e h = e.0
 each_at P (r ∷ rs) d (suc i) e h = each_at P rs d i e.1 (omega arith)
 
 module _ (u n poly : ℕ) (below : poly < n) where
-  module _ (s : Strip) (g : Cut) (sound : Sound s) (c : Cuts g) (even : evenStrip u g s ≡ true) where
-    row_ok : (i j : ℕ) → i ≤ g.nx → j < g.ny → Each (RootOk u n) (rowTo poly (rowOf s g j) g.nx i)
-    unfolding rowTo Each
+  module _ (s : Strip) (g : Cut) (sound : Sound s) (c : Cuts g) (even : even_strip u g s ≡ true) where
+    row_ok : (i j : ℕ) → i ≤ g.nx → j < g.ny → Each (RootOk u n) (row_to poly (row_of s g j) g.nx i)
+    unfolding row_to Each
     row_ok zero j h k = tt
     row_ok (suc i) j h k =
-        each_append (RootOk u n) (rowTo poly (rowOf s g j) g.nx i) (boxed poly (cell_of (rowOf s g j) g.nx i) ∷ [])
+        each_append (RootOk u n) (row_to poly (row_of s g j) g.nx i) (boxed poly (cell_of (row_of s g j) g.nx i) ∷ [])
         (row_ok i j (omega arith) k) (cell-ok u n poly s g below sound c even i j (omega arith) k, tt)
 
-    grid-ok : (j : ℕ) → j ≤ g.ny → Each (RootOk u n) (gridTo poly s g j)
-    unfolding gridTo Each
+    grid-ok : (j : ℕ) → j ≤ g.ny → Each (RootOk u n) (grid_to poly s g j)
+    unfolding grid_to Each
     grid-ok zero h = tt
     grid-ok (suc j) h =
-        each_append (RootOk u n) (gridTo poly s g j) (rowTo poly (rowOf s g j) g.nx g.nx)
+        each_append (RootOk u n) (grid_to poly s g j) (row_to poly (row_of s g j) g.nx g.nx)
         (grid-ok j (omega arith)) (row_ok g.nx j (omega arith) (omega arith))
 
-  roots-ok : (cap c : ℕ) → Sizes cap c → (ss : List Strip) → AllSound ss → allEven u cap c ss ≡ true → Each (RootOk u n) (rootsIn poly cap c ss)
-  unfolding rootsIn allEven Each
+  roots-ok : (cap c : ℕ) → Sizes cap c → (ss : List Strip) → AllSound ss → all_even u cap c ss ≡ true → Each (RootOk u n) (roots_in poly cap c ss)
+  unfolding roots_in all_even Each
   roots-ok cap c z [] a e = tt
   roots-ok cap c z (s ∷ ss) a e =
-      each_append (RootOk u n) (gridTo poly s (cutOf cap c s) (cutOf cap c s).ny) (rootsIn poly cap c ss)
-      (grid-ok s (cutOf cap c s) (sound-first s ss a) (cuts cap c s z) (and_left (evenStrip u (cutOf cap c s) s) (allEven u cap c ss) e) (cutOf cap c s).ny (omega arith))
-      (roots-ok cap c z ss (sound-rest s ss a) (and_right (evenStrip u (cutOf cap c s) s) (allEven u cap c ss) e))
+      each_append (RootOk u n) (grid_to poly s (cut_of cap c s) (cut_of cap c s).ny) (roots_in poly cap c ss)
+      (grid-ok s (cut_of cap c s) (sound-first s ss a) (cuts cap c s z) (and_left (even_strip u (cut_of cap c s) s) (all_even u cap c ss) e) (cut_of cap c s).ny (omega arith))
+      (roots-ok cap c z ss (sound-rest s ss a) (and_right (even_strip u (cut_of cap c s) s) (all_even u cap c ss) e))
 
-board-ok : (b : Board) → Fit b → ((p : ℕ) → p < polygons b → allEven (unit b) b.settings.cap (size_at b p) (stripsAt b p) ≡ true)
-    → (p : ℕ) → p ≤ polygons b → Each (RootOk (unit b) (polygons b)) (rootsTo b p)
-unfolding rootsTo Each
+board-ok : (b : Board) → Fit b → ((p : ℕ) → p < polygons b → all_even (unit b) b.settings.cap (size_at b p) (strips_at b p) ≡ true)
+    → (p : ℕ) → p ≤ polygons b → Each (RootOk (unit b) (polygons b)) (roots_to b p)
+unfolding roots_to Each
 board-ok b f e zero h = tt
 board-ok b f e (suc p) h =
-    each_append (RootOk (unit b) (polygons b)) (rootsTo b p) (rootsAt b p)
+    each_append (RootOk (unit b) (polygons b)) (roots_to b p) (roots_at b p)
     (board-ok b f e p (omega arith))
-    (roots-ok (unit b) (polygons b) p (omega arith) b.settings.cap (size_at b p) (sizes b f p) (stripsAt b p) (strips-sound _) (e p (omega arith)))
+    (roots-ok (unit b) (polygons b) p (omega arith) b.settings.cap (size_at b p) (sizes b f p) (strips_at b p) (strips-sound _) (e p (omega arith)))
 
 -- a slot's eight numbers
 abbrev pub slot : List ℤ → ℕ → List ℤ
@@ -106,19 +106,19 @@ pub record RootsOnly (b : Board) (t : List ℤ) (n : ℕ) : Type 0 where
   pub ok : (i : ℕ) → i < n → RootOk (unit b) (polygons b) (root i)
   pub rest : (j : ℕ) → n * 8 ≤ j → get_or t j (pos 0) ≡ pos 0
 
-filled-roots : (b : Board) (size : ℕ) → Each (RootOk (unit b) (polygons b)) (rootsOf b) → RootsOnly b (filled b size) (length (rootsOf b))
+filled-roots : (b : Board) (size : ℕ) → Each (RootOk (unit b) (polygons b)) (roots_of b) → RootsOnly b (filled b size) (length (roots_of b))
 unfolding filled
 filled-roots b size e =
     record {
-      root = λ i. get_or (rootsOf b) i (record { x0 = 0; y0 = 0; x1 = 0; y1 = 0; poly = 0 });
-      held = λ i h. flat-slot (rootsOf b) _ i _ h;
-      ok = λ i h. each_at (RootOk (unit b) (polygons b)) (rootsOf b) _ i e h;
+      root = λ i. get_or (roots_of b) i (record { x0 = 0; y0 = 0; x1 = 0; y1 = 0; poly = 0 });
+      held = λ i h. flat-slot (roots_of b) _ i _ h;
+      ok = λ i h. each_at (RootOk (unit b) (polygons b)) (roots_of b) _ i e h;
       rest = λ j h.
-          let f = length-flat (rootsOf b) in
-          let q : j ≡ length (flat (rootsOf b)) + (j - length (rootsOf b) * 8) = omega arith in
-          ap (λ (x : ℕ). get_or (flat (rootsOf b) ++ replicate (size - length (rootsOf b) * 8) (pos 0)) x (pos 0)) q
-          ∙ get_or-append-add (flat (rootsOf b)) (replicate (size - length (rootsOf b) * 8) (pos 0)) (j - length (rootsOf b) * 8) (pos 0)
-          ∙ zero_row (size - length (rootsOf b) * 8) (j - length (rootsOf b) * 8);
+          let f = length-flat (roots_of b) in
+          let q : j ≡ length (flat (roots_of b)) + (j - length (roots_of b) * 8) = omega arith in
+          ap (λ (x : ℕ). get_or (flat (roots_of b) ++ replicate (size - length (roots_of b) * 8) (pos 0)) x (pos 0)) q
+          ∙ get_or-append-add (flat (roots_of b)) (replicate (size - length (roots_of b) * 8) (pos 0)) (j - length (roots_of b) * 8) (pos 0)
+          ∙ zero_row (size - length (roots_of b) * 8) (j - length (roots_of b) * 8);
     }
 
 same_count : (m n : ℕ) → ◌≡◌ {A = Said} (accepted (m ∷ [])) (accepted (n ∷ [])) → m ≡ n
@@ -128,33 +128,33 @@ same_count m n e = cc
 pub record Passed (b : Board) (t u : List ℤ) (n : ℕ) : Type 0 where
   pub board : Fit b
   pub shape : Tabled t
-  pub even : (p : ℕ) → p < polygons b → allEven (unit b) b.settings.cap (size_at b p) (stripsAt b p) ≡ true
-  pub count : length (rootsOf b) ≡ n
+  pub even : (p : ℕ) → p < polygons b → all_even (unit b) b.settings.cap (size_at b p) (strips_at b p) ≡ true
+  pub count : length (roots_of b) ≡ n
   pub room : n ≤ length t / 8
   pub left : u ≡ filled b (length t)
 
-module _ (b : Board) (components : List ℕ) (sheets : List Float) (t : List ℤ) (n : ℕ) (e : buildSays b components sheets (length t) ≡ accepted (n ∷ [])) where
-  pub passed : Passed b t (buildLeaves b components sheets t) n
-  unfolding buildSays buildLeaves
+module _ (b : Board) (components : List ℕ) (sheets : List Float) (t : List ℤ) (n : ℕ) (e : build_says b components sheets (length t) ≡ accepted (n ∷ [])) where
+  pub passed : Passed b t (build_leaves b components sheets t) n
+  unfolding build_says build_leaves
   passed =
-      split (rowsShaped b.layers components sheets b.counts b.points (length t))
-      (λ s. split (settingsOk b) (λ z. go s z (rw (s, z) at e)) (λ z. absurd (refused-accepted 3 0 (n ∷ []) (rw (s, z) at e))))
+      split (rows_shaped b.layers components sheets b.counts b.points (length t))
+      (λ s. split (settings_ok b) (λ z. go s z (rw (s, z) at e)) (λ z. absurd (refused-accepted 3 0 (n ∷ []) (rw (s, z) at e))))
       (λ s. absurd (refused-accepted 7 0 (n ∷ []) (rw s at e)))
     where
-      go : rowsShaped b.layers components sheets b.counts b.points (length t) ≡ true → settingsOk b ≡ true
-          → judgeFrom sheets b.counts b.points 0 (polygons b) (evenFrom b 0 (polygons b) (room_for (length t / 8) (length (rootsOf b)))) ≡ accepted (n ∷ [])
-          → Passed b t (buildLeaves b components sheets t) n
+      go : rows_shaped b.layers components sheets b.counts b.points (length t) ≡ true → settings_ok b ≡ true
+          → judge_from sheets b.counts b.points 0 (polygons b) (even_from b 0 (polygons b) (room_for (length t / 8) (length (roots_of b)))) ≡ accepted (n ∷ [])
+          → Passed b t (build_leaves b components sheets t) n
       go s z j =
-          let o = room_for (length t / 8) (length (rootsOf b)) in
-          let v = sound-passes sheets b.counts b.points (evenFrom b 0 (polygons b) o) (n ∷ []) 0 (polygons b) j in
+          let o = room_for (length t / 8) (length (roots_of b)) in
+          let v = sound-passes sheets b.counts b.points (even_from b 0 (polygons b) o) (n ∷ []) 0 (polygons b) j in
           let r = even-passes b o (n ∷ []) 0 (polygons b) v in
-          split (ltb (length t / 8) (length (rootsOf b)))
+          split (ltb (length t / 8) (length (roots_of b)))
           (λ q. absurd (refused-accepted 6 0 (n ∷ []) (rw q at r)))
           (λ q.
-          let c : length (rootsOf b) ≡ n = same_count (length (rootsOf b)) n (rw q at r) in
-          let k : length (rootsOf b) ≤ length t / 8 = ltb-false _ _ q in
+          let c : length (roots_of b) ≡ n = same_count (length (roots_of b)) n (rw q at r) in
+          let k : length (roots_of b) ≤ length t / 8 = ltb-false _ _ q in
           record {
-            board = fit b components sheets (length t) s z (evenFrom b 0 (polygons b) o) (n ∷ []) j;
+            board = fit b components sheets (length t) s z (even_from b 0 (polygons b) o) (n ∷ []) j;
             shape = tabled t (room_fits b components sheets (length t) s);
             even = λ p h. even-at b o (n ∷ []) (polygons b) p v h;
             count = c;
@@ -163,7 +163,7 @@ module _ (b : Board) (components : List ℕ) (sheets : List Float) (t : List ℤ
           })
 
   -- the law: of an accepted call the table has the answer's number of roots, and nothing else
-  pub built-roots : RootsOnly b (buildLeaves b components sheets t) n
+  pub built-roots : RootsOnly b (build_leaves b components sheets t) n
   built-roots =
       let p = passed in
       rw p.left (rw p.count at (filled-roots b (length t) (board-ok b p.board p.even (polygons b) (omega arith))))

@@ -13,11 +13,11 @@ use lib.Dec.{eqb}
 use borrow.Author.Tests.{eqb-true, eqb-false, eq-eqb, ne_eqb}
 use Rattle.cell.proofs.Offsets.{below?}
 use Rattle.refusals.specs.Said.{Said, refused}
-use Rattle.strips.specs.Rings.{ringInRange, ringSlants}
+use Rattle.strips.specs.Rings.{ring_in_range, ring_slants}
 use Rattle.strips.proofs.Picking.{split}
-use Rattle.build.specs.Board.{sum_to, ringAt}
-use Rattle.floats.specs.Fractions.{inSheet}
-use Rattle.build.specs.Says.{judgeFrom}
+use Rattle.build.specs.Board.{sum_to, ring_at}
+use Rattle.floats.specs.Fractions.{in_sheet}
+use Rattle.build.specs.Says.{judge_from}
 
 pub sum_none : (cs : List ℕ) → sum_to cs 0 ≡ 0
 unfolding sum_to
@@ -46,29 +46,29 @@ module _ (rs : List Float) (cs : List ℕ) (ps : List (List ℤ)) (p n : ℕ) (h
   rest : n - p ≡ suc (n - (p + 1))
   rest = omega arith
 
-  pub judge-sheet : inSheet (get_or rs p nan) ≡ false → judgeFrom rs cs ps p (n - p) o ≡ refused 3 p
-  unfolding judgeFrom
+  pub judge-sheet : in_sheet (get_or rs p nan) ≡ false → judge_from rs cs ps p (n - p) o ≡ refused 3 p
+  unfolding judge_from
   judge-sheet e = rw (rest, e) refl
 
-  pub judge-range : inSheet (get_or rs p nan) ≡ true → ringInRange (ringAt cs ps p) ≡ false → judgeFrom rs cs ps p (n - p) o ≡ refused 3 p
-  unfolding judgeFrom
+  pub judge-range : in_sheet (get_or rs p nan) ≡ true → ring_in_range (ring_at cs ps p) ≡ false → judge_from rs cs ps p (n - p) o ≡ refused 3 p
+  unfolding judge_from
   judge-range e f = rw (rest, e, f) refl
 
-  pub judge-slant : inSheet (get_or rs p nan) ≡ true → ringInRange (ringAt cs ps p) ≡ true → ringSlants (ringAt cs ps p) ≡ true → judgeFrom rs cs ps p (n - p) o ≡ refused 4 p
-  unfolding judgeFrom
+  pub judge-slant : in_sheet (get_or rs p nan) ≡ true → ring_in_range (ring_at cs ps p) ≡ true → ring_slants (ring_at cs ps p) ≡ true → judge_from rs cs ps p (n - p) o ≡ refused 4 p
+  unfolding judge_from
   judge-slant e f g = rw (rest, e, f, g) refl
 
-  pub judge-on : inSheet (get_or rs p nan) ≡ true → ringInRange (ringAt cs ps p) ≡ true → ringSlants (ringAt cs ps p) ≡ false → judgeFrom rs cs ps p (n - p) o ≡ judgeFrom rs cs ps (p + 1) (n - (p + 1)) o
-  unfolding judgeFrom
+  pub judge-on : in_sheet (get_or rs p nan) ≡ true → ring_in_range (ring_at cs ps p) ≡ true → ring_slants (ring_at cs ps p) ≡ false → judge_from rs cs ps p (n - p) o ≡ judge_from rs cs ps (p + 1) (n - (p + 1)) o
+  unfolding judge_from
   judge-on e f g = rw (rest, e, f, g, add-one p) refl
 
-pub judge-end : (rs : List Float) (cs : List ℕ) (ps : List (List ℤ)) (p n : ℕ) (o : Said) → n ≤ p → judgeFrom rs cs ps p (n - p) o ≡ o
-unfolding judgeFrom
+pub judge-end : (rs : List Float) (cs : List ℕ) (ps : List (List ℤ)) (p n : ℕ) (o : Said) → n ≤ p → judge_from rs cs ps p (n - p) o ≡ o
+unfolding judge_from
 judge-end rs cs ps p n o h = let e : n - p ≡ 0 = omega arith in rw e refl
 
 -- a part of the points from a start to an end
-pub ring-part : (cs : List ℕ) (ps : List (List ℤ)) (p at end : ℕ) → at ≡ sum_to cs p → end ≡ at + get_or cs p 0 → take (end - at) (drop at ps) ≡ ringAt cs ps p
-unfolding ringAt
+pub ring-part : (cs : List ℕ) (ps : List (List ℤ)) (p at end : ℕ) → at ≡ sum_to cs p → end ≡ at + get_or cs p 0 → take (end - at) (drop at ps) ≡ ring_at cs ps p
+unfolding ring_at
 ring-part cs ps p at end e f = let n : end - at ≡ get_or cs p 0 = omega arith in rw (n, e) refl
 
 -- what is left over is 0 exactly if the sum is the total

@@ -11,12 +11,12 @@ use Rattle.cell.proofs.Offsets.{below?}
 use lib.IntN.{ℤ, pos}
 use lib.ListN.{length, take, drop, set, length-append, take-append-drop}
 use lib.Seq.{sets, sets-eq, take_at, drop_at, length-take-le, drop-drop}
-use Rattle.cell.specs.Cells.{noCell}
+use Rattle.cell.specs.Cells.{no_cell}
 use Rattle.cell.specs.Ticks.{on}
-use Rattle.strips.specs.Said.{stripRow}
+use Rattle.strips.specs.Said.{strip_row}
 use Rattle.strips.specs.declared.walk.Strip.{Strip}
 use Rattle.build.specs.declared.grid.Cut.{Cut}
-use Rattle.build.specs.Grid.{Root, boxed, rowOf, cell_of, rowTo, gridTo, rootsIn, flat, cutOf}
+use Rattle.build.specs.Grid.{Root, boxed, row_of, cell_of, row_to, grid_to, roots_in, flat, cut_of}
 use Rattle.build.specs.Steps.{placed}
 
 pub length-flat : (rs : List Root) → length (flat rs) ≡ length rs * 8
@@ -64,37 +64,37 @@ four t b v0 v1 v2 v3 =
     let e3 : b + 3 ≡ suc (suc (suc b)) = omega arith in
     rw (e1, e2, e3) refl
 
-pub root_placed : (t : List ℤ) (k : ℕ) (s : Strip) (poly : ℕ) → (k + 1) * 8 ≤ length t → sets (sets t (k * 8) (stripRow s)) (k * 8 + 4) (pos 0 ∷ pos noCell ∷ pos noCell ∷ pos poly ∷ []) ≡ placed t k (boxed poly s ∷ [])
+pub root_placed : (t : List ℤ) (k : ℕ) (s : Strip) (poly : ℕ) → (k + 1) * 8 ≤ length t → sets (sets t (k * 8) (strip_row s)) (k * 8 + 4) (pos 0 ∷ pos no_cell ∷ pos no_cell ∷ pos poly ∷ []) ≡ placed t k (boxed poly s ∷ [])
 unfolding placed flat
 root_placed t k s poly h =
     let e : k * 8 + 4 ≡ suc (suc (suc (suc (k * 8)))) = omega arith in
     let d : (k + 1) * 8 ≡ k * 8 + 8 = omega arith in
-    rw (e, d) (sets-eq (on s.x0 ∷ on s.y0 ∷ on s.x1 ∷ on s.y1 ∷ pos 0 ∷ pos noCell ∷ pos noCell ∷ pos poly ∷ []) t (k * 8) (omega arith)
+    rw (e, d) (sets-eq (on s.x0 ∷ on s.y0 ∷ on s.x1 ∷ on s.y1 ∷ pos 0 ∷ pos no_cell ∷ pos no_cell ∷ pos poly ∷ []) t (k * 8) (omega arith)
     ∙ append_assoc (take (k * 8) t) _ (drop (k * 8 + 8) t))
 
-pub row_more : (poly : ℕ) (r : Strip) (n i : ℕ) → rowTo poly r n (i + 1) ≡ rowTo poly r n i ++ (boxed poly (cell_of r n i) ∷ [])
-unfolding rowTo
-row_more poly r n i = ap (rowTo poly r n) (add-one i)
+pub row_more : (poly : ℕ) (r : Strip) (n i : ℕ) → row_to poly r n (i + 1) ≡ row_to poly r n i ++ (boxed poly (cell_of r n i) ∷ [])
+unfolding row_to
+row_more poly r n i = ap (row_to poly r n) (add-one i)
 
-pub length-row : (poly : ℕ) (r : Strip) (n i : ℕ) → length (rowTo poly r n i) ≡ i
-unfolding rowTo
+pub length-row : (poly : ℕ) (r : Strip) (n i : ℕ) → length (row_to poly r n i) ≡ i
+unfolding row_to
 length-row poly r n zero = refl
-length-row poly r n (suc i) = length-append (rowTo poly r n i) (boxed poly (cell_of r n i) ∷ []) ∙ omega (arith, length-row poly r n i)
+length-row poly r n (suc i) = length-append (row_to poly r n i) (boxed poly (cell_of r n i) ∷ []) ∙ omega (arith, length-row poly r n i)
 
-pub row-none : (t : List ℤ) (k poly : ℕ) (r : Strip) (n : ℕ) → t ≡ placed t k (rowTo poly r n 0)
-unfolding rowTo
+pub row-none : (t : List ℤ) (k poly : ℕ) (r : Strip) (n : ℕ) → t ≡ placed t k (row_to poly r n 0)
+unfolding row_to
 row-none t k poly r n = sym (placed-none t k)
 
-pub grid-more : (poly : ℕ) (s : Strip) (g : Cut) (j : ℕ) → gridTo poly s g (j + 1) ≡ gridTo poly s g j ++ rowTo poly (rowOf s g j) g.nx g.nx
-unfolding gridTo
-grid-more poly s g j = ap (gridTo poly s g) (add-one j)
+pub grid-more : (poly : ℕ) (s : Strip) (g : Cut) (j : ℕ) → grid_to poly s g (j + 1) ≡ grid_to poly s g j ++ row_to poly (row_of s g j) g.nx g.nx
+unfolding grid_to
+grid-more poly s g j = ap (grid_to poly s g) (add-one j)
 
-pub length-grid-more : (poly : ℕ) (s : Strip) (g : Cut) (j : ℕ) → length (gridTo poly s g (j + 1)) ≡ length (gridTo poly s g j) + g.nx
+pub length-grid-more : (poly : ℕ) (s : Strip) (g : Cut) (j : ℕ) → length (grid_to poly s g (j + 1)) ≡ length (grid_to poly s g j) + g.nx
 length-grid-more poly s g j =
-    ap length (grid-more poly s g j) ∙ length-append (gridTo poly s g j) (rowTo poly (rowOf s g j) g.nx g.nx)
-    ∙ ap (λ (n : ℕ). length (gridTo poly s g j) + n) (length-row poly (rowOf s g j) g.nx g.nx)
+    ap length (grid-more poly s g j) ∙ length-append (grid_to poly s g j) (row_to poly (row_of s g j) g.nx g.nx)
+    ∙ ap (λ (n : ℕ). length (grid_to poly s g j) + n) (length-row poly (row_of s g j) g.nx g.nx)
 
-pub grid_mono : (poly : ℕ) (s : Strip) (g : Cut) (i j : ℕ) → i ≤ j → length (gridTo poly s g i) ≤ length (gridTo poly s g j)
+pub grid_mono : (poly : ℕ) (s : Strip) (g : Cut) (i j : ℕ) → i ≤ j → length (grid_to poly s g i) ≤ length (grid_to poly s g j)
 grid_mono poly s g i zero h = let e : i ≡ 0 = omega arith in rw e (omega arith)
 grid_mono poly s g i (suc j) h =
     let r = grid_mono poly s g i j in
@@ -104,36 +104,36 @@ grid_mono poly s g i (suc j) h =
     (λ (k : suc j ≤ i). let e : i ≡ suc j = omega arith in rw e (omega arith))
     (below? i (suc j))
 
-pub grid-none : (t : List ℤ) (k poly : ℕ) (s : Strip) (g : Cut) → t ≡ placed t k (gridTo poly s g 0)
-unfolding gridTo
+pub grid-none : (t : List ℤ) (k poly : ℕ) (s : Strip) (g : Cut) → t ≡ placed t k (grid_to poly s g 0)
+unfolding grid_to
 grid-none t k poly s g = sym (placed-none t k)
 
-pub length-grid : (poly : ℕ) (s : Strip) (g : Cut) (j : ℕ) → length (gridTo poly s g j) ≡ j * g.nx
-unfolding gridTo
+pub length-grid : (poly : ℕ) (s : Strip) (g : Cut) (j : ℕ) → length (grid_to poly s g j) ≡ j * g.nx
+unfolding grid_to
 length-grid poly s g zero = sym (zero-mul g.nx)
 length-grid poly s g (suc j) =
     rw (add-one j) at (length-grid-more poly s g j) ∙ ap (λ (n : ℕ). n + g.nx) (length-grid poly s g j) ∙ sym (suc-mul j g.nx)
 
-pub roots-none : (poly cap c : ℕ) → rootsIn poly cap c [] ≡ []
-unfolding rootsIn
+pub roots-none : (poly cap c : ℕ) → roots_in poly cap c [] ≡ []
+unfolding roots_in
 roots-none poly cap c = refl
 
-pub roots-cons : (poly cap c : ℕ) (s : Strip) (ss : List Strip) → rootsIn poly cap c (s ∷ ss) ≡ gridTo poly s (cutOf cap c s) (cutOf cap c s).ny ++ rootsIn poly cap c ss
-unfolding rootsIn
+pub roots-cons : (poly cap c : ℕ) (s : Strip) (ss : List Strip) → roots_in poly cap c (s ∷ ss) ≡ grid_to poly s (cut_of cap c s) (cut_of cap c s).ny ++ roots_in poly cap c ss
+unfolding roots_in
 roots-cons poly cap c s ss = refl
 
-pub length-roots-cons : (poly cap c : ℕ) (s : Strip) (ss : List Strip) → length (rootsIn poly cap c (s ∷ ss)) ≡ length (gridTo poly s (cutOf cap c s) (cutOf cap c s).ny) + length (rootsIn poly cap c ss)
+pub length-roots-cons : (poly cap c : ℕ) (s : Strip) (ss : List Strip) → length (roots_in poly cap c (s ∷ ss)) ≡ length (grid_to poly s (cut_of cap c s) (cut_of cap c s).ny) + length (roots_in poly cap c ss)
 length-roots-cons poly cap c s ss =
-    ap length (roots-cons poly cap c s ss) ∙ length-append (gridTo poly s (cutOf cap c s) (cutOf cap c s).ny) (rootsIn poly cap c ss)
+    ap length (roots-cons poly cap c s ss) ∙ length-append (grid_to poly s (cut_of cap c s) (cut_of cap c s).ny) (roots_in poly cap c ss)
 
 -- a strip's cells, and then the rest
 pub strip-placed : (t u : List ℤ) (at m poly cap c : ℕ) (s : Strip) (ss : List Strip)
-    → u ≡ placed t at (gridTo poly s (cutOf cap c s) (cutOf cap c s).ny)
-    → m ≡ at + length (gridTo poly s (cutOf cap c s) (cutOf cap c s).ny)
-    → (at + length (rootsIn poly cap c (s ∷ ss))) * 8 ≤ length t
-    → placed u m (rootsIn poly cap c ss) ≡ placed t at (rootsIn poly cap c (s ∷ ss))
+    → u ≡ placed t at (grid_to poly s (cut_of cap c s) (cut_of cap c s).ny)
+    → m ≡ at + length (grid_to poly s (cut_of cap c s) (cut_of cap c s).ny)
+    → (at + length (roots_in poly cap c (s ∷ ss))) * 8 ≤ length t
+    → placed u m (roots_in poly cap c ss) ≡ placed t at (roots_in poly cap c (s ∷ ss))
 strip-placed t u at m poly cap c s ss e f h =
-    rw e (placed-more t at m (gridTo poly s (cutOf cap c s) (cutOf cap c s).ny) (rootsIn poly cap c ss) f (omega (arith, length-roots-cons poly cap c s ss)))
+    rw e (placed-more t at m (grid_to poly s (cut_of cap c s) (cut_of cap c s).ny) (roots_in poly cap c ss) f (omega (arith, length-roots-cons poly cap c s ss)))
     ∙ ap (placed t at) (sym (roots-cons poly cap c s ss))
 
 pub room-down : (x y n m : ℕ) → x ≤ y → y * 8 ≤ n → m ≡ n → x * 8 ≤ m

@@ -9,24 +9,24 @@ use lib.ListN.{length}
 use borrow.Author.Tests.{lt-ltb, le-ltb}
 use Rattle.cell.proofs.Offsets.{below?}
 use Rattle.strips.specs.declared.walk.Strip.{Strip}
-use Rattle.build.specs.Grid.{cutOf, evenStrip, allEven, rootsIn}
-use Rattle.build.specs.Steps.{moreOf}
+use Rattle.build.specs.Grid.{cut_of, even_strip, all_even, roots_in}
+use Rattle.build.specs.Steps.{more_of}
 use Rattle.build.proofs.Placing.{length-grid, length-roots-cons, roots-none}
 
-pub even-none : (u cap c : ℕ) → allEven u cap c [] ≡ true
-unfolding allEven
+pub even-none : (u cap c : ℕ) → all_even u cap c [] ≡ true
+unfolding all_even
 even-none u cap c = refl
 
-pub even-first : (u cap c : ℕ) (s : Strip) (ss : List Strip) → evenStrip u (cutOf cap c s) s ≡ true → allEven u cap c ss ≡ allEven u cap c (s ∷ ss)
-unfolding allEven
+pub even-first : (u cap c : ℕ) (s : Strip) (ss : List Strip) → even_strip u (cut_of cap c s) s ≡ true → all_even u cap c ss ≡ all_even u cap c (s ∷ ss)
+unfolding all_even
 even-first u cap c s ss e = rw e refl
 
-pub uneven-first : (u cap c : ℕ) (s : Strip) (ss : List Strip) → evenStrip u (cutOf cap c s) s ≡ false → allEven u cap c (s ∷ ss) ≡ false
-unfolding allEven
+pub uneven-first : (u cap c : ℕ) (s : Strip) (ss : List Strip) → even_strip u (cut_of cap c s) s ≡ false → all_even u cap c (s ∷ ss) ≡ false
+unfolding all_even
 uneven-first u cap c s ss e = rw e refl
 
 -- the count goes on, as far as it matters
-pub more_same : (slots sum n g rest whole : ℕ) → whole ≡ g + rest → min (sum + whole) (slots + 1) ≡ n → min (moreOf slots sum g + rest) (slots + 1) ≡ n
+pub more_same : (slots sum n g rest whole : ℕ) → whole ≡ g + rest → min (sum + whole) (slots + 1) ≡ n → min (more_of slots sum g + rest) (slots + 1) ≡ n
 more_same slots sum n g rest whole w e =
     ⊎_elim
     (λ (h : slots < sum). rw (lt-ltb slots sum h) (omega arith))
@@ -34,14 +34,14 @@ more_same slots sum n g rest whole w e =
     (below? slots sum)
 
 -- how many roots strips have does not depend on the polygon
-pub length-roots : (p q cap c : ℕ) (ss : List Strip) → length (rootsIn p cap c ss) ≡ length (rootsIn q cap c ss)
+pub length-roots : (p q cap c : ℕ) (ss : List Strip) → length (roots_in p cap c ss) ≡ length (roots_in q cap c ss)
 length-roots p q cap c [] = ap length (roots-none p cap c) ∙ sym (ap length (roots-none q cap c))
 length-roots p q cap c (s ∷ ss) =
     let i = length-roots p q cap c ss in
-    let g = cutOf cap c s in
+    let g = cut_of cap c s in
     length-roots-cons p cap c s ss
     ∙ omega (arith, length-grid p s g g.ny, length-grid q s g g.ny)
     ∙ sym (length-roots-cons q cap c s ss)
 
-pub length-roots-first : (cap c : ℕ) (s : Strip) (ss : List Strip) → length (rootsIn 0 cap c (s ∷ ss)) ≡ (cutOf cap c s).ny * (cutOf cap c s).nx + length (rootsIn 0 cap c ss)
-length-roots-first cap c s ss = length-roots-cons 0 cap c s ss ∙ ap (λ (n : ℕ). n + length (rootsIn 0 cap c ss)) (length-grid 0 s (cutOf cap c s) (cutOf cap c s).ny)
+pub length-roots-first : (cap c : ℕ) (s : Strip) (ss : List Strip) → length (roots_in 0 cap c (s ∷ ss)) ≡ (cut_of cap c s).ny * (cut_of cap c s).nx + length (roots_in 0 cap c ss)
+length-roots-first cap c s ss = length-roots-cons 0 cap c s ss ∙ ap (λ (n : ℕ). n + length (roots_in 0 cap c ss)) (length-grid 0 s (cut_of cap c s) (cut_of cap c s).ny)

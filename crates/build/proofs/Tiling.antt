@@ -13,7 +13,7 @@ use Rattle.refusals.specs.Limits.{coordinate}
 use Rattle.strips.specs.Walk.{Sound}
 use Rattle.strips.specs.declared.walk.Strip.{Strip}
 use Rattle.build.specs.declared.grid.Cut.{Cut}
-use Rattle.build.specs.Grid.{Root, width, height, boxed, rowOf, cell_of, rowTo, gridTo, evenly, evenStrip}
+use Rattle.build.specs.Grid.{Root, width, height, boxed, row_of, cell_of, row_to, grid_to, evenly, even_strip}
 use Rattle.build.specs.Steps.{Cuts}
 use Rattle.build.proofs.Cutting.{pieces}
 
@@ -57,7 +57,7 @@ pub record RootOk (u n : ℕ) (r : Root) : Type 0 where
   pub polygon : r.poly < n
 
 -- cell i of row j
-module _ (u n poly : ℕ) (s : Strip) (g : Cut) (below : poly < n) (sound : Sound s) (cuts : Cuts g) (even : evenStrip u g s ≡ true) where
+module _ (u n poly : ℕ) (s : Strip) (g : Cut) (below : poly < n) (sound : Sound s) (cuts : Cuts g) (even : even_strip u g s ≡ true) where
   x-even : width s % (g.nx * u) ≡ 0
   x-even = eqb-true _ _ (and_left _ (evenly u g.ny (height s)) even)
 
@@ -70,7 +70,7 @@ module _ (u n poly : ℕ) (s : Strip) (g : Cut) (below : poly < n) (sound : Soun
   y-some : 0 < height s
   y-some = omega (arith, sound.tall)
 
-  pub cell-ok : (i j : ℕ) → i < g.nx → j < g.ny → RootOk u n (boxed poly (cell_of (rowOf s g j) g.nx i))
+  pub cell-ok : (i j : ℕ) → i < g.nx → j < g.ny → RootOk u n (boxed poly (cell_of (row_of s g j) g.nx i))
   cell-ok i j h k =
       let a = units (width s) g.nx u x-some cuts.x-some x-even in
       let b = units (height s) g.ny u y-some cuts.y-some y-even in
@@ -84,7 +84,7 @@ module _ (u n poly : ℕ) (s : Strip) (g : Cut) (below : poly < n) (sound : Soun
 
 -- two cells of a strip lie in different columns or in different rows, and then one ends before the other begins
 pub cells-apart : (s : Strip) (g : Cut) (i j p q : ℕ) → (i < p) ⊎ (j < q)
-    → ((cell_of (rowOf s g j) g.nx i).x1 ≤ (cell_of (rowOf s g q) g.nx p).x0) ⊎ ((cell_of (rowOf s g j) g.nx i).y1 ≤ (cell_of (rowOf s g q) g.nx p).y0)
+    → ((cell_of (row_of s g j) g.nx i).x1 ≤ (cell_of (row_of s g q) g.nx p).x0) ⊎ ((cell_of (row_of s g j) g.nx i).y1 ≤ (cell_of (row_of s g q) g.nx p).y0)
 cells-apart s g i j p q d =
     ⊎_elim
     (λ h. inl (pieces-apart s.x0 (width s / g.nx) i p h))
@@ -92,42 +92,42 @@ cells-apart s g i j p q d =
     d
 
 -- areas
-unfoldable pub areaOf : List Root → ℕ
-areaOf [] = 0
-areaOf (r ∷ rs) = (r.x1 - r.x0) * (r.y1 - r.y0) + areaOf rs
+unfoldable pub area_of : List Root → ℕ
+area_of [] = 0
+area_of (r ∷ rs) = (r.x1 - r.x0) * (r.y1 - r.y0) + area_of rs
 
-area-append : (a b : List Root) → areaOf (a ++ b) ≡ areaOf a + areaOf b
-unfolding areaOf
+area-append : (a b : List Root) → area_of (a ++ b) ≡ area_of a + area_of b
+unfolding area_of
 area-append [] b = omega arith
 area-append (r ∷ a) b = omega (arith, area-append a b)
 
-row-area : (poly : ℕ) (r : Strip) (n i : ℕ) → areaOf (rowTo poly r n i) ≡ width r / n * i * height r
-unfolding rowTo areaOf
+row-area : (poly : ℕ) (r : Strip) (n i : ℕ) → area_of (row_to poly r n i) ≡ width r / n * i * height r
+unfolding row_to area_of
 row-area poly r n zero = sym (ap (λ (x : ℕ). x * height r) (mul-zero (width r / n)) ∙ zero-mul (height r))
 row-area poly r n (suc i) =
     let d = width r / n in
     let w : r.x0 + d * (i + 1) - (r.x0 + d * i) ≡ d = omega (arith, step d i) in
     let q : d * suc i ≡ d * i + d = mul-suc d i in
-    area-append (rowTo poly r n i) (boxed poly (cell_of r n i) ∷ [])
-    ∙ ap (λ (x : ℕ). areaOf (rowTo poly r n i) + (x * height r + 0)) w
+    area-append (row_to poly r n i) (boxed poly (cell_of r n i) ∷ [])
+    ∙ ap (λ (x : ℕ). area_of (row_to poly r n i) + (x * height r + 0)) w
     ∙ ap (λ (x : ℕ). x + (d * height r + 0)) (row-area poly r n i)
     ∙ ap (λ (x : ℕ). d * i * height r + x) (add-zero (d * height r))
     ∙ sym (add-mul (d * i) d (height r)) ∙ ap (λ (x : ℕ). x * height r) (sym q)
 
 module _ (poly : ℕ) (s : Strip) (g : Cut) (all : width s / g.nx * g.nx ≡ width s) where
-  grid-area : (j : ℕ) → areaOf (gridTo poly s g j) ≡ width s * (height s / g.ny * j)
-  unfolding gridTo areaOf
+  grid-area : (j : ℕ) → area_of (grid_to poly s g j) ≡ width s * (height s / g.ny * j)
+  unfolding grid_to area_of
   grid-area zero = sym (ap (λ (x : ℕ). width s * x) (mul-zero (height s / g.ny)) ∙ mul-zero (width s))
   grid-area (suc j) =
       let d = height s / g.ny in
       let t : s.y0 + d * (j + 1) - (s.y0 + d * j) ≡ d = omega (arith, step d j) in
-      area-append (gridTo poly s g j) (rowTo poly (rowOf s g j) g.nx g.nx)
-      ∙ ap (λ (x : ℕ). x + areaOf (rowTo poly (rowOf s g j) g.nx g.nx)) (grid-area j)
-      ∙ ap (λ (x : ℕ). width s * (d * j) + x) (row-area poly (rowOf s g j) g.nx g.nx ∙ ap (λ (x : ℕ). x * height (rowOf s g j)) all ∙ ap (λ (x : ℕ). width s * x) t)
+      area-append (grid_to poly s g j) (row_to poly (row_of s g j) g.nx g.nx)
+      ∙ ap (λ (x : ℕ). x + area_of (row_to poly (row_of s g j) g.nx g.nx)) (grid-area j)
+      ∙ ap (λ (x : ℕ). width s * (d * j) + x) (row-area poly (row_of s g j) g.nx g.nx ∙ ap (λ (x : ℕ). x * height (row_of s g j)) all ∙ ap (λ (x : ℕ). width s * x) t)
       ∙ sym (mul-add (width s) (d * j) d) ∙ ap (λ (x : ℕ). width s * x) (sym (mul-suc d j))
 
 -- the law: the cells of a strip that is cut evenly have its area
-pub strip-area : (u poly : ℕ) (s : Strip) (g : Cut) → Sound s → Cuts g → evenStrip u g s ≡ true → areaOf (gridTo poly s g g.ny) ≡ width s * height s
+pub strip-area : (u poly : ℕ) (s : Strip) (g : Cut) → Sound s → Cuts g → even_strip u g s ≡ true → area_of (grid_to poly s g g.ny) ≡ width s * height s
 strip-area u poly s g sound cuts even =
     grid-area poly s g (all-pieces (width s) g.nx u (omega (arith, sound.wide)) cuts.x-some (eqb-true _ _ (and_left _ (evenly u g.ny (height s)) even))) g.ny
     ∙ ap (λ (x : ℕ). width s * x) (all-pieces (height s) g.ny u (omega (arith, sound.tall)) cuts.y-some (eqb-true _ _ (and_right (evenly u g.nx (width s)) _ even)))

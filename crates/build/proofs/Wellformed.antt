@@ -1,4 +1,4 @@
--- What build leaves is a well-formed table, by document 01's definition, in which every cell is a root and a leaf. Assumes nothing.
+-- What build leaves is a well-formed table, by the rules' definition, in which every cell is a root and a leaf. Assumes nothing.
 use Prim.Native.Nat.{ℕ, ◌+◌, ◌*◌, min, ◌<◌, ◌≤◌}
 use mathlib.Core.Path.{◌≡◌, refl, ap, ◌∙◌}
 use mathlib.Core.Bool.{true}
@@ -11,34 +11,34 @@ use lib.Ieee.{Float}
 use lib.ListN.{length, replicate, length-append, length-replicate}
 use lib.Seq.{get_or-take, get_or-drop}
 use borrow.Author.Tests.{eq-eqb}
-use Rattle.refusals.specs.Limits.{maxPolygons}
+use Rattle.refusals.specs.Limits.{max_polygons}
 use Rattle.refusals.specs.Said.{accepted}
 use Rattle.cell.specs.declared.Cell as Held
-use Rattle.cell.specs.Cells.{noCell, rootOf}
-use Rattle.table.specs.Slots.{number, cell_at, in_slot, stored, putCell, kept}
+use Rattle.cell.specs.Cells.{no_cell, root_of}
+use Rattle.table.specs.Slots.{number, cell_at, in_slot, stored, put_cell, kept}
 use Rattle.table.specs.Mesh as Mesh
 use Rattle.table.specs.Formed as Table
-use Rattle.table.specs.Leaves.{leafAt}
+use Rattle.table.specs.Leaves.{leaf_at}
 use Rattle.table.proofs.Stores.{Fits, largest, same-cell, same-held, put_same, put-held}
 use Rattle.table.proofs.Cells.{length-table, at_table}
 use Rattle.table.proofs.Meshes.{not_some, kids-in, root_in}
 use Rattle.table.proofs.Wellformed.{opt_none}
 use Rattle.build.specs.Grid.{Root, flat}
-use Rattle.build.specs.Board.{Board, polygons, rootsOf}
-use Rattle.build.specs.Says.{buildSays, filled, buildLeaves}
+use Rattle.build.specs.Board.{Board, polygons, roots_of}
+use Rattle.build.specs.Says.{build_says, filled, build_leaves}
 use Rattle.build.proofs.Placing.{length-flat}
 use Rattle.build.proofs.Formed.{slot, RootsOnly, passed, built-roots}
 
 -- ---- a root's eight numbers are those of a cell that was put into an empty slot
 
-abbrev rootCell : Root → Held.Cell
-rootCell r = rootOf r.x0 r.y0 r.x1 r.y1 r.poly
+abbrev root_cell : Root → Held.Cell
+root_cell r = root_of r.x0 r.y0 r.x1 r.y1 r.poly
 
 abbrev empty : List ℤ
 empty = replicate 8 (pos 0)
 
-flat-put : (r : Root) → r.poly ≤ largest → flat (r ∷ []) ≡ putCell empty 0 (rootCell r)
-unfolding flat putCell stored kept
+flat-put : (r : Root) → r.poly ≤ largest → flat (r ∷ []) ≡ put_cell empty 0 (root_cell r)
+unfolding flat put_cell stored kept
 flat-put r h = let e : min r.poly largest ≡ r.poly = omega arith in rw e refl
 
 slot-number : (u v : List ℤ) (i : ℕ) → slot u i ≡ v → (k : ℕ) → k < 8 → number u i k ≡ number v 0 k
@@ -46,11 +46,11 @@ slot-number u v i e k h =
     let z : 0 * 8 + k ≡ k = omega arith in
     rw (z, ← e, get_or-take, get_or-drop) refl
 
-module _ (b : Board) (u : List ℤ) (n : ℕ) (w : RootsOnly b u n) (few : polygons b ≤ maxPolygons) where
-  root-small : (i : ℕ) → i < n → (w.root i).poly < maxPolygons
+module _ (b : Board) (u : List ℤ) (n : ℕ) (w : RootsOnly b u n) (few : polygons b ≤ max_polygons) where
+  root-small : (i : ℕ) → i < n → (w.root i).poly < max_polygons
   root-small i h = let p = (w.ok i h).polygon in omega arith
 
-  root-fits : (i : ℕ) → i < n → Fits (rootCell (w.root i))
+  root-fits : (i : ℕ) → i < n → Fits (root_cell (w.root i))
   root-fits i h =
       let o = w.ok i h in
       let s = root-small i h in
@@ -65,28 +65,28 @@ module _ (b : Board) (u : List ℤ) (n : ℕ) (w : RootsOnly b u n) (few : polyg
         poly = omega arith;
       }
 
-  slot-put : (i : ℕ) → i < n → (k : ℕ) → k < 8 → number u i k ≡ number (putCell empty 0 (rootCell (w.root i))) 0 k
+  slot-put : (i : ℕ) → i < n → (k : ℕ) → k < 8 → number u i k ≡ number (put_cell empty 0 (root_cell (w.root i))) 0 k
   slot-put i h = slot-number u _ i (w.held i h ∙ flat-put (w.root i) (root-fits i h).poly)
 
-  built-cell : (i : ℕ) → i < n → cell_at u i ≡ rootCell (w.root i)
-  built-cell i h = same-cell _ u 0 i (slot-put i h) ∙ put_same empty 0 (rootCell (w.root i)) (omega arith) (root-fits i h)
+  built-cell : (i : ℕ) → i < n → cell_at u i ≡ root_cell (w.root i)
+  built-cell i h = same-cell _ u 0 i (slot-put i h) ∙ put_same empty 0 (root_cell (w.root i)) (omega arith) (root-fits i h)
 
   built-held : (i : ℕ) → i < n → in_slot u i ≡ true
-  built-held i h = same-held _ u 0 i (slot-put i h) ∙ put-held empty 0 (rootCell (w.root i)) (omega arith)
+  built-held i h = same-held _ u 0 i (slot-put i h) ∙ put-held empty 0 (root_cell (w.root i)) (omega arith)
 
-  built-leaf : (i : ℕ) → i < n → leafAt u i ≡ true
-  unfolding leafAt
-  built-leaf i h = ap (λ (c : Held.Cell). eqb c.first noCell) (built-cell i h) ∙ eq-eqb noCell noCell refl
+  built-leaf : (i : ℕ) → i < n → leaf_at u i ≡ true
+  unfolding leaf_at
+  built-leaf i h = ap (λ (c : Held.Cell). eqb c.first no_cell) (built-cell i h) ∙ eq-eqb no_cell no_cell refl
 
   -- the same cell in the table's terms: neither a parent nor a child
-  built-at : (i : ℕ) → i < n → Mesh.at (Mesh.table u n) i ≡ Mesh.meshCell (rootCell (w.root i))
-  built-at i h = at_table u n i h ∙ ap Mesh.meshCell (built-cell i h)
+  built-at : (i : ℕ) → i < n → Mesh.at (Mesh.table u n) i ≡ Mesh.mesh_cell (root_cell (w.root i))
+  built-at i h = at_table u n i h ∙ ap Mesh.mesh_cell (built-cell i h)
 
   no_kids : (i : ℕ) → i < n → (Mesh.at (Mesh.table u n) i).kids ≡ none
-  no_kids i h = ap (λ (c : Mesh.Cell). c.kids) (built-at i h) ∙ opt_none noCell refl
+  no_kids i h = ap (λ (c : Mesh.Cell). c.kids) (built-at i h) ∙ opt_none no_cell refl
 
   no-parent : (i : ℕ) → i < n → (Mesh.at (Mesh.table u n) i).parent ≡ none
-  no-parent i h = ap (λ (c : Mesh.Cell). c.parent) (built-at i h) ∙ opt_none noCell refl
+  no-parent i h = ap (λ (c : Mesh.Cell). c.parent) (built-at i h) ∙ opt_none no_cell refl
 
   inside : (i : ℕ) → i < length (Mesh.table u n) → i < n
   inside i h = rw length-table at h
@@ -104,20 +104,20 @@ module _ (b : Board) (u : List ℤ) (n : ℕ) (w : RootsOnly b u n) (few : polyg
 
 -- ---- an accepted call
 
-length-filled : (b : Board) (size : ℕ) → length (rootsOf b) * 8 ≤ size → length (filled b size) ≡ size
+length-filled : (b : Board) (size : ℕ) → length (roots_of b) * 8 ≤ size → length (filled b size) ≡ size
 unfolding filled
-length-filled b size h = simp (length-append, length-replicate) (omega (arith, length-flat (rootsOf b)))
+length-filled b size h = simp (length-append, length-replicate) (omega (arith, length-flat (roots_of b)))
 
-module _ (b : Board) (components : List ℕ) (sheets : List Float) (t : List ℤ) (n : ℕ) (e : buildSays b components sheets (length t) ≡ accepted (n ∷ [])) where
-  length-left : length (buildLeaves b components sheets t) ≡ length t
+module _ (b : Board) (components : List ℕ) (sheets : List Float) (t : List ℤ) (n : ℕ) (e : build_says b components sheets (length t) ≡ accepted (n ∷ [])) where
+  length-left : length (build_leaves b components sheets t) ≡ length t
   length-left =
       let p = passed b components sheets t n e in
       ap length p.left ∙ length-filled b (length t) (omega (arith, p.count, p.room))
 
   -- the laws: what an accepted call leaves is well-formed, and each cell of it is a root and a leaf
-  pub built-formed : Table.WellFormed (buildLeaves b components sheets t) n b.settings.max_level
+  pub built-formed : Table.WellFormed (build_leaves b components sheets t) n b.settings.max_level
   built-formed =
-      let u = buildLeaves b components sheets t in
+      let u = build_leaves b components sheets t in
       let p = passed b components sheets t n e in
       let w = built-roots b components sheets t n e in
       let few = p.board.polys in
@@ -133,8 +133,8 @@ module _ (b : Board) (components : List ℕ) (sheets : List Float) (t : List ℤ
         cells = built-clauses b u n w few;
       }
 
-  pub built-leaves : (i : ℕ) → i < n → leafAt (buildLeaves b components sheets t) i ≡ true
-  built-leaves = built-leaf b (buildLeaves b components sheets t) n (built-roots b components sheets t n e) (passed b components sheets t n e).board.polys
+  pub built-leaves : (i : ℕ) → i < n → leaf_at (build_leaves b components sheets t) i ≡ true
+  built-leaves = built-leaf b (build_leaves b components sheets t) n (built-roots b components sheets t n e) (passed b components sheets t n e).board.polys
 
-  pub built-parentless : (i : ℕ) → i < n → (Mesh.at (Mesh.table (buildLeaves b components sheets t) n) i).parent ≡ none
-  built-parentless = no-parent b (buildLeaves b components sheets t) n (built-roots b components sheets t n e) (passed b components sheets t n e).board.polys
+  pub built-parentless : (i : ℕ) → i < n → (Mesh.at (Mesh.table (build_leaves b components sheets t) n) i).parent ≡ none
+  built-parentless = no-parent b (build_leaves b components sheets t) n (built-roots b components sheets t n e) (passed b components sheets t n e).board.polys

@@ -1,9 +1,9 @@
 -- A board as build is given it, and its polygons' rings and roots.
 use Rattle.std.specs.Prelude.{ℕ, zero, suc, ◌+◌, ◌^◌, List, [], ◌++◌, ℤ, length, take, drop, get_or}
-use Rattle.strips.specs.Strips.{stripsOf}
+use Rattle.strips.specs.Strips.{strips_of}
 use Rattle.strips.specs.declared.walk.Strip.{Strip}
 use Rattle.build.specs.declared.Settings.{Settings}
-use Rattle.build.specs.Grid.{Root, rootsIn, size_of}
+use Rattle.build.specs.Grid.{Root, roots_in, size_of}
 
 -- what the roots come from. A polygon's component and sheet resistance play no part
 pub record Board : Type 0 where
@@ -23,8 +23,8 @@ sum_to cs zero = 0
 sum_to cs (suc p) = sum_to cs p + get_or cs p 0
 
 -- the points of polygon p: the rings stand one behind the other
-unfoldable pub ringAt : List ℕ → List (List ℤ) → ℕ → List (List ℤ)
-ringAt cs ps p = take (get_or cs p 0) (drop (sum_to cs p) ps)
+unfoldable pub ring_at : List ℕ → List (List ℤ) → ℕ → List (List ℤ)
+ring_at cs ps p = take (get_or cs p 0) (drop (sum_to cs p) ps)
 
 abbrev pub polygons : Board → ℕ
 polygons b = length b.counts
@@ -36,16 +36,16 @@ unit b = 2 ^ (b.settings.max_level + 1)
 abbrev pub size_at : Board → ℕ → ℕ
 size_at b p = size_of b.list (get_or b.layers p 0) b.settings.target
 
-abbrev pub stripsAt : Board → ℕ → List Strip
-stripsAt b p = stripsOf (ringAt b.counts b.points p)
+abbrev pub strips_at : Board → ℕ → List Strip
+strips_at b p = strips_of (ring_at b.counts b.points p)
 
-abbrev pub rootsAt : Board → ℕ → List Root
-rootsAt b p = rootsIn p b.settings.cap (size_at b p) (stripsAt b p)
+abbrev pub roots_at : Board → ℕ → List Root
+roots_at b p = roots_in p b.settings.cap (size_at b p) (strips_at b p)
 
 -- the roots of the first n polygons: "polygons in order"
-unfoldable pub rootsTo : Board → ℕ → List Root
-rootsTo b zero = []
-rootsTo b (suc p) = rootsTo b p ++ rootsAt b p
+unfoldable pub roots_to : Board → ℕ → List Root
+roots_to b zero = []
+roots_to b (suc p) = roots_to b p ++ roots_at b p
 
-abbrev pub rootsOf : Board → List Root
-rootsOf b = rootsTo b (polygons b)
+abbrev pub roots_of : Board → List Root
+roots_of b = roots_to b (polygons b)

@@ -1,7 +1,7 @@
--- Document 01's "Rings to roots", from a strip to its cells.
+-- The rules' "Rings to roots", from a strip to its cells.
 use Rattle.std.specs.Prelude.{ℕ, zero, suc, ◌+◌, ◌-◌, ◌*◌, ◌/◌, ◌%◌, min, max, Bool, true, cond, ◌&&◌, List, [], ◌∷◌, ◌++◌, map, eqb, ℤ, pos, get_or}
 use Rattle.cell.specs.Ticks.{on}
-use Rattle.cell.specs.Cells.{noCell}
+use Rattle.cell.specs.Cells.{no_cell}
 use Rattle.strips.specs.Sorted.{up_to}
 use Rattle.strips.specs.declared.walk.Strip.{Strip}
 use Rattle.build.specs.declared.grid.Cut.{Cut}
@@ -20,8 +20,8 @@ unfoldable pub held_at : ℕ → ℕ → ℕ → ℕ
 held_at cap c w = max 1 (min cap (ceiling w c))
 
 -- into how many cells a strip is cut each way
-abbrev pub cutOf : ℕ → ℕ → Strip → Cut
-cutOf cap c s = record { nx = held_at cap c (width s); ny = held_at cap c (height s) }
+abbrev pub cut_of : ℕ → ℕ → Strip → Cut
+cut_of cap c s = record { nx = held_at cap c (width s); ny = held_at cap c (height s) }
 
 -- a root: its box, offset as a cell's, and its polygon
 pub record Root : Type 0 where
@@ -35,43 +35,43 @@ abbrev pub boxed : ℕ → Strip → Root
 boxed poly b = record { x0 = b.x0; y0 = b.y0; x1 = b.x1; y1 = b.y1; poly = poly }
 
 -- row j of a strip, as a strip
-abbrev pub rowOf : Strip → Cut → ℕ → Strip
-rowOf s g j = record { x0 = s.x0; y0 = s.y0 + height s / g.ny * j; x1 = s.x1; y1 = s.y0 + height s / g.ny * (j + 1) }
+abbrev pub row_of : Strip → Cut → ℕ → Strip
+row_of s g j = record { x0 = s.x0; y0 = s.y0 + height s / g.ny * j; x1 = s.x1; y1 = s.y0 + height s / g.ny * (j + 1) }
 
 -- cell i of a row that is cut n times, as a strip
 abbrev pub cell_of : Strip → ℕ → ℕ → Strip
 cell_of r n i = record { x0 = r.x0 + width r / n * i; y0 = r.y0; x1 = r.x0 + width r / n * (i + 1); y1 = r.y1 }
 
 -- the first cells of a row and the first rows of a strip: "row by row from the bottom, left to right"
-unfoldable pub rowTo : ℕ → Strip → ℕ → ℕ → List Root
-rowTo poly r n zero = []
-rowTo poly r n (suc i) = rowTo poly r n i ++ (boxed poly (cell_of r n i) ∷ [])
+unfoldable pub row_to : ℕ → Strip → ℕ → ℕ → List Root
+row_to poly r n zero = []
+row_to poly r n (suc i) = row_to poly r n i ++ (boxed poly (cell_of r n i) ∷ [])
 
-unfoldable pub gridTo : ℕ → Strip → Cut → ℕ → List Root
-gridTo poly s g zero = []
-gridTo poly s g (suc j) = gridTo poly s g j ++ rowTo poly (rowOf s g j) g.nx g.nx
+unfoldable pub grid_to : ℕ → Strip → Cut → ℕ → List Root
+grid_to poly s g zero = []
+grid_to poly s g (suc j) = grid_to poly s g j ++ row_to poly (row_of s g j) g.nx g.nx
 
 -- the roots of strips, one after another
-unfoldable pub rootsIn : ℕ → ℕ → ℕ → List Strip → List Root
-rootsIn poly cap c [] = []
-rootsIn poly cap c (s ∷ ss) = gridTo poly s (cutOf cap c s) (cutOf cap c s).ny ++ rootsIn poly cap c ss
+unfoldable pub roots_in : ℕ → ℕ → ℕ → List Strip → List Root
+roots_in poly cap c [] = []
+roots_in poly cap c (s ∷ ss) = grid_to poly s (cut_of cap c s) (cut_of cap c s).ny ++ roots_in poly cap c ss
 
 -- "a base cell side isn't a multiple of 2^(max_level+1) ticks": the side of length w, cut n times, of the unit u
 abbrev pub evenly : ℕ → ℕ → ℕ → Bool
 evenly u n w = eqb (w % (n * u)) 0
 
-abbrev pub evenStrip : ℕ → Cut → Strip → Bool
-evenStrip u g s = evenly u g.nx (width s) && evenly u g.ny (height s)
+abbrev pub even_strip : ℕ → Cut → Strip → Bool
+even_strip u g s = evenly u g.nx (width s) && evenly u g.ny (height s)
 
-unfoldable pub allEven : ℕ → ℕ → ℕ → List Strip → Bool
-allEven u cap c [] = true
-allEven u cap c (s ∷ ss) = evenStrip u (cutOf cap c s) s && allEven u cap c ss
+unfoldable pub all_even : ℕ → ℕ → ℕ → List Strip → Bool
+all_even u cap c [] = true
+all_even u cap c (s ∷ ss) = even_strip u (cut_of cap c s) s && all_even u cap c ss
 
 -- the table's eight numbers of each root: a leaf of level 0 with no parent
 unfoldable pub flat : List Root → List ℤ
 flat [] = []
 flat (r ∷ rs) =
-    on r.x0 ∷ on r.y0 ∷ on r.x1 ∷ on r.y1 ∷ pos 0 ∷ pos noCell ∷ pos noCell ∷ pos r.poly ∷ flat rs
+    on r.x0 ∷ on r.y0 ∷ on r.x1 ∷ on r.y1 ∷ pos 0 ∷ pos no_cell ∷ pos no_cell ∷ pos r.poly ∷ flat rs
 
 -- "cell of a layer: 0 or unlisted: use the target"
 unfoldable pub listed_at : List (List ℕ) → ℕ → ℕ

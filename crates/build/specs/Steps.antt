@@ -1,13 +1,13 @@
 -- What the steps of the code promise one another. Internal.
 use Rattle.std.specs.Prelude.{ℕ, ◌+◌, ◌-◌, ◌*◌, ◌/◌, ◌%◌, ◌^◌, ◌<◌, ◌≤◌, min, ◌≡◌, true, false, cond, List, ◌++◌, ltb, ℤ, pos, length, take, drop, replicate, Option, Some, None, Result, Ok, Err}
-use Rattle.refusals.specs.Limits.{maxLevel, maxCap, maxCell, maxPoints, maxPolygons, maxSlots}
+use Rattle.refusals.specs.Limits.{widest_level, max_cap, max_cell, max_points, max_polygons, max_slots}
 use Rattle.strips.specs.declared.walk.Strip.{Strip}
 use Rattle.build.specs.declared.grid.Cut.{Cut}
-use Rattle.build.specs.Board.{Board, sum_to, ringAt, polygons, rootsOf}
-use Rattle.build.specs.Says.{evenFrom, room_for}
+use Rattle.build.specs.Board.{Board, sum_to, ring_at, polygons, roots_of}
+use Rattle.build.specs.Says.{even_from, room_for}
 use Rattle.refusals.specs.declared.Refusal.{Refusal}
 use Rattle.refusals.specs.Said.{Said, refused, refusal}
-use Rattle.build.specs.Grid.{Root, flat, allEven, rootsIn, listed_at}
+use Rattle.build.specs.Grid.{Root, flat, all_even, roots_in, listed_at}
 
 -- roots put into the table from slot k on
 unfoldable pub placed : List ℤ → ℕ → List Root → List ℤ
@@ -16,75 +16,75 @@ placed t k rs = take (k * 8) t ++ (flat rs ++ drop ((k + length rs) * 8) t)
 -- the cap and the cell that a strip is cut by
 pub record Sizes (cap c : ℕ) : Type 0 where
   pub some : 1 ≤ cap
-  pub cap-fits : cap ≤ maxCap
+  pub cap-fits : cap ≤ max_cap
   pub cell : 1 ≤ c
-  pub cell-fits : c ≤ maxCell
+  pub cell-fits : c ≤ max_cell
 
 -- how often a strip is cut
 pub record Cuts (g : Cut) : Type 0 where
   pub x-some : 1 ≤ g.nx
-  pub x_fits : g.nx ≤ maxCap
+  pub x_fits : g.nx ≤ max_cap
   pub y-some : 1 ≤ g.ny
-  pub y-fits : g.ny ≤ maxCap
+  pub y-fits : g.ny ≤ max_cap
 
 -- the table has n slots from k on, and no more slots than the limit
 pub record Slotted (t : List ℤ) (k n : ℕ) : Type 0 where
   pub room : (k + n) * 8 ≤ length t
-  pub few : length t ≤ maxSlots * 8
+  pub few : length t ≤ max_slots * 8
 
 -- a unit, the slots, and a count that may be past them
 pub record Counting (u slots n : ℕ) : Type 0 where
   pub unit : 0 < u
-  pub unit-fits : u ≤ 2 ^ (maxLevel + 1)
-  pub slots-fit : slots ≤ maxSlots
-  pub count : n ≤ maxSlots + maxCap * maxCap
+  pub unit-fits : u ≤ 2 ^ (widest_level + 1)
+  pub slots-fit : slots ≤ max_slots
+  pub count : n ≤ max_slots + max_cap * max_cap
 
-abbrev pub moreOf : ℕ → ℕ → ℕ → ℕ
-moreOf slots sum n = cond (ltb slots sum) sum (sum + n)
+abbrev pub more_of : ℕ → ℕ → ℕ → ℕ
+more_of slots sum n = cond (ltb slots sum) sum (sum + n)
 
 -- two counts that are the same unless both are past the slots
 abbrev pub SameTo : ℕ → ℕ → ℕ → Type 0
 SameTo slots a b = min a (slots + 1) ≡ min b (slots + 1)
 
 abbrev pub Tallied : ℕ → ℕ → ℕ → ℕ → ℕ → List Strip → Option ℕ → Type 0
-Tallied u cap c slots n ss (Some r) = (allEven u cap c ss ≡ true) × (SameTo slots r (n + length (rootsIn 0 cap c ss)) × (r ≤ maxSlots + maxCap * maxCap))
-Tallied u cap c slots n ss None = allEven u cap c ss ≡ false
+Tallied u cap c slots n ss (Some r) = (all_even u cap c ss ≡ true) × (SameTo slots r (n + length (roots_in 0 cap c ss)) × (r ≤ max_slots + max_cap * max_cap))
+Tallied u cap c slots n ss None = all_even u cap c ss ≡ false
 
 -- a board that has been judged
 pub record Fit (b : Board) : Type 0 where
-  pub level : b.settings.max_level ≤ maxLevel
+  pub level : b.settings.max_level ≤ widest_level
   pub cap-some : 1 ≤ b.settings.cap
-  pub cap-fits : b.settings.cap ≤ maxCap
+  pub cap-fits : b.settings.cap ≤ max_cap
   pub target-some : 1 ≤ b.settings.target
-  pub target_fits : b.settings.target ≤ maxCell
-  pub cells : (layer : ℕ) → listed_at b.list layer ≤ maxCell
+  pub target_fits : b.settings.target ≤ max_cell
+  pub cells : (layer : ℕ) → listed_at b.list layer ≤ max_cell
   pub rows : length b.layers ≡ length b.counts
   pub sums : sum_to b.counts (length b.counts) ≡ length b.points
-  pub few : (p : ℕ) → p < length b.counts → length (ringAt b.counts b.points p) ≤ maxPoints
-  pub polys : length b.counts ≤ maxPolygons
+  pub few : (p : ℕ) → p < length b.counts → length (ring_at b.counts b.points p) ≤ max_points
+  pub polys : length b.counts ≤ max_polygons
 
 -- work rows for the longest ring
 pub record Putting (hs es : ℕ) : Type 0 where
-  pub heights : maxPoints ≤ hs
-  pub edges : maxPoints ≤ es
+  pub heights : max_points ≤ hs
+  pub edges : max_points ≤ es
 
 pub record Surveying (hs es slots : ℕ) : Type 0 where
   pub rows : Putting hs es
-  pub slots-fit : slots ≤ maxSlots
+  pub slots-fit : slots ≤ max_slots
 
 -- what the survey of a board answers: every side even, and the roots counted; or the first polygon with an uneven side
 abbrev pub Surveyed : Board → ℕ → Result ℕ Refusal → Type 0
-Surveyed b slots (Ok r) = ((o : Said) → evenFrom b 0 (polygons b) o ≡ o) × SameTo slots r (length (rootsOf b))
-Surveyed b slots (Err x) = (o : Said) → evenFrom b 0 (polygons b) o ≡ refusal x
+Surveyed b slots (Ok r) = ((o : Said) → even_from b 0 (polygons b) o ≡ o) × SameTo slots r (length (roots_of b))
+Surveyed b slots (Err x) = (o : Said) → even_from b 0 (polygons b) o ≡ refusal x
 
 -- a table's shape
 pub record Tabled (t : List ℤ) : Type 0 where
   pub whole : length t % 8 ≡ 0
-  pub few : length t / 8 ≤ maxSlots
+  pub few : length t / 8 ≤ max_slots
 
 -- what is said of a board of one polygon with these strips, and what it leaves
-abbrev pub aloneSays : ℕ → ℕ → ℕ → List Strip → ℕ → Said
-aloneSays u cap c ss slots = cond (allEven u cap c ss) (room_for slots (length (rootsIn 0 cap c ss))) (refused 5 0)
+abbrev pub alone_says : ℕ → ℕ → ℕ → List Strip → ℕ → Said
+alone_says u cap c ss slots = cond (all_even u cap c ss) (room_for slots (length (roots_in 0 cap c ss))) (refused 5 0)
 
-abbrev pub aloneLeaves : ℕ → ℕ → List Strip → ℕ → List ℤ
-aloneLeaves cap c ss size = flat (rootsIn 0 cap c ss) ++ replicate (size - length (rootsIn 0 cap c ss) * 8) (pos 0)
+abbrev pub alone_leaves : ℕ → ℕ → List Strip → ℕ → List ℤ
+alone_leaves cap c ss size = flat (roots_in 0 cap c ss) ++ replicate (size - length (roots_in 0 cap c ss) * 8) (pos 0)

@@ -1,10 +1,10 @@
 // A board of one polygon, whose work rows are made ready once. Internal, all of it: the board has been judged.
 ghost use Rattle.std.specs.Prelude.{◌≡◌, ◌/◌, length};
-ghost use Rattle.strips.specs.Said.{ifAccepted};
-ghost use Rattle.strips.specs.Strips.{stripsOf};
+ghost use Rattle.strips.specs.Said.{if_accepted};
+ghost use Rattle.strips.specs.Strips.{strips_of};
 ghost use Rattle.strips.specs.Walk.{Ready, Roomy};
-ghost use Rattle.build.specs.Says.{builtSaid};
-ghost use Rattle.build.specs.Steps.{Sizes, Counting, Tabled, aloneSays, aloneLeaves};
+ghost use Rattle.build.specs.Says.{built_said};
+ghost use Rattle.build.specs.Steps.{Sizes, Counting, Tabled, alone_says, alone_leaves};
 
 use crate::{put, survey};
 use refusals::Refusal;
@@ -21,9 +21,9 @@ fn cut_ready(
     table: &mut [i64],
 ) -> Result<usize, Refusal>
     requires { Ready points.now heights.now edges.now × (Sizes cap c × (Counting unit 0 0 × Tabled table.old)) }
-    ensures result_value { builtSaid result ≡ aloneSays unit cap c (stripsOf points.now) (length table.old / 8) }
+    ensures result_value { built_said result ≡ alone_says unit cap c (strips_of points.now) (length table.old / 8) }
     ensures table_after { table.new
-        ≡ ifAccepted (builtSaid result) (aloneLeaves cap c (stripsOf points.now) (length table.old)) table.old }
+        ≡ if_accepted (built_said result) (alone_leaves cap c (strips_of points.now) (length table.old)) table.old }
 {
     let slots = (table.len() / 8) as u64;
     let Some(n) = survey::tally_strips(points, heights, edges, c, cap, unit, slots, 0) else {
@@ -48,9 +48,9 @@ pub fn cut_alone(
     table: &mut [i64],
 ) -> Result<usize, Refusal>
     requires { Roomy points.now heights.old edges.old × (Sizes cap c × (Counting unit 0 0 × Tabled table.old)) }
-    ensures result_value { builtSaid result ≡ aloneSays unit cap c (stripsOf points.now) (length table.old / 8) }
+    ensures result_value { built_said result ≡ alone_says unit cap c (strips_of points.now) (length table.old / 8) }
     ensures table_after { table.new
-        ≡ ifAccepted (builtSaid result) (aloneLeaves cap c (stripsOf points.now) (length table.old)) table.old }
+        ≡ if_accepted (built_said result) (alone_leaves cap c (strips_of points.now) (length table.old)) table.old }
 {
     let n = points.len();
     let m = walk::prepare(points, heights, edges);

@@ -1,7 +1,7 @@
 // A strip cut into cells.
 ghost use Rattle.std.specs.Prelude.{◌≡◌, ◌+◌, ◌^◌, ◌≤◌, ◌<◌};
-ghost use Rattle.refusals.specs.Limits.{coordinate, maxLevel};
-ghost use Rattle.build.specs.Grid.{held_at, cutOf, evenStrip, listed_at, size_of};
+ghost use Rattle.refusals.specs.Limits.{coordinate, widest_level};
+ghost use Rattle.build.specs.Grid.{held_at, cut_of, even_strip, listed_at, size_of};
 ghost use Rattle.build.specs.Steps.{Sizes, Cuts};
 ghost use Rattle.strips.specs.Walk.{Sound};
 
@@ -26,7 +26,7 @@ fn held(w: u64, c: u64, cap: u64) -> u64
 
 pub fn cut_of(s: Strip, c: u64, cap: u64) -> Cut
     requires { Sound s × Sizes cap c }
-    ensures { result ≡ cutOf cap c s }
+    ensures { result ≡ cut_of cap c s }
 {
     Cut {
         nx: held(s.x1 - s.x0, c, cap),
@@ -36,15 +36,15 @@ pub fn cut_of(s: Strip, c: u64, cap: u64) -> Cut
 
 // Whether both sides of the strip's cells are multiples of the unit.
 pub fn even(s: Strip, g: Cut, unit: u64) -> bool
-    requires { Sound s × (Cuts g × ((0 < unit) × (unit ≤ 2 ^ (maxLevel + 1)))) }
-    ensures { result ≡ evenStrip unit g s }
+    requires { Sound s × (Cuts g × ((0 < unit) × (unit ≤ 2 ^ (widest_level + 1)))) }
+    ensures { result ≡ even_strip unit g s }
 {
     ((s.x1 - s.x0) % (g.nx * unit) == 0) & ((s.y1 - s.y0) % (g.ny * unit) == 0)
 }
 
 // What base sides are to be multiples of.
 pub fn unit_of(max_level: u64) -> u64
-    requires { max_level ≤ maxLevel }
+    requires { max_level ≤ widest_level }
     ensures { result ≡ 2 ^ (max_level + 1) }
 {
     1u64 << (max_level + 1)

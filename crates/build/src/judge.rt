@@ -2,13 +2,13 @@
 ghost use Rattle.std.specs.Prelude.{◌≡◌, eqb, length};
 ghost use Rattle.refusals.specs.Said.{Said};
 ghost use Rattle.build.specs.Board.{sum_to};
-ghost use Rattle.build.specs.Says.{roomShaped, judgeFrom, fault};
+ghost use Rattle.build.specs.Says.{room_shaped, judge_from, fault};
 
 use refusals::{Refusal, limits};
 use strips::ring;
 
 pub fn room_shaped(size: usize) -> bool
-    ensures { result ≡ roomShaped size }
+    ensures { result ≡ room_shaped size }
 {
     (size % 8 == 0) & (size / 8 <= limits::SLOTS)
 }
@@ -33,7 +33,7 @@ pub fn adds_up(counts: &[u64], total: usize) -> bool
 #[tactic(auto, using(crate::proofs::Judging::ring_ends))]
 pub fn judge(sheets: &[f64], counts: &[u64], points: &[[i64; 2]]) -> Result<(), Refusal>
     requires { (length sheets.now ≡ length counts.now) × (sum_to counts.now (length counts.now) ≡ length points.now) }
-    ensures { (o : Said) → fault result o ≡ judgeFrom sheets.now counts.now points.now 0 (length counts.now) o }
+    ensures { (o : Said) → fault result o ≡ judge_from sheets.now counts.now points.now 0 (length counts.now) o }
 {
     let mut at = 0;
     for p in 0..counts.len() {

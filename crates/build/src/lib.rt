@@ -2,9 +2,9 @@
 #![tactic(auto)]
 
 ghost use Rattle.std.specs.Prelude.{◌≡◌, ◌/◌, length};
-ghost use Rattle.strips.specs.Said.{ifAccepted};
-ghost use Rattle.build.specs.Board.{board, rootsOf};
-ghost use Rattle.build.specs.Says.{builtSaid, rowsShaped, buildSays, buildLeaves, evenFrom, room_for, filled};
+ghost use Rattle.strips.specs.Said.{if_accepted};
+ghost use Rattle.build.specs.Board.{board, roots_of};
+ghost use Rattle.build.specs.Says.{built_said, rows_shaped, build_says, build_leaves, even_from, room_for, filled};
 ghost use Rattle.build.specs.Steps.{Fit, Putting, Tabled};
 
 use refusals::Refusal;
@@ -28,7 +28,7 @@ pub struct Settings {
 }
 
 // Whether the room has a table's shape and the polygons' rows fit together.
-#[tactic(auto, unfolding(crate::specs::Says::rowsShaped))]
+#[tactic(auto, unfolding(crate::specs::Says::rows_shaped))]
 fn rows_fit(
     layers: &[u16],
     components: &[u32],
@@ -37,7 +37,7 @@ fn rows_fit(
     points: &[[i64; 2]],
     size: usize,
 ) -> bool
-    ensures { result ≡ rowsShaped layers.now components.now sheets.now counts.now points.now size }
+    ensures { result ≡ rows_shaped layers.now components.now sheets.now counts.now points.now size }
 {
     let n = counts.len();
     judge::room_shaped(size)
@@ -58,11 +58,11 @@ fn cut_many(
 ) -> Result<usize, Refusal>
     requires { Fit (board s list.now layers.now counts.now points.now) × (Putting (length heights.old)
         (length edges.old) × Tabled table.old) }
-    ensures result_value { builtSaid result
-        ≡ evenFrom (board s list.now layers.now counts.now points.now) 0 (length counts.now) (room_for
-        (length table.old / 8) (length (rootsOf (board s list.now layers.now counts.now points.now)))) }
+    ensures result_value { built_said result
+        ≡ even_from (board s list.now layers.now counts.now points.now) 0 (length counts.now) (room_for
+        (length table.old / 8) (length (roots_of (board s list.now layers.now counts.now points.now)))) }
     ensures table_after { table.new
-        ≡ ifAccepted (builtSaid result) (filled (board s list.now layers.now counts.now points.now)
+        ≡ if_accepted (built_said result) (filled (board s list.now layers.now counts.now points.now)
         (length table.old)) table.old }
 {
     let slots = (table.len() / 8) as u64;
@@ -88,11 +88,11 @@ fn cut(
 ) -> Result<usize, Refusal>
     requires { Fit (board s list.now layers.now counts.now points.now) × (Putting (length heights.old)
         (length edges.old) × Tabled table.old) }
-    ensures result_value { builtSaid result
-        ≡ evenFrom (board s list.now layers.now counts.now points.now) 0 (length counts.now) (room_for
-        (length table.old / 8) (length (rootsOf (board s list.now layers.now counts.now points.now)))) }
+    ensures result_value { built_said result
+        ≡ even_from (board s list.now layers.now counts.now points.now) 0 (length counts.now) (room_for
+        (length table.old / 8) (length (roots_of (board s list.now layers.now counts.now points.now)))) }
     ensures table_after { table.new
-        ≡ ifAccepted (builtSaid result) (filled (board s list.now layers.now counts.now points.now)
+        ≡ if_accepted (built_said result) (filled (board s list.now layers.now counts.now points.now)
         (length table.old)) table.old }
 {
     if counts.len() == 1 {
@@ -104,7 +104,7 @@ fn cut(
 }
 
 // The level-0 table of a board: the roots of every polygon, in order, and zeros behind them.
-#[tactic(auto, unfolding(crate::specs::Says::buildSays, crate::specs::Says::buildLeaves, crate::specs::Says::settingsOk))]
+#[tactic(auto, unfolding(crate::specs::Says::build_says, crate::specs::Says::build_leaves, crate::specs::Says::settings_ok))]
 pub fn build(
     s: Settings,
     list: &[[u64; 2]],
@@ -115,10 +115,10 @@ pub fn build(
     points: &[[i64; 2]],
     table: &mut [i64],
 ) -> Result<usize, Refusal>
-    ensures result_value { builtSaid result
-        ≡ buildSays (board s list.now layers.now counts.now points.now) components.now sheets.now (length table.old) }
+    ensures result_value { built_said result
+        ≡ build_says (board s list.now layers.now counts.now points.now) components.now sheets.now (length table.old) }
     ensures table_after { table.new
-        ≡ buildLeaves (board s list.now layers.now counts.now points.now) components.now sheets.now table.old }
+        ≡ build_leaves (board s list.now layers.now counts.now points.now) components.now sheets.now table.old }
 {
     if !rows_fit(layers, components, sheets, counts, points, table.len()) {
         return Err(Refusal::BadTable);

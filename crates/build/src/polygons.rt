@@ -1,6 +1,6 @@
 // All polygons, one after another: judged by their sides and counted, and then put. Internal, all of it: the board has been judged.
 ghost use Rattle.std.specs.Prelude.{◌≡◌, length};
-ghost use Rattle.build.specs.Board.{board, rootsOf};
+ghost use Rattle.build.specs.Board.{board, roots_of};
 ghost use Rattle.build.specs.Steps.{Fit, Surveyed, placed, Slotted, Surveying, Putting};
 
 use crate::{Settings, grid, put, survey};
@@ -58,9 +58,9 @@ pub fn put_all(
     t: &mut [i64],
 ) -> usize
     requires { Fit (board s list.now layers.now counts.now points.now) × (Putting (length heights.old)
-        (length edges.old) × Slotted t.old 0 (length (rootsOf (board s list.now layers.now counts.now points.now)))) }
+        (length edges.old) × Slotted t.old 0 (length (roots_of (board s list.now layers.now counts.now points.now)))) }
     ensures { (result
-        ≡ length (rootsOf (board s list.now layers.now counts.now points.now))) × (t.new ≡ placed t.old 0 (rootsOf
+        ≡ length (roots_of (board s list.now layers.now counts.now points.now))) × (t.new ≡ placed t.old 0 (roots_of
         (board s list.now layers.now counts.now points.now))) }
 {
     let mut k = 0;

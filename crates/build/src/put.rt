@@ -1,12 +1,12 @@
 // Roots into the lent table, slot by slot. Internal, all of it: there is room.
 ghost use Rattle.std.specs.Prelude.{◌≡◌, ◌+◌, ◌*◌, ◌-◌, ◌≤◌, ◌<◌, ◌∷◌, [], ◌++◌, pos, length, take, replicate};
 ghost use Rattle.std.proofs.lemmas.List.Edits.{sets};
-ghost use Rattle.refusals.specs.Limits.{coordinate, maxPolygons};
-ghost use Rattle.cell.specs.Cells.{noCell};
-ghost use Rattle.strips.specs.Said.{stripRow};
-ghost use Rattle.strips.specs.Strips.{stripsOf};
+ghost use Rattle.refusals.specs.Limits.{coordinate, max_polygons};
+ghost use Rattle.cell.specs.Cells.{no_cell};
+ghost use Rattle.strips.specs.Said.{strip_row};
+ghost use Rattle.strips.specs.Strips.{strips_of};
 ghost use Rattle.strips.specs.Walk.{Sound, Ready, Roomy};
-ghost use Rattle.build.specs.Grid.{boxed, rowOf, rowTo, gridTo, rootsIn};
+ghost use Rattle.build.specs.Grid.{boxed, row_of, row_to, grid_to, roots_in};
 ghost use Rattle.build.specs.Steps.{Sizes, Cuts, placed, Slotted};
 
 use crate::grid;
@@ -18,7 +18,7 @@ use strips::walk::Strip;
 // A slot's corners, from position b on.
 fn put_corners(t: &mut [i64], b: usize, s: Strip)
     requires { b + 4 ≤ length t.old }
-    ensures { t.new ≡ sets t.old b (stripRow s) }
+    ensures { t.new ≡ sets t.old b (strip_row s) }
 {
     t[b] = ticks::ticks(s.x0);
     t[b + 1] = ticks::ticks(s.y0);
@@ -28,8 +28,8 @@ fn put_corners(t: &mut [i64], b: usize, s: Strip)
 
 // The rest of a slot: level 0, no parent, no child, the polygon.
 fn put_leaf(t: &mut [i64], b: usize, poly: u64)
-    requires { (b + 4 ≤ length t.old) × (poly < maxPolygons) }
-    ensures { t.new ≡ sets t.old b (pos 0 ∷ pos noCell ∷ pos noCell ∷ pos poly ∷ []) }
+    requires { (b + 4 ≤ length t.old) × (poly < max_polygons) }
+    ensures { t.new ≡ sets t.old b (pos 0 ∷ pos no_cell ∷ pos no_cell ∷ pos poly ∷ []) }
 {
     t[b] = 0;
     t[b + 1] = Cell::NO_CELL as i64;
@@ -39,7 +39,7 @@ fn put_leaf(t: &mut [i64], b: usize, poly: u64)
 
 #[tactic(auto, using(crate::proofs::Placing::root_placed))]
 fn put_root(t: &mut [i64], k: usize, s: Strip, poly: u64)
-    requires { Slotted t.old k 1 × (poly < maxPolygons) }
+    requires { Slotted t.old k 1 × (poly < max_polygons) }
     ensures { t.new ≡ placed t.old k (boxed poly s ∷ []) }
 {
     let b = k * 8;
@@ -50,7 +50,7 @@ fn put_root(t: &mut [i64], k: usize, s: Strip, poly: u64)
 // Row j of a strip, as a strip.
 fn row_of(s: Strip, g: Cut, j: u64) -> Strip
     requires { Sound s × (Cuts g × (j < g.ny)) }
-    ensures { result ≡ rowOf s g j }
+    ensures { result ≡ row_of s g j }
 {
     let dy = (s.y1 - s.y0) / g.ny;
     Strip {
@@ -64,8 +64,8 @@ fn row_of(s: Strip, g: Cut, j: u64) -> Strip
 // A row cut into n cells, from left to right.
 fn put_row(t: &mut [i64], k: usize, r: Strip, n: u64, poly: u64)
     requires { ((r.x0 ≤ r.x1) × (r.x1 ≤ coordinate + coordinate)) × ((0 < n) × (Slotted t.old k n ×
-        (poly < maxPolygons))) }
-    ensures { t.new ≡ placed t.old k (rowTo poly r n n) }
+        (poly < max_polygons))) }
+    ensures { t.new ≡ placed t.old k (row_to poly r n n) }
 {
     let dx = (r.x1 - r.x0) / n;
     for i in 0..n {
@@ -81,8 +81,8 @@ fn put_row(t: &mut [i64], k: usize, r: Strip, n: u64, poly: u64)
 
 // A strip's cells, row by row from the bottom. Answers the next slot.
 fn put_grid(t: &mut [i64], k: usize, s: Strip, g: Cut, poly: u64) -> usize
-    requires { Sound s × (Cuts g × (Slotted t.old k (length (gridTo poly s g g.ny)) × (poly < maxPolygons))) }
-    ensures { (result ≡ k + length (gridTo poly s g g.ny)) × (t.new ≡ placed t.old k (gridTo poly s g g.ny)) }
+    requires { Sound s × (Cuts g × (Slotted t.old k (length (grid_to poly s g g.ny)) × (poly < max_polygons))) }
+    ensures { (result ≡ k + length (grid_to poly s g g.ny)) × (t.new ≡ placed t.old k (grid_to poly s g g.ny)) }
 {
     let mut at = k;
     for j in 0..g.ny {
@@ -104,10 +104,10 @@ pub fn put_strips(
     poly: u64,
 ) -> usize
     requires { Ready points.now heights.now edges.now × (Sizes cap c × (Slotted t.old k (length
-        (rootsIn poly cap c (stripsOf points.now))) × (poly < maxPolygons))) }
+        (roots_in poly cap c (strips_of points.now))) × (poly < max_polygons))) }
     ensures { (result
-        ≡ k + length (rootsIn poly cap c (stripsOf points.now))) × (t.new ≡ placed t.old k (rootsIn poly cap c
-        (stripsOf points.now))) }
+        ≡ k + length (roots_in poly cap c (strips_of points.now))) × (t.new ≡ placed t.old k (roots_in poly cap c
+        (strips_of points.now))) }
 {
     let mut band = walk::start(points, heights);
     let mut edge = 0;
@@ -135,10 +135,10 @@ pub fn put_ring(
     poly: u64,
 ) -> usize
     requires { Roomy points.now heights.old edges.old × (Sizes cap c × (Slotted t.old k (length
-        (rootsIn poly cap c (stripsOf points.now))) × (poly < maxPolygons))) }
+        (roots_in poly cap c (strips_of points.now))) × (poly < max_polygons))) }
     ensures { (result
-        ≡ k + length (rootsIn poly cap c (stripsOf points.now))) × (t.new ≡ placed t.old k (rootsIn poly cap c
-        (stripsOf points.now))) }
+        ≡ k + length (roots_in poly cap c (strips_of points.now))) × (t.new ≡ placed t.old k (roots_in poly cap c
+        (strips_of points.now))) }
 {
     let n = points.len();
     let m = walk::prepare(points, heights, edges);

@@ -1,9 +1,9 @@
 // Base sides judged and roots counted before anything is written. Internal, all of it: settings and rings have been judged.
 ghost use Rattle.std.specs.Prelude.{◌≡◌, ◌+◌, ◌*◌, ◌≤◌, ◌<◌};
-ghost use Rattle.refusals.specs.Limits.{maxCap, maxSlots};
-ghost use Rattle.strips.specs.Strips.{stripsOf};
+ghost use Rattle.refusals.specs.Limits.{max_cap, max_slots};
+ghost use Rattle.strips.specs.Strips.{strips_of};
 ghost use Rattle.strips.specs.Walk.{Ready, Roomy};
-ghost use Rattle.build.specs.Steps.{Sizes, Cuts, Counting, Tallied, moreOf};
+ghost use Rattle.build.specs.Steps.{Sizes, Cuts, Counting, Tallied, more_of};
 
 use crate::grid;
 use crate::grid::Cut;
@@ -11,8 +11,8 @@ use strips::walk;
 
 // A strip's cells on top of a count. A count that is past the slots already stays, so that none is too large for 64 bits.
 fn more(sum: u64, slots: u64, g: Cut) -> u64
-    requires { Cuts g × ((slots ≤ maxSlots) × (sum ≤ maxSlots + maxCap * maxCap)) }
-    ensures { (result ≡ moreOf slots sum (g.ny * g.nx)) × (result ≤ maxSlots + maxCap * maxCap) }
+    requires { Cuts g × ((slots ≤ max_slots) × (sum ≤ max_slots + max_cap * max_cap)) }
+    ensures { (result ≡ more_of slots sum (g.ny * g.nx)) × (result ≤ max_slots + max_cap * max_cap) }
 {
     if slots < sum {
         return sum;
@@ -32,7 +32,7 @@ pub fn tally_strips(
     n: u64,
 ) -> Option<u64>
     requires { Ready points.now heights.now edges.now × (Sizes cap c × Counting unit slots n) }
-    ensures { Tallied unit cap c slots n (stripsOf points.now) result }
+    ensures { Tallied unit cap c slots n (strips_of points.now) result }
 {
     let mut band = walk::start(points, heights);
     let mut edge = 0;
@@ -63,7 +63,7 @@ pub fn tally_ring(
     n: u64,
 ) -> Option<u64>
     requires { Roomy points.now heights.old edges.old × (Sizes cap c × Counting unit slots n) }
-    ensures { Tallied unit cap c slots n (stripsOf points.now) result }
+    ensures { Tallied unit cap c slots n (strips_of points.now) result }
 {
     let k = points.len();
     let m = walk::prepare(points, heights, edges);

@@ -12,7 +12,7 @@ use lib.Seq.{get_or-take, get_or-drop}
 use Rattle.refusals.specs.Limits.{coordinate}
 use Rattle.refusals.specs.Said.{accepted}
 use Rattle.cell.specs.Boxes.{Box}
-use Rattle.cell.specs.Cells.{boxOf}
+use Rattle.cell.specs.Cells.{box_of}
 use Rattle.cell.specs.Ticks.{off}
 use Rattle.cell.proofs.Offsets.{off-on}
 use Rattle.cell.proofs.Contact.{and_left}
@@ -25,9 +25,9 @@ use Rattle.strips.specs.Walk.{Sound, AllSound}
 use Rattle.strips.specs.declared.walk.Strip.{Strip}
 use Rattle.strips.proofs.Bounds.{strips-sound, sound-first}
 use Rattle.build.specs.declared.grid.Cut.{Cut}
-use Rattle.build.specs.Grid.{Root, width, height, boxed, rowOf, cell_of, gridTo, rootsIn, cutOf, evenStrip, allEven, flat}
-use Rattle.build.specs.Board.{Board, ringAt, polygons, unit, size_at, stripsAt, rootsAt, rootsTo, rootsOf}
-use Rattle.build.specs.Says.{buildSays, filled, buildLeaves}
+use Rattle.build.specs.Grid.{Root, width, height, boxed, row_of, cell_of, grid_to, roots_in, cut_of, even_strip, all_even, flat}
+use Rattle.build.specs.Board.{Board, ring_at, polygons, unit, size_at, strips_at, roots_at, roots_to, roots_of}
+use Rattle.build.specs.Says.{build_says, filled, build_leaves}
 use Rattle.build.specs.Steps.{Cuts, Fit}
 use Rattle.build.proofs.Cutting.{cuts}
 use Rattle.build.proofs.Placing.{length-grid}
@@ -45,12 +45,12 @@ use Rattle.hanging.proofs.Laws.{balance-hangs-not}
 use Rattle.built_strip.proofs.Lists.{grid-at, Placed, root-placed}
 
 -- what stands past the last root
-abbrev noRoot : Root
-noRoot = record { x0 = 0; y0 = 0; x1 = 0; y1 = 0; poly = 0 }
+abbrev no_root : Root
+no_root = record { x0 = 0; y0 = 0; x1 = 0; y1 = 0; poly = 0 }
 
 -- ---- a root's eight numbers, and its box
 
-flat-slot : (rs : List Root) (rest : List ℤ) (i : ℕ) → i < length rs → slot (flat rs ++ rest) i ≡ flat (get_or rs i noRoot ∷ [])
+flat-slot : (rs : List Root) (rest : List ℤ) (i : ℕ) → i < length rs → slot (flat rs ++ rest) i ≡ flat (get_or rs i no_root ∷ [])
 unfolding flat
 flat-slot [] rest i h = absurd (omega arith)
 flat-slot (r ∷ rs) rest zero h = refl
@@ -58,8 +58,8 @@ flat-slot (r ∷ rs) rest (suc i) h =
     let e : suc i * 8 ≡ suc (suc (suc (suc (suc (suc (suc (suc (i * 8)))))))) = omega arith in
     rw e (flat-slot rs rest i (omega arith))
 
-abbrev boxFrom : Root → Box
-boxFrom r = record { x0 = r.x0; y0 = r.y0; x1 = r.x1; y1 = r.y1 }
+abbrev box_from : Root → Box
+box_from r = record { x0 = r.x0; y0 = r.y0; x1 = r.x1; y1 = r.y1 }
 
 record Fits (r : Root) : Type 0 where
   x0 : r.x0 ≤ coordinate + coordinate
@@ -71,19 +71,19 @@ module _ (rs : List Root) (rest : List ℤ) (i : ℕ) (h : i < length rs) where
   abbrev row : List ℤ
   row = flat rs ++ rest
 
-  numbers : (k : ℕ) → k < 8 → number row i k ≡ get_or (flat (get_or rs i noRoot ∷ [])) k (pos 0)
+  numbers : (k : ℕ) → k < 8 → number row i k ≡ get_or (flat (get_or rs i no_root ∷ [])) k (pos 0)
   numbers k l =
       sym (get_or-take 8 (drop (i * 8) row) k (pos 0) l ∙ get_or-drop (i * 8) row k (pos 0))
       ∙ ap (λ (s : List ℤ). get_or s k (pos 0)) (flat-slot rs rest i h)
 
   abbrev root : Root
-  root = get_or rs i noRoot
+  root = get_or rs i no_root
 
   polygon-of : (cell_at row i).poly ≡ root.poly
   unfolding cell_at flat counted
   polygon-of = ap counted (numbers 7 (omega arith))
 
-  box_of : Fits root → boxOf (cell_at row i) ≡ boxFrom root
+  box_of : Fits root → box_of (cell_at row i) ≡ box_from root
   unfolding cell_at flat
   box_of f =
       let z : i * 8 ≡ i * 8 + 0 = omega arith in
@@ -96,46 +96,46 @@ module _ (rs : List Root) (rest : List ℤ) (i : ℕ) (h : i < length rs) where
 -- ---- the roots of a strip
 
 -- a strip's cells, as a grid
-abbrev pub gridOf : Strip → Cut → Grid
-gridOf s g = record { west = s.x0; south = s.y0; wide = width s / g.nx; high = height s / g.ny }
+abbrev pub grid_of : Strip → Cut → Grid
+grid_of s g = record { west = s.x0; south = s.y0; wide = width s / g.nx; high = height s / g.ny }
 
-module _ (b : Board) (size : ℕ) (fit : Fit b) (p : ℕ) (below : p < polygons b) (even : allEven (unit b) b.settings.cap (size_at b p) (stripsAt b p) ≡ true)
-    (s : Strip) (single : stripsAt b p ≡ s ∷ []) where
+module _ (b : Board) (size : ℕ) (fit : Fit b) (p : ℕ) (below : p < polygons b) (even : all_even (unit b) b.settings.cap (size_at b p) (strips_at b p) ≡ true)
+    (s : Strip) (single : strips_at b p ≡ s ∷ []) where
   abbrev g : Cut
-  g = cutOf b.settings.cap (size_at b p) s
+  g = cut_of b.settings.cap (size_at b p) s
 
   some : Cuts g
   some = cuts b.settings.cap (size_at b p) s (sizes b fit p)
 
   sound : Sound s
-  sound = sound-first s [] (subst AllSound single (strips-sound (ringAt b.counts b.points p)))
+  sound = sound-first s [] (subst AllSound single (strips-sound (ring_at b.counts b.points p)))
 
-  strip-even : evenStrip (unit b) g s ≡ true
-  unfolding allEven
-  strip-even = and_left (evenStrip (unit b) g s) (allEven (unit b) b.settings.cap (size_at b p) []) (subst (λ (ss : List Strip). allEven (unit b) b.settings.cap (size_at b p) ss ≡ true) single even)
+  strip-even : even_strip (unit b) g s ≡ true
+  unfolding all_even
+  strip-even = and_left (even_strip (unit b) g s) (all_even (unit b) b.settings.cap (size_at b p) []) (subst (λ (ss : List Strip). all_even (unit b) b.settings.cap (size_at b p) ss ≡ true) single even)
 
-  strip-roots : rootsAt b p ≡ gridTo p s g g.ny
-  unfolding rootsIn
-  strip-roots = ap (rootsIn p b.settings.cap (size_at b p)) single ∙ append-nil (gridTo p s g g.ny)
+  strip-roots : roots_at b p ≡ grid_to p s g g.ny
+  unfolding roots_in
+  strip-roots = ap (roots_in p b.settings.cap (size_at b p)) single ∙ append-nil (grid_to p s g g.ny)
 
   abbrev from : ℕ
-  from = length (rootsTo b p)
+  from = length (roots_to b p)
 
   -- the root r of the polygon, by its place
-  root_is : (r : ℕ) → Placed b noRoot (polygons b) p r → get_or (rootsOf b) r noRoot ≡ boxed p (cell_of (rowOf s g ((r - from) / g.nx)) g.nx ((r - from) % g.nx))
+  root_is : (r : ℕ) → Placed b no_root (polygons b) p r → get_or (roots_of b) r no_root ≡ boxed p (cell_of (row_of s g ((r - from) / g.nx)) g.nx ((r - from) % g.nx))
   root_is r w =
       let l = ap length strip-roots ∙ length-grid p s g g.ny in
       let i = w.within in
-      w.same ∙ ap (λ (rs : List Root). get_or rs (r - from) noRoot) strip-roots ∙ grid-at p noRoot s g g.ny (r - from) (omega arith)
+      w.same ∙ ap (λ (rs : List Root). get_or rs (r - from) no_root) strip-roots ∙ grid-at p no_root s g g.ny (r - from) (omega arith)
 
-  root-fits : (r : ℕ) → Placed b noRoot (polygons b) p r → Fits (get_or (rootsOf b) r noRoot)
+  root-fits : (r : ℕ) → Placed b no_root (polygons b) p r → Fits (get_or (roots_of b) r no_root)
   root-fits r w =
       let m = r - from in
       let l = ap length strip-roots ∙ length-grid p s g g.ny in
       let i = w.within in
       let h : m < g.ny * g.nx = omega arith in
       let o = cell-ok (unit b) (polygons b) p s g below sound some strip-even (m % g.nx) (m / g.nx) (mod-lt m some.x-some) ((div-lt_iff_lt-mul some.x-some).1 h) in
-      subst Fits (sym (root_is r w)) (ok-fits (boxed p (cell_of (rowOf s g (m / g.nx)) g.nx (m % g.nx))) o)
+      subst Fits (sym (root_is r w)) (ok-fits (boxed p (cell_of (row_of s g (m / g.nx)) g.nx (m % g.nx))) o)
     where
       ok-fits : (q : Root) → RootOk (unit b) (polygons b) q → Fits q
       ok-fits q o =
@@ -145,25 +145,25 @@ module _ (b : Board) (size : ℕ) (fit : Fit b) (p : ℕ) (below : p < polygons 
           let e = o.top in
           record { x0 = omega arith; y0 = omega arith; x1 = d; y1 = e }
 
-  filled-strip : OneStrip (table (filled b size) (length (rootsOf b))) p
+  filled-strip : OneStrip (table (filled b size) (length (roots_of b))) p
   unfolding filled
   filled-strip =
-      run-strip (table (filled b size) (length (rootsOf b))) p from g.nx (gridOf s g) (λ r a.
-      let rest = replicate (size - length (rootsOf b) * 8) (pos 0) in
-      let h : r < length (rootsOf b) = rw length-table at (root_in (table (filled b size) (length (rootsOf b))) r a.top) in
-      let c = at_table (filled b size) (length (rootsOf b)) r h in
-      let own : (get_or (rootsOf b) r noRoot).poly ≡ p = sym (polygon-of (rootsOf b) rest r h) ∙ sym (ap (λ (x : Mesh.Cell). x.polygon) c) ∙ a.polygon in
-      let w = root-placed b noRoot (polygons b) p r h own in
-      (w.behind, ap (λ (x : Mesh.Cell). x.box) c ∙ box_of (rootsOf b) rest r h (root-fits r w) ∙ ap boxFrom (root_is r w)))
+      run-strip (table (filled b size) (length (roots_of b))) p from g.nx (grid_of s g) (λ r a.
+      let rest = replicate (size - length (roots_of b) * 8) (pos 0) in
+      let h : r < length (roots_of b) = rw length-table at (root_in (table (filled b size) (length (roots_of b))) r a.top) in
+      let c = at_table (filled b size) (length (roots_of b)) r h in
+      let own : (get_or (roots_of b) r no_root).poly ≡ p = sym (polygon-of (roots_of b) rest r h) ∙ sym (ap (λ (x : Mesh.Cell). x.polygon) c) ∙ a.polygon in
+      let w = root-placed b no_root (polygons b) p r h own in
+      (w.behind, ap (λ (x : Mesh.Cell). x.box) c ∙ box_of (roots_of b) rest r h (root-fits r w) ∙ ap box_from (root_is r w)))
 
 -- ---- an accepted call
 
-module _ (b : Board) (components : List ℕ) (sheets : List Float) (t : List ℤ) (n : ℕ) (e : buildSays b components sheets (length t) ≡ accepted (n ∷ [])) where
+module _ (b : Board) (components : List ℕ) (sheets : List Float) (t : List ℤ) (n : ℕ) (e : build_says b components sheets (length t) ≡ accepted (n ∷ [])) where
   abbrev built : List Mesh.Cell
-  built = table (buildLeaves b components sheets t) n
+  built = table (build_leaves b components sheets t) n
 
   -- what build leaves of a polygon of one strip is one grid
-  pub built-strip : (p : ℕ) → p < polygons b → (s : Strip) → stripsAt b p ≡ s ∷ [] → OneStrip built p
+  pub built-strip : (p : ℕ) → p < polygons b → (s : Strip) → strips_at b p ≡ s ∷ [] → OneStrip built p
   built-strip p below s single =
       let w = passed b components sheets t n e in
       subst (λ (u : List ℤ). OneStrip (table u n) p) (sym w.left)
@@ -172,7 +172,7 @@ module _ (b : Board) (components : List ℕ) (sheets : List Float) (t : List ℤ
 
   -- so that however it is refined, once the table is balanced no node of it hangs, whatever the other polygons are
   pub built-hangs-not : (u : List Mesh.Cell) → Splits b.settings.max_level built u → (ps : List Poly) (pre : List Piece) (q : Piece) (qs : List Piece)
-      → pieces (balance b.settings.max_level u) ps 0 ≡ pre ++ (q ∷ qs) → length pre < polygons b → (s : Strip) → stripsAt b (length pre) ≡ s ∷ []
+      → pieces (balance b.settings.max_level u) ps 0 ≡ pre ++ (q ∷ qs) → length pre < polygons b → (s : Strip) → strips_at b (length pre) ≡ s ∷ []
       → NoneHangs (network (balance b.settings.max_level u) ps) q
   built-hangs-not u made ps pre q qs d below s single =
       balance-hangs-not b.settings.max_level u (splits-formed b.settings.max_level built (built-formed b components sheets t n e).cells made) ps pre q qs d

@@ -10,8 +10,8 @@ use lib.Seq.{get_or-append-add}
 use Rattle.cell.proofs.Offsets.{below?}
 use Rattle.strips.specs.declared.walk.Strip.{Strip}
 use Rattle.build.specs.declared.grid.Cut.{Cut}
-use Rattle.build.specs.Grid.{Root, boxed, rowOf, cell_of, rowTo, gridTo, rootsIn, cutOf}
-use Rattle.build.specs.Board.{Board, size_at, stripsAt, rootsAt, rootsTo}
+use Rattle.build.specs.Grid.{Root, boxed, row_of, cell_of, row_to, grid_to, roots_in, cut_of}
+use Rattle.build.specs.Board.{Board, size_at, strips_at, roots_at, roots_to}
 use Rattle.build.proofs.Placing.{length-row, length-grid}
 use Rattle.net.proofs.All.{All, all_append, all_one, all_nil, all-at}
 
@@ -28,27 +28,27 @@ second-of l m d i h =
 -- ---- a strip's cells: cell m is in the row m / nx and the column m % nx
 
 module _ (poly : ℕ) (d : Root) where
-  row_at : (r : Strip) (n i m : ℕ) → m < i → get_or (rowTo poly r n i) m d ≡ boxed poly (cell_of r n m)
-  unfolding rowTo
+  row_at : (r : Strip) (n i m : ℕ) → m < i → get_or (row_to poly r n i) m d ≡ boxed poly (cell_of r n m)
+  unfolding row_to
   row_at r n zero m h = absurd (omega arith)
   row_at r n (suc i) m h =
       let l = length-row poly r n i in
       ⊎_elim
-      (λ (k : m < i). first-of (rowTo poly r n i) (boxed poly (cell_of r n i) ∷ []) d m (omega arith) ∙ row_at r n i m k)
+      (λ (k : m < i). first-of (row_to poly r n i) (boxed poly (cell_of r n i) ∷ []) d m (omega arith) ∙ row_at r n i m k)
       (λ (k : i ≤ m).
       let e : m ≡ i = omega arith in
-      let z : m - length (rowTo poly r n i) ≡ 0 = omega arith in
-      second-of (rowTo poly r n i) (boxed poly (cell_of r n i) ∷ []) d m (omega arith)
+      let z : m - length (row_to poly r n i) ≡ 0 = omega arith in
+      second-of (row_to poly r n i) (boxed poly (cell_of r n i) ∷ []) d m (omega arith)
       ∙ ap (λ (x : ℕ). get_or (boxed poly (cell_of r n i) ∷ []) x d) z ∙ ap (λ (x : ℕ). boxed poly (cell_of r n x)) (sym e))
       (below? m i)
 
-  pub grid-at : (s : Strip) (g : Cut) (j m : ℕ) → m < j * g.nx → get_or (gridTo poly s g j) m d ≡ boxed poly (cell_of (rowOf s g (m / g.nx)) g.nx (m % g.nx))
-  unfolding gridTo
+  pub grid-at : (s : Strip) (g : Cut) (j m : ℕ) → m < j * g.nx → get_or (grid_to poly s g j) m d ≡ boxed poly (cell_of (row_of s g (m / g.nx)) g.nx (m % g.nx))
+  unfolding grid_to
   grid-at s g zero m h = absurd (omega arith)
   grid-at s g (suc j) m h =
       let l = length-grid poly s g j in
-      let a = gridTo poly s g j in
-      let b = rowTo poly (rowOf s g j) g.nx g.nx in
+      let a = grid_to poly s g j in
+      let b = row_to poly (row_of s g j) g.nx g.nx in
       ⊎_elim
       (λ (k : m < j * g.nx). first-of a b d m (omega arith) ∙ grid-at s g j m k)
       (λ (k : j * g.nx ≤ m).
@@ -59,8 +59,8 @@ module _ (poly : ℕ) (d : Root) where
       let quotient : m / g.nx ≡ j =
       ap (λ (x : ℕ). x / g.nx) e ∙ mul-add-div_right (omega arith) j i ∙ ap (λ (x : ℕ). j + x) (div-eq_of_lt small) ∙ omega arith in
       let remainder : m % g.nx ≡ i = ap (λ (x : ℕ). x % g.nx) e ∙ mul-add-mod_self_right j g.nx i ∙ mod-eq_of_lt small in
-      second-of a b d m (omega arith) ∙ row_at (rowOf s g j) g.nx g.nx i small
-      ∙ ap₂ {C = Root} (λ x y. boxed poly (cell_of (rowOf s g x) g.nx y)) (sym quotient) (sym remainder))
+      second-of a b d m (omega arith) ∙ row_at (row_of s g j) g.nx g.nx i small
+      ∙ ap₂ {C = Root} (λ x y. boxed poly (cell_of (row_of s g x) g.nx y)) (sym quotient) (sym remainder))
       (below? m (j * g.nx))
 
   -- ---- a polygon's roots
@@ -68,33 +68,33 @@ module _ (poly : ℕ) (d : Root) where
   abbrev Own : Root → Type 0
   Own r = r.poly ≡ poly
 
-  row-own : (r : Strip) (n i : ℕ) → All Own (rowTo poly r n i)
-  unfolding rowTo
+  row-own : (r : Strip) (n i : ℕ) → All Own (row_to poly r n i)
+  unfolding row_to
   row-own r n zero = all_nil Own
-  row-own r n (suc i) = all_append Own (rowTo poly r n i) (boxed poly (cell_of r n i) ∷ []) (row-own r n i) (all_one Own (boxed poly (cell_of r n i)) refl)
+  row-own r n (suc i) = all_append Own (row_to poly r n i) (boxed poly (cell_of r n i) ∷ []) (row-own r n i) (all_one Own (boxed poly (cell_of r n i)) refl)
 
-  grid-own : (s : Strip) (g : Cut) (j : ℕ) → All Own (gridTo poly s g j)
-  unfolding gridTo
+  grid-own : (s : Strip) (g : Cut) (j : ℕ) → All Own (grid_to poly s g j)
+  unfolding grid_to
   grid-own s g zero = all_nil Own
-  grid-own s g (suc j) = all_append Own (gridTo poly s g j) (rowTo poly (rowOf s g j) g.nx g.nx) (grid-own s g j) (row-own (rowOf s g j) g.nx g.nx)
+  grid-own s g (suc j) = all_append Own (grid_to poly s g j) (row_to poly (row_of s g j) g.nx g.nx) (grid-own s g j) (row-own (row_of s g j) g.nx g.nx)
 
-  roots-own : (cap c : ℕ) (ss : List Strip) → All Own (rootsIn poly cap c ss)
-  unfolding rootsIn
+  roots-own : (cap c : ℕ) (ss : List Strip) → All Own (roots_in poly cap c ss)
+  unfolding roots_in
   roots-own cap c [] = all_nil Own
-  roots-own cap c (s ∷ ss) = all_append Own (gridTo poly s (cutOf cap c s) (cutOf cap c s).ny) (rootsIn poly cap c ss) (grid-own s (cutOf cap c s) (cutOf cap c s).ny) (roots-own cap c ss)
+  roots-own cap c (s ∷ ss) = all_append Own (grid_to poly s (cut_of cap c s) (cut_of cap c s).ny) (roots_in poly cap c ss) (grid-own s (cut_of cap c s) (cut_of cap c s).ny) (roots-own cap c ss)
 
 -- root i of the first n polygons, if it is one of polygon p: its place among those of p
 pub record Placed (b : Board) (d : Root) (n p i : ℕ) : Type 0 where
-  pub behind : length (rootsTo b p) ≤ i
-  pub within : i - length (rootsTo b p) < length (rootsAt b p)
-  pub same : get_or (rootsTo b n) i d ≡ get_or (rootsAt b p) (i - length (rootsTo b p)) d
+  pub behind : length (roots_to b p) ≤ i
+  pub within : i - length (roots_to b p) < length (roots_at b p)
+  pub same : get_or (roots_to b n) i d ≡ get_or (roots_at b p) (i - length (roots_to b p)) d
 
-pub root-placed : (b : Board) (d : Root) (n p i : ℕ) → i < length (rootsTo b n) → (get_or (rootsTo b n) i d).poly ≡ p → Placed b d n p i
-unfolding rootsTo
+pub root-placed : (b : Board) (d : Root) (n p i : ℕ) → i < length (roots_to b n) → (get_or (roots_to b n) i d).poly ≡ p → Placed b d n p i
+unfolding roots_to
 root-placed b d zero p i h e = absurd (omega arith)
 root-placed b d (suc n) p i h e =
-    let a = rootsTo b n in
-    let c = rootsAt b n in
+    let a = roots_to b n in
+    let c = roots_at b n in
     let l = length-append a c in
     ⊎_elim
     (λ (k : i < length a).
@@ -104,6 +104,6 @@ root-placed b d (suc n) p i h e =
     (λ (k : length a ≤ i).
     let f = second-of a c d i k in
     let j : i - length a < length c = omega arith in
-    let own : (get_or c (i - length a) d).poly ≡ n = all-at (λ (r : Root). r.poly ≡ n) d c (i - length a) (roots-own n d b.settings.cap (size_at b n) (stripsAt b n)) j in
+    let own : (get_or c (i - length a) d).poly ≡ n = all-at (λ (r : Root). r.poly ≡ n) d c (i - length a) (roots-own n d b.settings.cap (size_at b n) (strips_at b n)) j in
     subst (λ (x : ℕ). Placed b d (suc n) x i) (sym own ∙ sym (ap (λ (r : Root). r.poly) f) ∙ e) (record { behind = k; within = j; same = f }))
     (below? i (length a))

@@ -7,7 +7,7 @@ use Prim.Native.Nat.{ℕ, ◌+◌, ◌<◌, ◌≤◌, min, max}
 use native.Mathlib.Omega.{arith}
 use lib.Dec.{ltb, eqb}
 use borrow.Author.Tests.{ltb-true, ltb-false, lt-ltb, eqb-true, eq-eqb}
-use Rattle.cell.specs.Boxes.{Box, Quad, sw, se, nw, ne, quadrant, mid, overlaps, sharesEdge}
+use Rattle.cell.specs.Boxes.{Box, Quad, sw, se, nw, ne, quadrant, mid, overlaps, shares_edge}
 
 pub or_cases : (x y : Bool) → (x || y) ≡ true → (x ≡ true) ⊎ (y ≡ true)
 or_cases true y e = inl refl
@@ -77,12 +77,12 @@ of-touch a b (west e h) = two (eq-eqb _ _ e) (lt-ltb _ _ h)
 of-touch a b (north e h) = three (eq-eqb _ _ e) (lt-ltb _ _ h)
 of-touch a b (south e h) = four (eq-eqb _ _ e) (lt-ltb _ _ h)
 
-pub shares→touch : (a b : Box) → sharesEdge a b ≡ true → Touch a b
-unfolding sharesEdge
+pub shares→touch : (a b : Box) → shares_edge a b ≡ true → Touch a b
+unfolding shares_edge
 shares→touch a b e = touch-of a b (four-of _ _ _ _ _ _ e)
 
-pub touch→shares : (a b : Box) → Touch a b → sharesEdge a b ≡ true
-unfolding sharesEdge
+pub touch→shares : (a b : Box) → Touch a b → shares_edge a b ≡ true
+unfolding shares_edge
 touch→shares a b t = of_four _ _ _ _ _ _ (of-touch a b t)
 
 touch-sym : (a b : Box) → Touch a b → Touch b a
@@ -91,11 +91,11 @@ touch-sym a b (west e h) = east e (omega arith)
 touch-sym a b (north e h) = south e (omega arith)
 touch-sym a b (south e h) = north e (omega arith)
 
-pub shares-sym : (a b : Box) → sharesEdge a b ≡ true → sharesEdge b a ≡ true
+pub shares-sym : (a b : Box) → shares_edge a b ≡ true → shares_edge b a ≡ true
 shares-sym a b e = touch→shares b a (touch-sym a b (shares→touch a b e))
 
 -- boxes that have a corner in common and lie across it from one another do not share an edge
-pub corner-apart : (a b : Box) → a.x0 < a.x1 → a.y0 < a.y1 → a.x1 ≡ b.x0 → a.y1 ≡ b.y0 → b.x0 < b.x1 → b.y0 < b.y1 → sharesEdge a b ≡ true → ⊥
+pub corner-apart : (a b : Box) → a.x0 < a.x1 → a.y0 < a.y1 → a.x1 ≡ b.x0 → a.y1 ≡ b.y0 → b.x0 < b.x1 → b.y0 < b.y1 → shares_edge a b ≡ true → ⊥
 corner-apart a b aw ah ex ey bw bh e = by (shares→touch a b e)
   where
     by : Touch a b → ⊥
@@ -118,7 +118,7 @@ touch-quadrant a b (west e h) = ⊎_elim (λ l. (sw, west e l)) (λ l. (nw, west
 touch-quadrant a b (north e h) = ⊎_elim (λ l. (nw, north e l)) (λ l. (ne, north e l)) (halves _ _ _ _ (mid a.x0 a.x1) h)
 touch-quadrant a b (south e h) = ⊎_elim (λ l. (sw, south e l)) (λ l. (se, south e l)) (halves _ _ _ _ (mid a.x0 a.x1) h)
 
-pub shares-quadrant : (a b : Box) → sharesEdge a b ≡ true → (q : Quad) × (sharesEdge (quadrant a q) b ≡ true)
+pub shares-quadrant : (a b : Box) → shares_edge a b ≡ true → (q : Quad) × (shares_edge (quadrant a q) b ≡ true)
 shares-quadrant a b e =
     let t = touch-quadrant a b (shares→touch a b e) in
     (t.0, touch→shares (quadrant a t.0) b t.1)

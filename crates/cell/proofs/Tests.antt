@@ -5,9 +5,9 @@ use mathlib.Core.Bool.{Bool, true, false, ◌&&◌}
 use native.Mathlib.Omega.{arith}
 use lib.Dec.{ltb}
 use borrow.Author.Tests.{ltb-true, ltb-false, lt-ltb, le-ltb}
-use Rattle.cell.specs.Boxes.{ne, quadAt, overlaps}
+use Rattle.cell.specs.Boxes.{ne, quad_at, overlaps}
 
-pub quad-last : (k : ℕ) → (k ≡ 0 → ⊥) → (k ≡ 1 → ⊥) → (k ≡ 2 → ⊥) → quadAt k ≡ ne
+pub quad-last : (k : ℕ) → (k ≡ 0 → ⊥) → (k ≡ 1 → ⊥) → (k ≡ 2 → ⊥) → quad_at k ≡ ne
 quad-last zero a b c = absurd (a refl)
 quad-last (suc zero) a b c = absurd (b refl)
 quad-last (suc (suc zero)) a b c = absurd (c refl)

@@ -17,11 +17,11 @@ num se = 1
 num nw = 2
 num ne = 3
 
-abbrev pub quadAt : ℕ → Quad
-quadAt zero = sw
-quadAt (suc zero) = se
-quadAt (suc (suc zero)) = nw
-quadAt (suc (suc (suc k))) = ne
+abbrev pub quad_at : ℕ → Quad
+quad_at zero = sw
+quad_at (suc zero) = se
+quad_at (suc (suc zero)) = nw
+quad_at (suc (suc (suc k))) = ne
 
 -- where a side is cut: at its middle where that is a whole tick, and at the tick below it otherwise
 abbrev pub mid : ℕ → ℕ → ℕ
@@ -37,9 +37,9 @@ quadrant b ne = record { x0 = mid b.x0 b.x1; y0 = mid b.y0 b.y1; x1 = b.x1; y1 =
 abbrev pub overlaps : ℕ → ℕ → ℕ → ℕ → Bool
 overlaps a b c d = ltb (max a c) (min b d)
 
--- document 01: one's east side has the x of the other's west side and their y ranges overlap by a positive length, or likewise
+-- the rules: one's east side has the x of the other's west side and their y ranges overlap by a positive length, or likewise
 -- with x and y exchanged
-unfoldable pub sharesEdge : Box → Box → Bool
-sharesEdge a b =
+unfoldable pub shares_edge : Box → Box → Bool
+shares_edge a b =
     ((eqb a.x1 b.x0 || eqb b.x1 a.x0) && overlaps a.y0 a.y1 b.y0 b.y1)
     || ((eqb a.y1 b.y0 || eqb b.y1 a.y0) && overlaps a.x0 a.x1 b.x0 b.x1)

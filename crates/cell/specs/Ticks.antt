@@ -5,7 +5,7 @@ use Rattle.std.specs.Float.Ieee as Ieee
 use Rattle.std.specs.Float.{binary64}
 use Rattle.refusals.specs.Limits.{coordinate}
 
--- document 01's range of a coordinate
+-- the rules' range of a coordinate
 unfoldable pub in_range : ℤ → Bool
 in_range z = le_z (neg_ℤ (pos coordinate)) z && le_z z (pos coordinate)
 
@@ -23,5 +23,5 @@ abbrev pub tick : Float
 tick = Ieee.round binary64 false 1 (2 ^ 38)
 
 -- a length in metres: a product of two numbers that binary64 has, and exact
-abbrev pub metresOf : ℕ → Float
-metresOf n = Ieee.mul binary64 (Ieee.of_int binary64 (pos n)) tick
+abbrev pub metres_of : ℕ → Float
+metres_of n = Ieee.mul binary64 (Ieee.of_int binary64 (pos n)) tick

@@ -1,12 +1,12 @@
 // A cell of the quadtree, by value: QuadCell of the Rust, in whole ticks.
 //
-// A cell's coordinates are offset by 2^36, so that the range of document 01 is 0 to 2^37 and no coordinate is negative.
+// A cell's coordinates are offset by 2^36, so that the range is 0 to 2^37 and no coordinate is negative.
 #![tactic(auto)]
 
 ghost use Rattle.std.specs.Prelude.{◌≡◌, ◌+◌, ◌/◌, ◌<◌};
-ghost use Rattle.refusals.specs.Limits.{maxLevel};
-ghost use Rattle.cell.specs.Boxes.{overlaps, sharesEdge, quadAt};
-ghost use Rattle.cell.specs.Cells.{boxOf, rootOf, cut_to, centre, childOf};
+ghost use Rattle.refusals.specs.Limits.{widest_level};
+ghost use Rattle.cell.specs.Boxes.{overlaps, shares_edge, quad_at};
+ghost use Rattle.cell.specs.Cells.{box_of, root_of, cut_to, centre, child_of};
 
 pub mod ticks;
 
@@ -40,7 +40,7 @@ impl Cell {
     pub const WIDEST_LEVEL: u64 = refusals::limits::MAX_LEVEL;
 
     pub fn root(x0: u64, y0: u64, x1: u64, y1: u64, poly: u64) -> Cell
-        ensures { result ≡ rootOf x0 y0 x1 y1 poly }
+        ensures { result ≡ root_of x0 y0 x1 y1 poly }
     {
         Cell {
             x0: x0,
@@ -74,7 +74,7 @@ impl Cell {
 
     // The cell cut down to a quadrant: 0 SW, 1 SE, 2 NW, else NE.
     pub fn quadrant(self, k: u64) -> Cell
-        ensures { result ≡ cut_to (quadAt k) self }
+        ensures { result ≡ cut_to (quad_at k) self }
     {
         let m = self.midpoint();
         let mut c = self;
@@ -100,8 +100,8 @@ impl Cell {
 
     // Child k of the cell with this id. Internal: only a cell above the widest level is split.
     pub fn child(self, id: u64, k: u64) -> Cell
-        requires { self.level < maxLevel }
-        ensures { result ≡ childOf id (quadAt k) self }
+        requires { self.level < widest_level }
+        ensures { result ≡ child_of id (quad_at k) self }
     {
         let mut c = self.quadrant(k);
         c.level = c.level + 1;
@@ -120,7 +120,7 @@ fn overlap(a: u64, b: u64, c: u64, d: u64) -> bool
 
 // Whether two cells have a piece of border in common that is longer than a point.
 pub fn shares_edge(a: Cell, b: Cell) -> bool
-    ensures { result ≡ sharesEdge (boxOf a) (boxOf b) }
+    ensures { result ≡ shares_edge (box_of a) (box_of b) }
 {
     let beside = (a.x1 == b.x0) | (b.x1 == a.x0);
     let stacked = (a.y1 == b.y0) | (b.y1 == a.y0);

@@ -1,10 +1,10 @@
 // Coordinates: signed ticks in what a caller lends, offset by 2^36 in a cell; and lengths in metres.
 ghost use Rattle.std.specs.Prelude.{◌≡◌, ◌<◌, ◌^◌};
-ghost use Rattle.cell.specs.Ticks.{in_range, off, on, metresOf};
+ghost use Rattle.cell.specs.Ticks.{in_range, off, on, metres_of};
 
 use refusals::limits::COORDINATE;
 
-// Whether a coordinate is in document 01's range.
+// Whether a coordinate is in the rules' range.
 pub fn in_range(z: i64) -> bool
     ensures { result ≡ in_range z }
 {
@@ -38,7 +38,7 @@ pub fn ticks(n: u64) -> i64
 // instruction, an unsigned one in several.
 pub fn metres(length: u64) -> f64
     requires { length < 2 ^ 53 }
-    ensures { result ≡ metresOf length }
+    ensures { result ≡ metres_of length }
 {
     ((length as i64) as f64) * crate::Cell::TICK
 }

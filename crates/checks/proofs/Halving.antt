@@ -14,7 +14,7 @@ use Rattle.rows.specs.Order.{key, ordered}
 use Rattle.rows.specs.Parts.{part}
 use Rattle.rows.proofs.Ascending.{ordered-is, length-ordered}
 use Rattle.rows.proofs.Parts.{length_part, part_at}
-use Rattle.checks.specs.Keys.{lastKey}
+use Rattle.checks.specs.Keys.{last_key}
 use Rattle.checks.specs.Rooms.{Block}
 use Rattle.checks.proofs.Lasts.{last-is, last-not}
 
@@ -61,13 +61,13 @@ module _ (ks : List ℕ) (k : ℕ) where
         (λ (l : high ≤ s.at). absurd (let o = H.over s.at l (omega arith) in let q = ap (key ks) s.here in omega arith))
         (below? s.at high)
 
-    pub halving_none : high ≤ low → low ≡ 0 → None ≡ lastKey ks k
-    unfolding lastKey
+    pub halving_none : high ≤ low → low ≡ 0 → None ≡ last_key ks k
+    unfolding last_key
     halving_none g z =
         sym (last-not (λ i. eqb (key ks i) k) (length ks) (λ i h. ne_eqb (key ks i) k (λ e. (let s = stands i h e in let b = s.1 in omega arith))))
 
-    pub halving_here : high ≤ low → (low ≡ 0 → ⊥) → key ks (at (low - 1)) ≡ k → Some (at (low - 1)) ≡ lastKey ks k
-    unfolding lastKey
+    pub halving_here : high ≤ low → (low ≡ 0 → ⊥) → key ks (at (low - 1)) ≡ k → Some (at (low - 1)) ≡ last_key ks k
+    unfolding last_key
     halving_here g z e =
         let d = H.inside in
         let o = H.order in
@@ -85,8 +85,8 @@ module _ (ks : List ℕ) (k : ℕ) where
         omega arith)
         (eq-or-lt_of_le (omega arith))))))
 
-    pub halving_missed : high ≤ low → (low ≡ 0 → ⊥) → (key ks (at (low - 1)) ≡ k → ⊥) → None ≡ lastKey ks k
-    unfolding lastKey
+    pub halving_missed : high ≤ low → (low ≡ 0 → ⊥) → (key ks (at (low - 1)) ≡ k → ⊥) → None ≡ last_key ks k
+    unfolding last_key
     halving_missed g z e =
         let d = H.inside in
         let o = H.order in

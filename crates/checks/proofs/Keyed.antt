@@ -13,16 +13,16 @@ use lib.Ieee.Fits.{and_l, and_r, and_i}
 use borrow.Author.Tests.{eqb-true, eqb-false, eq-eqb, lt-ltb, le-ltb}
 use Rattle.cell.proofs.Offsets.{below?}
 use Rattle.sound_net.proofs.Tests.{yes, same}
-use Rattle.sound_net.specs.Nets.{fromAt, to_at}
+use Rattle.sound_net.specs.Nets.{from_at, to_at}
 use Rattle.sound_net.specs.Facts.{SoundEdge}
 use Rattle.rows.specs.Order as Rows
 use Rattle.rows.specs.Order.{key, last_of}
 use Rattle.rows.specs.Parts.{tab}
 use Rattle.rows.proofs.Equal.{last-below}
 use Rattle.rows.proofs.Fill.{length-tab, tab-at}
-use Rattle.conforming.specs.Nodes.{lastBelow, joins, joined}
+use Rattle.conforming.specs.Nodes.{last_below, joins, joined}
 use Rattle.conforming.proofs.Searches.{any-hit}
-use Rattle.checks.specs.Keys.{wide, maxNodes, lastKey, lastIn, pairKey, pairKeys}
+use Rattle.checks.specs.Keys.{wide, max_nodes, last_key, last_in, pair_key, pair_keys}
 use Rattle.checks.proofs.Lasts.{IsLast, last-not, last-same, last_some, last_none, any-not}
 
 -- two numbers in one key
@@ -42,25 +42,25 @@ and_no a b e = rw e
 
 -- ---- the last index of a key
 module _ (ks : List ℕ) where
-  found : (k j : ℕ) → lastKey ks k ≡ Some j → IsLast (λ i. eqb (key ks i) k) (length ks) j
-  unfolding lastKey
+  found : (k j : ℕ) → last_key ks k ≡ Some j → IsLast (λ i. eqb (key ks i) k) (length ks) j
+  unfolding last_key
   found k j e = last_some (λ i. eqb (key ks i) k) (length ks) j e
 
-  pub missing : (k : ℕ) → lastKey ks k ≡ None → (i : ℕ) → i < length ks → eqb (key ks i) k ≡ false
-  unfolding lastKey
+  pub missing : (k : ℕ) → last_key ks k ≡ None → (i : ℕ) → i < length ks → eqb (key ks i) k ≡ false
+  unfolding last_key
   missing k e i h = last_none (λ i. eqb (key ks i) k) (length ks) e i h
 
-  found-is : (k j : ℕ) → lastKey ks k ≡ Some j → (i : ℕ) → key ks i ≡ k → last_of ks i ≡ j
+  found-is : (k j : ℕ) → last_key ks k ≡ Some j → (i : ℕ) → key ks i ≡ k → last_of ks i ≡ j
   unfolding last_of
   found-is k j e i q =
       let f = found k j e in
-      ap (λ (x : ℕ). Rows.lastBelow x ks (length ks)) q
+      ap (λ (x : ℕ). Rows.last_below x ks (length ks)) q
       ∙ last-below k ks (length ks) j f.inside (eqb-true (key ks j) k f.passes) (λ m a b. eqb-false (key ks m) k (f.after m a b))
 
-  own-last : (i : ℕ) → i < length ks → (j : ℕ) × (lastKey ks (key ks i) ≡ Some j)
-  own-last i h = by (lastKey ks (key ks i)) refl
+  own-last : (i : ℕ) → i < length ks → (j : ℕ) × (last_key ks (key ks i) ≡ Some j)
+  own-last i h = by (last_key ks (key ks i)) refl
     where
-      by : (o : Option ℕ) → lastKey ks (key ks i) ≡ o → (j : ℕ) × (lastKey ks (key ks i) ≡ Some j)
+      by : (o : Option ℕ) → last_key ks (key ks i) ≡ o → (j : ℕ) × (last_key ks (key ks i) ≡ Some j)
       by None e = absurd (eqb-false (key ks i) (key ks i) (missing (key ks i) e i h) refl)
       by (Some j) e = (j, e)
 
@@ -78,7 +78,7 @@ module _ (ks : List ℕ) where
       omega arith
 
   -- being of key k is being of the last one's class
-  class_same : (k j : ℕ) → lastKey ks k ≡ Some j → (i : ℕ) → i < length ks → eqb (last_of ks i) j ≡ eqb (key ks i) k
+  class_same : (k j : ℕ) → last_key ks k ≡ Some j → (i : ℕ) → i < length ks → eqb (last_of ks i) j ≡ eqb (key ks i) k
   class_same k j e i h =
       let f = found k j e in
       same (eqb (last_of ks i) j) (eqb (key ks i) k)
@@ -90,14 +90,14 @@ module _ (ks : List ℕ) (n : ℕ) (long : length ks ≡ n) (X : ℕ → ℕ) (l
   abbrev round : List ℕ
   round = tab (λ i. last_of ks i * wide + X i) n
 
-  pub round-found : (k j : ℕ) → lastKey ks k ≡ Some j → (x : ℕ) → x < wide → (i : ℕ) → i < n → eqb (key round i) (j * wide + x) ≡ (eqb (key ks i) k && eqb (X i) x)
+  pub round-found : (k j : ℕ) → last_key ks k ≡ Some j → (x : ℕ) → x < wide → (i : ℕ) → i < n → eqb (key round i) (j * wide + x) ≡ (eqb (key ks i) k && eqb (X i) x)
   round-found k j e x b i h =
       ap (λ (z : ℕ). eqb z (j * wide + x)) (tab-at (λ i. last_of ks i * wide + X i) n i 0 h)
       ∙ (pack-same (last_of ks i) (X i) j x (low i h) b ∙ ap (λ (z : Bool). z && eqb (X i) x) (class_same ks k j e i (omega arith)))
 
-key-form : (ks : List ℕ) (n k : ℕ) → length ks ≡ n → lastKey ks k ≡ lastBelow (λ i. eqb (key ks i) k) n
-unfolding lastKey
-key-form ks n k e = ap (lastBelow (λ i. eqb (key ks i) k)) e
+key-form : (ks : List ℕ) (n k : ℕ) → length ks ≡ n → last_key ks k ≡ last_below (λ i. eqb (key ks i) k) n
+unfolding last_key
+key-form ks n k e = ap (last_below (λ i. eqb (key ks i) k)) e
 
 -- two rounds on: class, column, place
 module _ (ks : List ℕ) (n : ℕ) (long : length ks ≡ n) (X Y : ℕ → ℕ) (xs : (i : ℕ) → i < n → X i < wide) (ys : (i : ℕ) → i < n → Y i < wide) where
@@ -114,39 +114,39 @@ module _ (ks : List ℕ) (n : ℕ) (long : length ks ≡ n) (X Y : ℕ → ℕ) 
     abbrev test : ℕ → Bool
     test i = (eqb (key ks i) k && eqb (X i) x) && eqb (Y i) y
 
-    no-column : (j : ℕ) → lastKey ks k ≡ Some j → lastKey columns (j * wide + x) ≡ None → None ≡ lastBelow test n
+    no-column : (j : ℕ) → last_key ks k ≡ Some j → last_key columns (j * wide + x) ≡ None → None ≡ last_below test n
     no-column j e f =
         let l = columns-long in
         sym (last-not test n (λ i h.
         and_no (eqb (key ks i) k && eqb (X i) x) (eqb (Y i) y) (sym (round-found ks n long X xs k j e x hx i h) ∙ missing columns (j * wide + x) f i (omega arith))))
 
-    here : (j l : ℕ) → lastKey ks k ≡ Some j → lastKey columns (j * wide + x) ≡ Some l → lastKey places (l * wide + y) ≡ lastBelow test n
+    here : (j l : ℕ) → last_key ks k ≡ Some j → last_key columns (j * wide + x) ≡ Some l → last_key places (l * wide + y) ≡ last_below test n
     here j l e f =
         key-form places n (l * wide + y) (length-tab (λ i. last_of columns i * wide + Y i) n)
         ∙ last-same (λ i. eqb (key places i) (l * wide + y)) test n (λ i h.
         round-found columns n columns-long Y ys (j * wide + x) l f y hy i h ∙ ap (λ (z : Bool). z && eqb (Y i) y) (round-found ks n long X xs k j e x hx i h))
 
-    in-column : (j : ℕ) → lastKey ks k ≡ Some j → (o : Option ℕ) → lastKey columns (j * wide + x) ≡ o → lastIn places o y ≡ lastBelow test n
+    in-column : (j : ℕ) → last_key ks k ≡ Some j → (o : Option ℕ) → last_key columns (j * wide + x) ≡ o → last_in places o y ≡ last_below test n
     in-column j e None f = no-column j e f
     in-column j e (Some l) f = here j l e f
 
-    in-class : (o : Option ℕ) → lastKey ks k ≡ o → lastIn places (lastIn columns o x) y ≡ lastBelow test n
+    in-class : (o : Option ℕ) → last_key ks k ≡ o → last_in places (last_in columns o x) y ≡ last_below test n
     in-class None e = sym (last-not test n (λ i h. and_no (eqb (key ks i) k && eqb (X i) x) (eqb (Y i) y) (and_no (eqb (key ks i) k) (eqb (X i) x) (missing ks k e i (omega arith)))))
-    in-class (Some j) e = in-column j e (lastKey columns (j * wide + x)) refl
+    in-class (Some j) e = in-column j e (last_key columns (j * wide + x)) refl
 
-    pub place_found : lastIn places (lastIn columns (lastKey ks k) x) y ≡ lastBelow test n
-    place_found = in-class (lastKey ks k) refl
+    pub place_found : last_in places (last_in columns (last_key ks k) x) y ≡ last_below test n
+    place_found = in-class (last_key ks k) refl
 
 -- ---- pairs
-pub pair-up : (a b : ℕ) → a < b → pairKey a b ≡ a * wide + b
-unfolding pairKey
+pub pair-up : (a b : ℕ) → a < b → pair_key a b ≡ a * wide + b
+unfolding pair_key
 pair-up a b h = rw (lt-ltb a b h)
 
-pub pair-down : (a b : ℕ) → b ≤ a → pairKey a b ≡ b * wide + a
-unfolding pairKey
+pub pair-down : (a b : ℕ) → b ≤ a → pair_key a b ≡ b * wide + a
+unfolding pair_key
 pair-down a b h = rw (le-ltb a b h)
 
-pair_turn : (a b : ℕ) → pairKey a b ≡ pairKey b a
+pair_turn : (a b : ℕ) → pair_key a b ≡ pair_key b a
 pair_turn a b =
     ⊎_elim
     (λ (h : a < b). pair-up a b h ∙ sym (pair-down b a (omega arith)))
@@ -167,7 +167,7 @@ or_cases : (a b : Bool) → T (a || b) → T a ⊎ T b
 or_cases true b t = inl tt
 or_cases false b t = inr t
 
-module _ (f t a b : ℕ) (hf : f < maxNodes) (ht : t < maxNodes) (ha : a < maxNodes) (hb : b < maxNodes) where
+module _ (f t a b : ℕ) (hf : f < max_nodes) (ht : t < max_nodes) (ha : a < max_nodes) (hb : b < max_nodes) where
   abbrev straight : Bool
   straight = eqb f a && eqb t b
 
@@ -180,7 +180,7 @@ module _ (f t a b : ℕ) (hf : f < maxNodes) (ht : t < maxNodes) (ha : a < maxNo
   as-turned : f ≡ b → t ≡ a → T (straight || turned)
   as-turned p q = or_right straight turned (and_i (eqb f b) (eqb t a) (yes (eq-eqb f b p)) (yes (eq-eqb t a q)))
 
-  split : pairKey f t ≡ pairKey a b → T (straight || turned)
+  split : pair_key f t ≡ pair_key a b → T (straight || turned)
   split e =
       ⊎_elim
       (λ (u : f < t).
@@ -197,47 +197,47 @@ module _ (f t a b : ℕ) (hf : f < maxNodes) (ht : t < maxNodes) (ha : a < maxNo
       (below? a b))
       (below? f t)
 
-  pub pair_same : eqb (pairKey f t) (pairKey a b) ≡ (straight || turned)
+  pub pair_same : eqb (pair_key f t) (pair_key a b) ≡ (straight || turned)
   pair_same =
-      same (eqb (pairKey f t) (pairKey a b)) (straight || turned)
-      (λ x. split (eqb→eq (pairKey f t) (pairKey a b) x))
+      same (eqb (pair_key f t) (pair_key a b)) (straight || turned)
+      (λ x. split (eqb→eq (pair_key f t) (pair_key a b) x))
       (λ x.
-      yes (eq-eqb (pairKey f t) (pairKey a b)
+      yes (eq-eqb (pair_key f t) (pair_key a b)
       (⊎_elim
-      (λ (y : T straight). ap₂ pairKey (eqb→eq f a (and_l (eqb f a) (eqb t b) y)) (eqb→eq t b (and_r (eqb f a) (eqb t b) y)))
-      (λ (y : T turned). ap₂ pairKey (eqb→eq f b (and_l (eqb f b) (eqb t a) y)) (eqb→eq t a (and_r (eqb f b) (eqb t a) y)) ∙ pair_turn b a)
+      (λ (y : T straight). ap₂ pair_key (eqb→eq f a (and_l (eqb f a) (eqb t b) y)) (eqb→eq t b (and_r (eqb f a) (eqb t b) y)))
+      (λ (y : T turned). ap₂ pair_key (eqb→eq f b (and_l (eqb f b) (eqb t a) y)) (eqb→eq t a (and_r (eqb f b) (eqb t a) y)) ∙ pair_turn b a)
       (or_cases straight turned x))))
 
-pub pairs-long : (ends : List ℕ) → length (pairKeys ends) ≡ length ends / 2
-unfolding pairKeys
-pairs-long ends = length-tab (λ e. pairKey (fromAt ends e) (to_at ends e)) (length ends / 2)
+pub pairs-long : (ends : List ℕ) → length (pair_keys ends) ≡ length ends / 2
+unfolding pair_keys
+pairs-long ends = length-tab (λ e. pair_key (from_at ends e) (to_at ends e)) (length ends / 2)
 
-module _ (ends : List ℕ) (n : ℕ) (few : n ≤ maxNodes) (edge : (e : ℕ) → e < length ends / 2 → SoundEdge n ends e) (a b : ℕ) (ha : a < n) (hb : b < n) where
-  pair-joins : (e : ℕ) → e < length ends / 2 → eqb (key (pairKeys ends) e) (pairKey a b) ≡ joins ends a b e
-  unfolding pairKeys joins
+module _ (ends : List ℕ) (n : ℕ) (few : n ≤ max_nodes) (edge : (e : ℕ) → e < length ends / 2 → SoundEdge n ends e) (a b : ℕ) (ha : a < n) (hb : b < n) where
+  pair-joins : (e : ℕ) → e < length ends / 2 → eqb (key (pair_keys ends) e) (pair_key a b) ≡ joins ends a b e
+  unfolding pair_keys joins
   pair-joins e h =
       let s = edge e h in
       let u = s.from in
       let v = s.to in
-      ap (λ (z : ℕ). eqb z (pairKey a b)) (tab-at (λ e. pairKey (fromAt ends e) (to_at ends e)) (length ends / 2) e 0 h)
-      ∙ pair_same (fromAt ends e) (to_at ends e) a b (omega arith) (omega arith) (omega arith) (omega arith)
+      ap (λ (z : ℕ). eqb z (pair_key a b)) (tab-at (λ e. pair_key (from_at ends e) (to_at ends e)) (length ends / 2) e 0 h)
+      ∙ pair_same (from_at ends e) (to_at ends e) a b (omega arith) (omega arith) (omega arith) (omega arith)
 
-  joined-yes : (j : ℕ) → lastKey (pairKeys ends) (pairKey a b) ≡ Some j → true ≡ joined ends a b
+  joined-yes : (j : ℕ) → last_key (pair_keys ends) (pair_key a b) ≡ Some j → true ≡ joined ends a b
   joined-yes j e =
-      let f = found (pairKeys ends) (pairKey a b) j e in
+      let f = found (pair_keys ends) (pair_key a b) j e in
       let l = pairs-long ends in
       let h = f.inside in
       let k : j < length ends / 2 = omega arith in
       sym (any-hit (joins ends a b) (length ends / 2) j k (sym (pair-joins j k) ∙ f.passes))
 
-  joined-no : lastKey (pairKeys ends) (pairKey a b) ≡ None → false ≡ joined ends a b
+  joined-no : last_key (pair_keys ends) (pair_key a b) ≡ None → false ≡ joined ends a b
   joined-no e =
       let l = pairs-long ends in
-      sym (any-not (joins ends a b) (length ends / 2) (λ i h. sym (pair-joins i h) ∙ missing (pairKeys ends) (pairKey a b) e i (omega arith)))
+      sym (any-not (joins ends a b) (length ends / 2) (λ i h. sym (pair-joins i h) ∙ missing (pair_keys ends) (pair_key a b) e i (omega arith)))
 
-  pub joined-is : is_some (lastKey (pairKeys ends) (pairKey a b)) ≡ joined ends a b
-  joined-is = by (lastKey (pairKeys ends) (pairKey a b)) refl
+  pub joined-is : is_some (last_key (pair_keys ends) (pair_key a b)) ≡ joined ends a b
+  joined-is = by (last_key (pair_keys ends) (pair_key a b)) refl
     where
-      by : (o : Option ℕ) → lastKey (pairKeys ends) (pairKey a b) ≡ o → is_some o ≡ joined ends a b
+      by : (o : Option ℕ) → last_key (pair_keys ends) (pair_key a b) ≡ o → is_some o ≡ joined ends a b
       by None e = joined-no e
       by (Some j) e = joined-yes j e

@@ -6,21 +6,21 @@ use Rattle.std.specs.Prelude.{None, Some}
 use mathlib.Core.Logic.{◌⊎◌, inl, inr, ⊎_elim}
 use native.Mathlib.Nat.{eq-or-lt_of_le}
 use native.Mathlib.Omega.{arith}
-use Rattle.conforming.specs.Nodes.{lastBelow, anyBelow}
+use Rattle.conforming.specs.Nodes.{last_below, any_below}
 
 pub either : (b : Bool) → (b ≡ true) ⊎ (b ≡ false)
 either true = inl refl
 either false = inr refl
 
-hit : (p : ℕ → Bool) (n : ℕ) → p n ≡ true → lastBelow p (suc n) ≡ Some n
-unfolding lastBelow
+hit : (p : ℕ → Bool) (n : ℕ) → p n ≡ true → last_below p (suc n) ≡ Some n
+unfolding last_below
 hit p n e = rw e
 
-miss : (p : ℕ → Bool) (n : ℕ) → p n ≡ false → lastBelow p (suc n) ≡ lastBelow p n
-unfolding lastBelow
+miss : (p : ℕ → Bool) (n : ℕ) → p n ≡ false → last_below p (suc n) ≡ last_below p n
+unfolding last_below
 miss p n e = rw e
 
-pub last-is : (p : ℕ → Bool) (n r : ℕ) → r < n → p r ≡ true → ((j : ℕ) → r < j → j < n → p j ≡ false) → lastBelow p n ≡ Some r
+pub last-is : (p : ℕ → Bool) (n r : ℕ) → r < n → p r ≡ true → ((j : ℕ) → r < j → j < n → p j ≡ false) → last_below p n ≡ Some r
 last-is p zero r h e f = absurd (omega arith)
 last-is p (suc n) r h e f =
     ⊎_elim
@@ -28,12 +28,12 @@ last-is p (suc n) r h e f =
     (λ (l : r < n). miss p n (f n l (omega arith)) ∙ last-is p n r l e (λ j a b. f j a (omega arith)))
     (eq-or-lt_of_le (omega arith))
 
-pub last-not : (p : ℕ → Bool) (n : ℕ) → ((j : ℕ) → j < n → p j ≡ false) → lastBelow p n ≡ None
-last-not p zero f = unfold lastBelow in refl
+pub last-not : (p : ℕ → Bool) (n : ℕ) → ((j : ℕ) → j < n → p j ≡ false) → last_below p n ≡ None
+last-not p zero f = unfold last_below in refl
 last-not p (suc n) f = miss p n (f n (omega arith)) ∙ last-not p n (λ j h. f j (omega arith))
 
-pub last-same : (p q : ℕ → Bool) (n : ℕ) → ((j : ℕ) → j < n → p j ≡ q j) → lastBelow p n ≡ lastBelow q n
-last-same p q zero f = unfold lastBelow in refl
+pub last-same : (p q : ℕ → Bool) (n : ℕ) → ((j : ℕ) → j < n → p j ≡ q j) → last_below p n ≡ last_below q n
+last-same p q zero f = unfold last_below in refl
 last-same p q (suc n) f =
     let e = f n (omega arith) in
     let r = last-same p q n (λ j h. f j (omega arith)) in
@@ -48,8 +48,8 @@ pub record IsLast (p : ℕ → Bool) (n j : ℕ) : Type 0 where
   pub passes : p j ≡ true
   pub after : (i : ℕ) → j < i → i < n → p i ≡ false
 
-pub last_some : (p : ℕ → Bool) (n j : ℕ) → lastBelow p n ≡ Some j → IsLast p n j
-last_some p zero j e = absurd (let z : ◌≡◌ {A = ℕ} 0 1 = unfold lastBelow in cc in omega arith)
+pub last_some : (p : ℕ → Bool) (n j : ℕ) → last_below p n ≡ Some j → IsLast p n j
+last_some p zero j e = absurd (let z : ◌≡◌ {A = ℕ} 0 1 = unfold last_below in cc in omega arith)
 last_some p (suc n) j e =
     ⊎_elim
     (λ (t : p n ≡ true).
@@ -60,7 +60,7 @@ last_some p (suc n) j e =
     record { inside = let h = r.inside in omega arith; passes = r.passes; after = λ i a b. ⊎_elim (λ (k : i ≡ n). ap p k ∙ t) (λ (l : i < n). r.after i a l) (eq-or-lt_of_le (omega arith)) })
     (either (p n))
 
-pub last_none : (p : ℕ → Bool) (n : ℕ) → lastBelow p n ≡ None → (i : ℕ) → i < n → p i ≡ false
+pub last_none : (p : ℕ → Bool) (n : ℕ) → last_below p n ≡ None → (i : ℕ) → i < n → p i ≡ false
 last_none p zero e i h = absurd (omega arith)
 last_none p (suc n) e i h =
     ⊎_elim
@@ -68,7 +68,7 @@ last_none p (suc n) e i h =
     (λ (t : p n ≡ false). ⊎_elim (λ (k : i ≡ n). ap p k ∙ t) (λ (l : i < n). last_none p n (sym (miss p n t) ∙ e) i l) (eq-or-lt_of_le (omega arith)))
     (either (p n))
 
-pub any-not : (p : ℕ → Bool) (n : ℕ) → ((i : ℕ) → i < n → p i ≡ false) → anyBelow p n ≡ false
-unfolding anyBelow
+pub any-not : (p : ℕ → Bool) (n : ℕ) → ((i : ℕ) → i < n → p i ≡ false) → any_below p n ≡ false
+unfolding any_below
 any-not p zero f = refl
 any-not p (suc n) f = rw (any-not p n (λ i h. f i (omega arith)), f n (omega arith))

@@ -10,7 +10,7 @@ use lib.ListN.{length, get_or, take, drop, length-append}
 use lib.Seq.{take-take}
 use lib.IntN.{ℤ, pos}
 use Rattle.cell.specs.Ticks.{off}
-use Rattle.sound_net.specs.Nets.{nodeCount}
+use Rattle.sound_net.specs.Nets.{node_count}
 use Rattle.rows.specs.Order.{ordered, last_of, tabled}
 use Rattle.rows.specs.Parts.{part, put, tab}
 use Rattle.rows.specs.Contract.{Small}
@@ -18,7 +18,7 @@ use Rattle.rows.proofs.Ascending.{length-ordered}
 use Rattle.rows.proofs.Parts.{length_part, part_at, length-put, part-put, part-put-other, part-put-in, part-front, lent_back}
 use Rattle.rows.proofs.Fill.{length-tab, tab-at, tab-same, tabled-tab}
 use Rattle.rows.proofs.Lent.{block-long, block-other, block-order, block-third}
-use Rattle.checks.specs.Keys.{wide, maxNodes, classKeys, finer, columnKeys, placeKeys, pairKeys}
+use Rattle.checks.specs.Keys.{wide, max_nodes, class_keys, finer, column_keys, place_keys, pair_keys}
 use Rattle.checks.specs.Rooms.{Block, Made, Indexed}
 use Rattle.checks.proofs.Keyed.{last-in}
 
@@ -83,15 +83,15 @@ module _ (ks w₀ w₁ w₂ : List ℕ) (a n : ℕ) (long : length ks ≡ n) (ro
       }
 
 -- ---- one round on
-module _ (w : List ℕ) (a : ℕ) (nodes : List ℤ) (f : ℕ) (room : a + 3 * nodeCount nodes ≤ length w)
-    (lasts : part w (a + (nodeCount nodes + nodeCount nodes)) (nodeCount nodes) ≡ tab (last_of (part w a (nodeCount nodes))) (nodeCount nodes)) where
+module _ (w : List ℕ) (a : ℕ) (nodes : List ℤ) (f : ℕ) (room : a + 3 * node_count nodes ≤ length w)
+    (lasts : part w (a + (node_count nodes + node_count nodes)) (node_count nodes) ≡ tab (last_of (part w a (node_count nodes))) (node_count nodes)) where
   abbrev n : ℕ
-  n = nodeCount nodes
+  n = node_count nodes
 
   last-at : (i : ℕ) → i < n → get_or w (a + (n + n) + i) 0 ≡ last_of (part w a n) i
   last-at i h = sym (part_at w (a + (n + n)) n i 0 h) ∙ (ap (λ (l : List ℕ). get_or l i 0) lasts ∙ tab-at (last_of (part w a n)) n i 0 h)
 
-  pub lasts-small : n ≤ maxNodes → Small maxNodes (part w (a + (n + n)) n)
+  pub lasts-small : n ≤ max_nodes → Small max_nodes (part w (a + (n + n)) n)
   lasts-small few i h =
       let l = length_part w (a + (n + n)) n (omega arith) in
       let k : i < n = omega arith in
@@ -106,9 +106,9 @@ module _ (w : List ℕ) (a : ℕ) (nodes : List ℤ) (f : ℕ) (room : a + 3 * n
       tab-same (λ i. get_or w (a + (n + n) + i) 0 * wide + off (get_or nodes (i * 4 + f) (pos 0))) (λ i. last_of (part w a n) i * wide + off (get_or nodes (i * 4 + f) (pos 0))) n
       (λ i h. ap (λ (z : ℕ). z * wide + off (get_or nodes (i * 4 + f) (pos 0))) (last-at i h))
 
-pub finer-long : (ks : List ℕ) (nodes : List ℤ) (f : ℕ) → length (finer ks nodes f) ≡ nodeCount nodes
+pub finer-long : (ks : List ℕ) (nodes : List ℤ) (f : ℕ) → length (finer ks nodes f) ≡ node_count nodes
 unfolding finer
-finer-long ks nodes f = length-tab (λ i. last_of ks i * wide + off (get_or nodes (i * 4 + f) (pos 0))) (nodeCount nodes)
+finer-long ks nodes f = length-tab (λ i. last_of ks i * wide + off (get_or nodes (i * 4 + f) (pos 0))) (node_count nodes)
 
 -- ---- all four
 kept : {ks ks' w w' : List ℕ} {a n a' n' : ℕ} → Block ks w a n → Made ks' w w' a' n' → a + 3 * n ≤ a' → Block ks w' a n
@@ -119,13 +119,13 @@ kept {a = a} {n = n} B M h =
 
 module _ (own : Bool) (nodes : List ℤ) (ends w₀ w₁ w₂ w₃ w₄ : List ℕ) where
   abbrev N : ℕ
-  N = nodeCount nodes
+  N = node_count nodes
 
-  pub all_made : Made (classKeys own nodes) w₀ w₁ 0 N → Made (finer (part w₁ 0 N) nodes 2) w₁ w₂ (3 * N) N → Made (finer (part w₂ (3 * N) N) nodes 3) w₂ w₃ (6 * N) N → Made (pairKeys ends) w₃ w₄ (9 * N) (length ends / 2) → Indexed own nodes ends w₄
-  unfolding columnKeys placeKeys
+  pub all_made : Made (class_keys own nodes) w₀ w₁ 0 N → Made (finer (part w₁ 0 N) nodes 2) w₁ w₂ (3 * N) N → Made (finer (part w₂ (3 * N) N) nodes 3) w₂ w₃ (6 * N) N → Made (pair_keys ends) w₃ w₄ (9 * N) (length ends / 2) → Indexed own nodes ends w₄
+  unfolding column_keys place_keys
   all_made A B C D =
-      let b : finer (part w₁ 0 N) nodes 2 ≡ columnKeys own nodes = ap (λ (z : List ℕ). finer z nodes 2) A.block.keys in
-      let c : finer (part w₂ (3 * N) N) nodes 3 ≡ placeKeys own nodes = ap (λ (z : List ℕ). finer z nodes 3) (B.block.keys ∙ b) in
+      let b : finer (part w₁ 0 N) nodes 2 ≡ column_keys own nodes = ap (λ (z : List ℕ). finer z nodes 2) A.block.keys in
+      let c : finer (part w₂ (3 * N) N) nodes 3 ≡ place_keys own nodes = ap (λ (z : List ℕ). finer z nodes 3) (B.block.keys ∙ b) in
       record {
         classes = kept (kept (kept A.block B (omega arith)) C (omega arith)) D (omega arith);
         columns = subst (λ (z : List ℕ). Block z w₄ (3 * N) N) b (kept (kept B.block C (omega arith)) D (omega arith));

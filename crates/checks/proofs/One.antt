@@ -7,11 +7,11 @@ use Rattle.std.specs.Prelude.{Result}
 use Rattle.refusals.specs.declared.Refusal.{Refusal}
 use Rattle.refusals.specs.Said.{Said}
 use Rattle.conforming.specs.declared.Fault.{Fault}
-use Rattle.conforming.specs.Checks.{checkedSaid}
+use Rattle.conforming.specs.Checks.{checked_said}
 use Rattle.conforming.proofs.One.{one-check}
-use Rattle.checks.specs.Rooms.{workRow}
+use Rattle.checks.specs.Rooms.{work_row}
 
 -- whatever is to be said, and whatever the row was, one answer and one row are permitted
 pub one-outcome : (what : Said) (n e : ℕ) (accepted : Bool) (w : List ℕ) (r q : Result Fault Refusal) (u v : List ℕ)
-    → checkedSaid r ≡ what → u ≡ workRow n e accepted w → checkedSaid q ≡ what → v ≡ workRow n e accepted w → (r ≡ q) × (u ≡ v)
+    → checked_said r ≡ what → u ≡ work_row n e accepted w → checked_said q ≡ what → v ≡ work_row n e accepted w → (r ≡ q) × (u ≡ v)
 one-outcome what n e accepted w r q u v a b c d = (one-check what r q a c, b ∙ sym d)

@@ -7,17 +7,17 @@
 ghost use Rattle.std.specs.Prelude.{◌≡◌, true, ◌&&◌, ℕ, ◌+◌, ◌*◌, ◌/◌, ◌<◌, ◌≤◌, length, get_or, pos};
 ghost use Rattle.cell.specs.Ticks.{off};
 ghost use Rattle.table.specs.Slots.{cell_at, counted};
-ghost use Rattle.table.specs.Formed.{wellFormed};
-ghost use Rattle.sound_net.specs.Nets.{netOf, nodeCount, layerAt, componentAt, soundNet};
+ghost use Rattle.table.specs.Formed.{well_formed};
+ghost use Rattle.sound_net.specs.Nets.{net_of, node_count, layer_at, component_at, sound_net};
 ghost use Rattle.sound_net.specs.Facts.{SoundNode, SoundEdge};
 ghost use Rattle.conforming.specs.Nodes.{joined};
-ghost use Rattle.conforming.specs.Checks.{firstFault, polygonsFit, faultOf, checkedSaid, conformingSays, layersSays};
+ghost use Rattle.conforming.specs.Checks.{first_fault, polygons_fit, fault_of, checked_said, conforming_says, layers_says};
 ghost use Rattle.rows.specs.Order.{last_of};
 ghost use Rattle.rows.specs.Parts.{part, put, tab};
 ghost use Rattle.rows.specs.Contract.{Small};
-ghost use Rattle.checks.specs.Keys.{wide, maxNodes, lastKey, lastIn, classKey, classOf, classKeys, finer, pairKey, pairKeys};
-ghost use Rattle.checks.specs.Rooms.{roomy, workRow, Block, Made, Ranged, Indexed, Walkable, Low};
-ghost use Rattle.checks.specs.Walks.{side_in, sidesIn, leafIn, Near, Placed, ownFault, ownFit, passes, ownSays};
+ghost use Rattle.checks.specs.Keys.{wide, max_nodes, last_key, last_in, class_key, class_of, class_keys, finer, pair_key, pair_keys};
+ghost use Rattle.checks.specs.Rooms.{roomy, work_row, Block, Made, Ranged, Indexed, Walkable, Low};
+ghost use Rattle.checks.specs.Walks.{side_in, sides_in, leaf_in, Near, Placed, own_fault, own_fit, passes, own_says};
 
 use cell::Cell;
 use conforming::Fault;
@@ -33,7 +33,7 @@ const NODES: usize = 67108864;
 #[tactic(auto, using(crate::proofs::Halving::halved))]
 fn find(work: &[u64], at: usize, n: usize, k: u64) -> Option<usize>
     requires { Block (part work.now at n) work.now at n }
-    ensures found { result ≡ lastKey (part work.now at n) k }
+    ensures found { result ≡ last_key (part work.now at n) k }
     ensures low { Low n result }
 {
     let order = at + n;
@@ -61,10 +61,10 @@ fn find(work: &[u64], at: usize, n: usize, k: u64) -> Option<usize>
 // The same within what was found before. Internal: an index and a coordinate make a key.
 fn find_in(work: &[u64], at: usize, n: usize, outer: Option<usize>, v: u64) -> Option<usize>
     requires block { Block (part work.now at n) work.now at n }
-    requires few { n ≤ maxNodes }
+    requires few { n ≤ max_nodes }
     requires narrow { v < wide }
     requires outer_low { Low n outer }
-    ensures found { result ≡ lastIn (part work.now at n) outer v }
+    ensures found { result ≡ last_in (part work.now at n) outer v }
     ensures low { Low n result }
 {
     let j = outer?;
@@ -72,10 +72,10 @@ fn find_in(work: &[u64], at: usize, n: usize, outer: Option<usize>, v: u64) -> O
 }
 
 // Two nodes in one number. Internal: a node of the net is below NODES.
-#[tactic(auto, unfolding(crate::specs::Keys::pairKey))]
+#[tactic(auto, unfolding(crate::specs::Keys::pair_key))]
 fn pair_key(a: usize, b: usize) -> u64
-    requires { (a < maxNodes) × (b < maxNodes) }
-    ensures { result ≡ pairKey a b }
+    requires { (a < max_nodes) × (b < max_nodes) }
+    ensures { result ≡ pair_key a b }
 {
     a.min(b) as u64 * WIDE + a.max(b) as u64
 }
@@ -105,7 +105,7 @@ fn side_fault(
     requires walkable { Walkable n ends.now work.now }
     requires low { Low n a × Low n b × Low n m }
     requires ay_lt_wide { (ay < wide) × (by < wide) × (my < wide) }
-    ensures { faultOf result ≡ side_in ends.now (part work.now (6 * n) n) a ay b by m my }
+    ensures { fault_of result ≡ side_in ends.now (part work.now (6 * n) n) a ay b by m my }
 {
     let at = 6 * n;
     let Some(middle) = find_in(work, at, n, m, my) else {
@@ -124,7 +124,7 @@ fn side_fault(
 }
 
 // The four edges of a leaf: south, east, north, west, walked anticlockwise.
-#[tactic(auto, unfolding(crate::specs::Walks::sidesIn))]
+#[tactic(auto, unfolding(crate::specs::Walks::sides_in))]
 fn sides_fault(
     ends: &[u64],
     work: &[u64],
@@ -139,7 +139,7 @@ fn sides_fault(
     requires walkable { Walkable n ends.now work.now }
     requires low { Low n west × Low n east × Low n middle }
     requires south_lt_wide { (south < wide) × (north < wide) × (my < wide) }
-    ensures { faultOf result ≡ sidesIn ends.now (part work.now (6 * n) n) west east middle south north my }
+    ensures { fault_of result ≡ sides_in ends.now (part work.now (6 * n) n) west east middle south north my }
 {
     let first = side_fault(ends, work, n, west, south, east, south, middle, south);
     let Fault::Clear = first else {
@@ -157,12 +157,12 @@ fn sides_fault(
 }
 
 // A leaf among the nodes of a class.
-#[tactic(auto, unfolding(crate::specs::Walks::leafIn))]
+#[tactic(auto, unfolding(crate::specs::Walks::leaf_in))]
 fn leaf_fault(ends: &[u64], work: &[u64], n: usize, class: Option<usize>, c: Cell) -> Fault
     requires walkable { Walkable n ends.now work.now }
     requires low { Low n class }
     requires near { Near c }
-    ensures { faultOf result ≡ leafIn ends.now (part work.now (3 * n) n) (part work.now (6 * n) n) class c }
+    ensures { fault_of result ≡ leaf_in ends.now (part work.now (3 * n) n) (part work.now (6 * n) n) class c }
 {
     let at = 3 * n;
     let m = c.midpoint();
@@ -176,7 +176,7 @@ fn leaf_fault(ends: &[u64], work: &[u64], n: usize, class: Option<usize>, c: Cel
 #[tactic(auto, unfolding(table::specs::Slots::counted))]
 fn class_of(own: bool, layers: &[u16], components: &[u32], p: usize) -> u64
     requires { Placed own layers.now components.now p }
-    ensures { result ≡ classOf own layers.now components.now p }
+    ensures { result ≡ class_of own layers.now components.now p }
 {
     if own {
         u64::from(layers[p]) * WIDE + u64::from(components[p])
@@ -186,7 +186,7 @@ fn class_of(own: bool, layers: &[u16], components: &[u32], p: usize) -> u64
 }
 
 // Cell i, where it is a leaf. Internal: it stands in the table.
-#[tactic(auto, unfolding(crate::specs::Walks::ownFault, conforming::specs::Checks::cellFault, table::specs::Leaves::leafAt))]
+#[tactic(auto, unfolding(crate::specs::Walks::own_fault, conforming::specs::Checks::cell_fault, table::specs::Leaves::leaf_at))]
 fn cell_fault(
     t: &[i64],
     nodes: &[i64],
@@ -200,7 +200,7 @@ fn cell_fault(
     requires i_in_bounds { i * 8 + 8 ≤ length t.now }
     requires ranged { Ranged nodes.now ends.now × Indexed own nodes.now ends.now work.now }
     requires placed { Placed own layers.now components.now (cell_at t.now i).poly }
-    ensures { faultOf result ≡ ownFault own t.now nodes.now ends.now layers.now components.now i }
+    ensures { fault_of result ≡ own_fault own t.now nodes.now ends.now layers.now components.now i }
 {
     let c = table::slots::cell_at(t, i);
     if c.first != Cell::NO_CELL {
@@ -213,7 +213,7 @@ fn cell_fault(
 }
 
 // The first fault of the leaves by id. Internal: the cells stand in the table.
-#[tactic(auto, unfolding(conforming::specs::Checks::firstFault))]
+#[tactic(auto, unfolding(conforming::specs::Checks::first_fault))]
 fn walk(
     t: &[i64],
     n: usize,
@@ -227,7 +227,7 @@ fn walk(
     requires n_in_bounds { n * 8 ≤ length t.now }
     requires ranged { Ranged nodes.now ends.now × Indexed own nodes.now ends.now work.now }
     requires by_index { (i : ℕ) → i < n → Placed own layers.now components.now (cell_at t.now i).poly }
-    ensures { faultOf result ≡ firstFault (ownFault own t.now nodes.now ends.now layers.now components.now) n }
+    ensures { fault_of result ≡ first_fault (own_fault own t.now nodes.now ends.now layers.now components.now) n }
 {
     for i in 0..n {
         let fault = cell_fault(t, nodes, ends, own, layers, components, work, i);
@@ -248,9 +248,9 @@ fn natural(z: i64) -> u64
 
 // Layer and component of node i in one number, where a leaf's own are looked for. Internal: the node stands in the row.
 fn class_key(own: bool, nodes: &[i64], i: usize) -> u64
-    requires i_bound { i < nodeCount nodes.now }
+    requires i_bound { i < node_count nodes.now }
     requires sound_node { SoundNode nodes.now i }
-    ensures { result ≡ classKey own (layerAt nodes.now i) (componentAt nodes.now i) }
+    ensures { result ≡ class_key own (layer_at nodes.now i) (component_at nodes.now i) }
 {
     let at = i * 4;
     if own {
@@ -261,11 +261,11 @@ fn class_key(own: bool, nodes: &[i64], i: usize) -> u64
 }
 
 // The keys of the classes. Internal: there is room.
-#[tactic(auto, unfolding(crate::specs::Keys::classKeys))]
+#[tactic(auto, unfolding(crate::specs::Keys::class_keys))]
 fn put_classes(own: bool, nodes: &[i64], work: &mut [u64])
-    requires nodes_in_bounds { nodeCount nodes.now ≤ length work.old }
-    requires by_index { (i : ℕ) → i < nodeCount nodes.now → SoundNode nodes.now i }
-    ensures { work.new ≡ put work.old 0 (classKeys own nodes.now) }
+    requires nodes_in_bounds { node_count nodes.now ≤ length work.old }
+    requires by_index { (i : ℕ) → i < node_count nodes.now → SoundNode nodes.now i }
+    ensures { work.new ≡ put work.old 0 (class_keys own nodes.now) }
 {
     for i in 0..nodes.len() / 4 {
         work[i] = class_key(own, nodes, i);
@@ -275,12 +275,12 @@ fn put_classes(own: bool, nodes: &[i64], work: &mut [u64])
 // The keys of one round on, to `to`: the last indices of equal key stand at `from`, and number f of each node is a coordinate.
 // Internal: there is room.
 fn put_finer(nodes: &[i64], f: usize, work: &mut [u64], from: usize, to: usize)
-    requires f_bound { (f < 4) × (nodeCount nodes.now ≤ maxNodes) }
-    requires nodes_bound { (from + nodeCount nodes.now ≤ to) × (to + nodeCount nodes.now ≤ length work.old) }
-    requires small { Small maxNodes (part work.old from (nodeCount nodes.now)) }
+    requires f_bound { (f < 4) × (node_count nodes.now ≤ max_nodes) }
+    requires nodes_bound { (from + node_count nodes.now ≤ to) × (to + node_count nodes.now ≤ length work.old) }
+    requires small { Small max_nodes (part work.old from (node_count nodes.now)) }
     ensures { work.new
         ≡ put work.old to (tab (λ i. get_or work.old (from + i) 0 * wide + off (get_or nodes.now (i * 4 + f)
-        (pos 0))) (nodeCount nodes.now)) }
+        (pos 0))) (node_count nodes.now)) }
 {
     for i in 0..nodes.len() / 4 {
         let v = cell::ticks::offset(nodes[i * 4 + f]);
@@ -289,11 +289,11 @@ fn put_finer(nodes: &[i64], f: usize, work: &mut [u64], from: usize, to: usize)
 }
 
 // The keys of the edges, from `at` on. Internal: there is room.
-#[tactic(auto, unfolding(crate::specs::Keys::pairKeys))]
+#[tactic(auto, unfolding(crate::specs::Keys::pair_keys))]
 fn put_pairs(ends: &[u64], work: &mut [u64], at: usize)
     requires ends_in_bounds { at + length ends.now / 2 ≤ length work.old }
-    requires by_index { (e : ℕ) → e < length ends.now / 2 → SoundEdge maxNodes ends.now e }
-    ensures { work.new ≡ put work.old at (pairKeys ends.now) }
+    requires by_index { (e : ℕ) → e < length ends.now / 2 → SoundEdge max_nodes ends.now e }
+    ensures { work.new ≡ put work.old at (pair_keys ends.now) }
 {
     for e in 0..ends.len() / 2 {
         let from = ends[e * 2] as usize;
@@ -313,9 +313,9 @@ fn sort_block(work: &mut [u64], at: usize, n: usize)
 
 // The blocks, one after another. Internal, as they are: there is room.
 fn make_classes(own: bool, nodes: &[i64], work: &mut [u64])
-    requires nodes_in_bounds { 3 * nodeCount nodes.now ≤ length work.old }
-    requires by_index { (i : ℕ) → i < nodeCount nodes.now → SoundNode nodes.now i }
-    ensures { Made (classKeys own nodes.now) work.old work.new 0 (nodeCount nodes.now) }
+    requires nodes_in_bounds { 3 * node_count nodes.now ≤ length work.old }
+    requires by_index { (i : ℕ) → i < node_count nodes.now → SoundNode nodes.now i }
+    ensures { Made (class_keys own nodes.now) work.old work.new 0 (node_count nodes.now) }
 {
     put_classes(own, nodes, work);
     sort_block(work, 0, nodes.len() / 4);
@@ -323,12 +323,12 @@ fn make_classes(own: bool, nodes: &[i64], work: &mut [u64])
 
 // Internal: a block stands right in front of this one.
 fn make_finer(nodes: &[i64], f: usize, work: &mut [u64], at: usize)
-    requires f_bound { (f < 4) × (nodeCount nodes.now ≤ maxNodes) }
-    requires nodes_in_bounds { at + 6 * nodeCount nodes.now ≤ length work.old }
-    requires nodes_value { part work.old (at + (nodeCount nodes.now + nodeCount nodes.now)) (nodeCount nodes.now)
-        ≡ tab (last_of (part work.old at (nodeCount nodes.now))) (nodeCount nodes.now) }
-    ensures { Made (finer (part work.old at (nodeCount nodes.now)) nodes.now f) work.old work.new
-        (at + 3 * nodeCount nodes.now) (nodeCount nodes.now) }
+    requires f_bound { (f < 4) × (node_count nodes.now ≤ max_nodes) }
+    requires nodes_in_bounds { at + 6 * node_count nodes.now ≤ length work.old }
+    requires nodes_value { part work.old (at + (node_count nodes.now + node_count nodes.now)) (node_count nodes.now)
+        ≡ tab (last_of (part work.old at (node_count nodes.now))) (node_count nodes.now) }
+    ensures { Made (finer (part work.old at (node_count nodes.now)) nodes.now f) work.old work.new
+        (at + 3 * node_count nodes.now) (node_count nodes.now) }
 {
     let n = nodes.len() / 4;
     let to = at + 3 * n;
@@ -338,8 +338,8 @@ fn make_finer(nodes: &[i64], f: usize, work: &mut [u64], at: usize)
 
 fn make_pairs(ends: &[u64], work: &mut [u64], at: usize)
     requires ends_in_bounds { at + 3 * (length ends.now / 2) ≤ length work.old }
-    requires by_index { (e : ℕ) → e < length ends.now / 2 → SoundEdge maxNodes ends.now e }
-    ensures { Made (pairKeys ends.now) work.old work.new at (length ends.now / 2) }
+    requires by_index { (e : ℕ) → e < length ends.now / 2 → SoundEdge max_nodes ends.now e }
+    ensures { Made (pair_keys ends.now) work.old work.new at (length ends.now / 2) }
 {
     put_pairs(ends, work, at);
     sort_block(work, at, ends.len() / 2);
@@ -347,7 +347,7 @@ fn make_pairs(ends: &[u64], work: &mut [u64], at: usize)
 
 fn index(own: bool, nodes: &[i64], ends: &[u64], work: &mut [u64])
     requires ranged { Ranged nodes.now ends.now }
-    requires ends_in_bounds { 9 * nodeCount nodes.now + 3 * (length ends.now / 2) ≤ length work.old }
+    requires ends_in_bounds { 9 * node_count nodes.now + 3 * (length ends.now / 2) ≤ length work.old }
     ensures { Indexed own nodes.now ends.now work.new }
 {
     let n = nodes.len() / 4;
@@ -360,7 +360,7 @@ fn index(own: bool, nodes: &[i64], ends: &[u64], work: &mut [u64])
 // Whether the polygons have a layer and a component each, where a leaf's own are looked for. Internal: the cells stand in the table.
 fn polygons_fit(own: bool, t: &[i64], n: usize, layers: &[u16], components: &[u32]) -> bool
     requires { n * 8 ≤ length t.now }
-    ensures { result ≡ ownFit own t.now n layers.now components.now }
+    ensures { result ≡ own_fit own t.now n layers.now components.now }
 {
     !own || conforming::polygons_fit(t, n, layers, components)
 }
@@ -368,14 +368,14 @@ fn polygons_fit(own: bool, t: &[i64], n: usize, layers: &[u16], components: &[u3
 // Whether the room is long enough for the quick walk, and the nodes are few enough.
 #[tactic(auto, unfolding(crate::specs::Rooms::roomy))]
 fn has_room(nodes: &[i64], ends: &[u64], work: &[u64]) -> bool
-    ensures { result ≡ roomy (nodeCount nodes.now) (length ends.now / 2) (length work.now) }
+    ensures { result ≡ roomy (node_count nodes.now) (length ends.now / 2) (length work.now) }
 {
     let n = nodes.len() / 4;
     n <= NODES && 9 * n + 3 * (ends.len() / 2) <= work.len()
 }
 
 // Both checks, by the quick walk. Internal: there is room for it.
-#[tactic(auto, unfolding(crate::specs::Walks::ownSays, crate::specs::Walks::passes, crate::specs::Rooms::workRow))]
+#[tactic(auto, unfolding(crate::specs::Walks::own_says, crate::specs::Walks::passes, crate::specs::Rooms::work_row))]
 fn check(
     own: bool,
     t: &[i64],
@@ -389,13 +389,13 @@ fn check(
     components: &[u32],
     work: &mut [u64],
 ) -> Result<Fault, Refusal>
-    requires { roomy (nodeCount nodes.now) (length ends.now / 2) (length work.old) ≡ true }
-    ensures said { checkedSaid result
-        ≡ ownSays own t.now head.count head.max_level
-        (netOf nodes.now ends.now conductances.now corners.now sheets.now) layers.now components.now }
+    requires { roomy (node_count nodes.now) (length ends.now / 2) (length work.old) ≡ true }
+    ensures said { checked_said result
+        ≡ own_says own t.now head.count head.max_level
+        (net_of nodes.now ends.now conductances.now corners.now sheets.now) layers.now components.now }
     ensures work_after { work.new
-        ≡ workRow (nodeCount nodes.now) (length ends.now / 2) (passes own t.now head.count head.max_level
-        (netOf nodes.now ends.now conductances.now corners.now sheets.now) layers.now components.now) work.old }
+        ≡ work_row (node_count nodes.now) (length ends.now / 2) (passes own t.now head.count head.max_level
+        (net_of nodes.now ends.now conductances.now corners.now sheets.now) layers.now components.now) work.old }
 {
     let n = head.count;
     if !table::formed::well_formed(t, head)
@@ -410,8 +410,8 @@ fn check(
     Ok(fault)
 }
 
-// check_network_conforming of document 01. Refuses 7 only: a bad table or a bad net.
-#[tactic(auto, unfolding(crate::specs::Rooms::workRow, crate::specs::Walks::ownSays, crate::specs::Walks::passes, crate::specs::Walks::ownFault, conforming::specs::Checks::conformingSays, conforming::specs::Checks::netFault))]
+// check_network_conforming of the rules. Refuses 7 only: a bad table or a bad net.
+#[tactic(auto, unfolding(crate::specs::Rooms::work_row, crate::specs::Walks::own_says, crate::specs::Walks::passes, crate::specs::Walks::own_fault, conforming::specs::Checks::conforming_says, conforming::specs::Checks::net_fault))]
 pub fn check_network_conforming(
     t: &[i64],
     head: Head,
@@ -422,13 +422,13 @@ pub fn check_network_conforming(
     sheets: &[f64],
     work: &mut [u64],
 ) -> Result<Fault, Refusal>
-    ensures result_value { checkedSaid result
-        ≡ conformingSays t.now head.count head.max_level
-        (netOf nodes.now ends.now conductances.now corners.now sheets.now) }
+    ensures result_value { checked_said result
+        ≡ conforming_says t.now head.count head.max_level
+        (net_of nodes.now ends.now conductances.now corners.now sheets.now) }
     ensures work_after { work.new
-        ≡ workRow (nodeCount nodes.now) (length ends.now / 2)
-        (wellFormed t.now head.count head.max_level && soundNet
-        (netOf nodes.now ends.now conductances.now corners.now sheets.now)) work.old }
+        ≡ work_row (node_count nodes.now) (length ends.now / 2)
+        (well_formed t.now head.count head.max_level && sound_net
+        (net_of nodes.now ends.now conductances.now corners.now sheets.now)) work.old }
 {
     if !has_room(nodes, ends, work) {
         return conforming::check_network_conforming(
@@ -459,7 +459,7 @@ pub fn check_network_conforming(
 }
 
 // The by-layer check: nodes of the leaf's own layer and component. Refuses 7 for the polygons too.
-#[tactic(auto, unfolding(crate::specs::Rooms::workRow, crate::specs::Walks::ownSays, crate::specs::Walks::passes, crate::specs::Walks::ownFault, conforming::specs::Checks::layersSays, conforming::specs::Checks::layerFault))]
+#[tactic(auto, unfolding(crate::specs::Rooms::work_row, crate::specs::Walks::own_says, crate::specs::Walks::passes, crate::specs::Walks::own_fault, conforming::specs::Checks::layers_says, conforming::specs::Checks::layer_fault))]
 pub fn check_by_layer(
     t: &[i64],
     head: Head,
@@ -472,13 +472,13 @@ pub fn check_by_layer(
     components: &[u32],
     work: &mut [u64],
 ) -> Result<Fault, Refusal>
-    ensures result_value { checkedSaid result
-        ≡ layersSays t.now head.count head.max_level
-        (netOf nodes.now ends.now conductances.now corners.now sheets.now) layers.now components.now }
+    ensures result_value { checked_said result
+        ≡ layers_says t.now head.count head.max_level
+        (net_of nodes.now ends.now conductances.now corners.now sheets.now) layers.now components.now }
     ensures work_after { work.new
-        ≡ workRow (nodeCount nodes.now) (length ends.now / 2)
-        (wellFormed t.now head.count head.max_level && soundNet
-        (netOf nodes.now ends.now conductances.now corners.now sheets.now) && polygonsFit t.now head.count
+        ≡ work_row (node_count nodes.now) (length ends.now / 2)
+        (well_formed t.now head.count head.max_level && sound_net
+        (net_of nodes.now ends.now conductances.now corners.now sheets.now) && polygons_fit t.now head.count
         layers.now components.now) work.old }
 {
     if !has_room(nodes, ends, work) {

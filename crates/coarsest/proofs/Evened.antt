@@ -11,8 +11,8 @@ use lib.ListN.{length}
 use borrow.Author.Tests.{eq-eqb, ne_eqb}
 use Rattle.table.specs.Mesh.{Cell, at}
 use Rattle.table.specs.Formed.{Formed}
-use Rattle.coarsest.specs.Passes.{Engine, pass, run, splitsLeft, evened}
-use Rattle.coarsest.specs.Names.{Splitting, Roots, Coarsest, rootsOf, splitting}
+use Rattle.coarsest.specs.Passes.{Engine, pass, run, splits_left, evened}
+use Rattle.coarsest.specs.Names.{Splitting, Roots, Coarsest, roots_of, splitting}
 use Rattle.table.proofs.Meshes.{length-split, formed-split}
 use Rattle.coarsest.proofs.Least.{due-of, level-most, Way, way-start, way-split, way_end}
 use Rattle.coarsest.proofs.Left.{left_split}
@@ -32,7 +32,7 @@ run-keeps e k P keep (suc m) t p =
 -- the splits that are left go down as the table grows
 pub record Spent (M : ℕ) (t u : List Cell) : Type 0 where
   pub formed : Formed M u
-  pub spent : 4 * splitsLeft M u + length u ≡ 4 * splitsLeft M t + length t
+  pub spent : 4 * splits_left M u + length u ≡ 4 * splits_left M t + length t
 
 pub spent-keeps : (k M : ℕ) (t : List Cell) → Keeps k (Spent M t)
 spent-keeps k M t u f c hf hc s d =
@@ -55,7 +55,7 @@ pub pass-formed : (e : Engine) (k M : ℕ) (t : List Cell) → Formed M t → Fo
 pass-formed e k M t formed = (pass_spent e k M t formed).formed
 
 -- the measure of the passes: one that makes a split leaves fewer splits
-pub pass-left : (e : Engine) (k M : ℕ) (t : List Cell) → Formed M t → length t < length (pass e k t) → splitsLeft M (pass e k t) < splitsLeft M t
+pub pass-left : (e : Engine) (k M : ℕ) (t : List Cell) → Formed M t → length t < length (pass e k t) → splits_left M (pass e k t) < splits_left M t
 pass-left e k M t formed h = let s = (pass_spent e k M t formed).spent in omega arith
 
 pub run-stop : (e : Engine) (k m : ℕ) (t : List Cell) → length (pass e k t) ≡ length t → run e k m t ≡ t
@@ -68,7 +68,7 @@ unfolding run
 run-go e k m t l = ap {B = List Cell} (λ (d : Bool). elim d [ true ↦ t | false ↦ run e k m (pass e k t) ]) (ne_eqb (length (pass e k t)) (length t) l)
 
 -- where as many passes are allowed as there are splits left, the last one makes none
-pub run_ends : (e : Engine) (k M m : ℕ) (t : List Cell) → Formed M t → splitsLeft M t ≤ m → length (pass e k (run e k m t)) ≡ length (run e k m t)
+pub run_ends : (e : Engine) (k M m : ℕ) (t : List Cell) → Formed M t → splits_left M t ≤ m → length (pass e k (run e k m t)) ≡ length (run e k m t)
 run_ends e k M zero t formed h =
     let s = (pass_spent e k M t formed).spent in
     let g = pass-grown e k t in
@@ -83,7 +83,7 @@ run_ends e k M (suc m) t formed h =
     (λ l. rw (run-go e k m t l) (run_ends e k M m (pass e k t) s.formed (omega arith)))
 
 -- and allowing more of them changes nothing
-pub run_more : (e : Engine) (k M m n : ℕ) (t : List Cell) → Formed M t → splitsLeft M t ≤ m → splitsLeft M t ≤ n → run e k m t ≡ run e k n t
+pub run_more : (e : Engine) (k M m n : ℕ) (t : List Cell) → Formed M t → splits_left M t ≤ m → splits_left M t ≤ n → run e k m t ≡ run e k n t
 run_more e k M zero n t formed hm hn =
     let s = (pass_spent e k M t formed).spent in
     let g = pass-grown e k t in
@@ -104,27 +104,27 @@ run_more e k M (suc m) (suc n) t formed hm hn =
 
 pub evened-keeps : (e : Engine) (k M : ℕ) (P : List Cell → Type 0) → Keeps k P → (t : List Cell) → P t → P (evened e k M t)
 unfolding evened
-evened-keeps e k M P keep t p = run-keeps e k P keep (splitsLeft M t) t p
+evened-keeps e k M P keep t p = run-keeps e k P keep (splits_left M t) t p
 
 -- the main theorem: what the passes end in is the coarsest splitting
 module _ (e : Engine) (k M : ℕ) (t : List Cell) (formed : Formed M t) where
   way-keeps : (R : Roots) (T : Splitting) → Keeps k (Way k M R T)
   way-keeps R T u f c hf hc w d = way-split k M R T u w f c hf hc (due-of k u f c d)
 
-  pub evened-way : Way k M (rootsOf t) (splitting t) (evened e k M t)
-  evened-way = evened-keeps e k M (Way k M (rootsOf t) (splitting t)) (way-keeps (rootsOf t) (splitting t)) t (way-start k M t formed)
+  pub evened-way : Way k M (roots_of t) (splitting t) (evened e k M t)
+  evened-way = evened-keeps e k M (Way k M (roots_of t) (splitting t)) (way-keeps (roots_of t) (splitting t)) t (way-start k M t formed)
 
   pub evened-calm : length (pass e k (evened e k M t)) ≡ length (evened e k M t)
   unfolding evened
-  evened-calm = run_ends e k M (splitsLeft M t) t formed (omega arith)
+  evened-calm = run_ends e k M (splits_left M t) t formed (omega arith)
 
-  pub evened-coarsest : Coarsest k M (rootsOf t) (splitting t) (splitting (evened e k M t))
-  evened-coarsest = way_end k M (rootsOf t) (splitting t) (evened e k M t) evened-way (pass-calm e k (evened e k M t) evened-calm)
+  pub evened-coarsest : Coarsest k M (roots_of t) (splitting t) (splitting (evened e k M t))
+  evened-coarsest = way_end k M (roots_of t) (splitting t) (evened e k M t) evened-way (pass-calm e k (evened e k M t) evened-calm)
 
   pub evened-formed : Formed M (evened e k M t)
   evened-formed = evened-way.formed
 
-  pub evened-roots : (r : ℕ) → rootsOf (evened e k M t) r ≡ rootsOf t r
+  pub evened-roots : (r : ℕ) → roots_of (evened e k M t) r ≡ roots_of t r
   evened-roots = evened-way.roots
 
   pub evened-grown : length t ≤ length (evened e k M t)
@@ -138,16 +138,16 @@ module _ (e : Engine) (k M : ℕ) (t : List Cell) (formed : Formed M t) where
 module _ (e : Engine) (k M : ℕ) (t : List Cell) (formed : Formed M t) where
   pub evened-stop : length (pass e k t) ≡ length t → evened e k M t ≡ t
   unfolding evened
-  evened-stop l = run-stop e k (splitsLeft M t) t l
+  evened-stop l = run-stop e k (splits_left M t) t l
 
   pub evened-pass : evened e k M (pass e k t) ≡ evened e k M t
   unfolding evened
-  evened-pass = by_cases (ℕ_discrete (length (pass e k t)) (length t)) (λ l. ap (evened e k M) (pass_same e k t l)) (λ l. go (splitsLeft M t) refl l)
+  evened-pass = by_cases (ℕ_discrete (length (pass e k t)) (length t)) (λ l. ap (evened e k M) (pass_same e k t l)) (λ l. go (splits_left M t) refl l)
     where
-      go : (m : ℕ) → splitsLeft M t ≡ m → (length (pass e k t) ≡ length t → ⊥) → run e k (splitsLeft M (pass e k t)) (pass e k t) ≡ run e k (splitsLeft M t) t
+      go : (m : ℕ) → splits_left M t ≡ m → (length (pass e k t) ≡ length t → ⊥) → run e k (splits_left M (pass e k t)) (pass e k t) ≡ run e k (splits_left M t) t
       go zero h l = let s = (pass_spent e k M t formed).spent in let g = pass-grown e k t in absurd (l (omega arith))
       go (suc m) h l =
           let s = pass_spent e k M t formed in
           let w = s.spent in
           let g = pass-grown e k t in
-          run_more e k M (splitsLeft M (pass e k t)) m (pass e k t) s.formed (omega arith) (omega arith) ∙ sym (run-go e k m t l) ∙ ap (λ (x : ℕ). run e k x t) (sym h)
+          run_more e k M (splits_left M (pass e k t)) m (pass e k t) s.formed (omega arith) (omega arith) ∙ sym (run-go e k m t l) ∙ ap (λ (x : ℕ). run e k x t) (sym h)

@@ -11,7 +11,7 @@ use native.Mathlib.Decide.{ℕ_discrete}
 use lib.ListN.{length}
 use Rattle.cell.specs.Boxes.{Box, Quad, num, quadrant}
 use Rattle.table.specs.Mesh.{Cell, at, split, is_none}
-use Rattle.coarsest.specs.Names.{Route, place, Stands, rootsOf, rootIf, idIf, plus, kid_of, find, splitIn, splitting, ◌⊆◌}
+use Rattle.coarsest.specs.Names.{Route, place, Stands, roots_of, root_if, id_if, plus, kid_of, find, split_in, splitting, ◌⊆◌}
 use Rattle.table.specs.Formed.{Formed}
 use Rattle.table.proofs.Meshes.{not_some, some_is, num-below, kids-in, root_in, View, old, self, new, out, view, kept, kids-kept}
 
@@ -43,30 +43,30 @@ pub find-root : (t : List Cell) (r i : ℕ) → find t r [] ≡ some i → (i �
 unfolding find
 find-root t r i e = go (at t r).parent refl e
   where
-    go : (o : Option ℕ) → (at t r).parent ≡ o → idIf o r ≡ some i → (i ≡ r) × ((at t r).parent ≡ none)
+    go : (o : Option ℕ) → (at t r).parent ≡ o → id_if o r ≡ some i → (i ≡ r) × ((at t r).parent ≡ none)
     go none d h = (some_is (some i) i r refl (sym h), d)
     go (some j) d h = not_some none i refl h
 
 pub root-find : (t : List Cell) (r : ℕ) → (at t r).parent ≡ none → find t r [] ≡ some r
 unfolding find
-root-find t r e = ap (λ (o : Option ℕ). idIf o r) e
+root-find t r e = ap (λ (o : Option ℕ). id_if o r) e
 
-pub is-root : (t : List Cell) (r : ℕ) (A : Box) → rootsOf t r ≡ some A → ((at t r).parent ≡ none) × ((at t r).box ≡ A)
-unfolding rootsOf
+pub is-root : (t : List Cell) (r : ℕ) (A : Box) → roots_of t r ≡ some A → ((at t r).parent ≡ none) × ((at t r).box ≡ A)
+unfolding roots_of
 is-root t r A e = go (at t r).parent refl e
   where
-    go : (o : Option ℕ) → (at t r).parent ≡ o → rootIf o (at t r).box ≡ some A → ((at t r).parent ≡ none) × ((at t r).box ≡ A)
+    go : (o : Option ℕ) → (at t r).parent ≡ o → root_if o (at t r).box ≡ some A → ((at t r).parent ≡ none) × ((at t r).box ≡ A)
     go none d h = (d, cc)
     go (some j) d h = let z : ◌≡◌ {A = ℕ} 0 1 = cc in absurd (omega arith)
 
-pub root_is : (t : List Cell) (r : ℕ) → (at t r).parent ≡ none → rootsOf t r ≡ some (at t r).box
-unfolding rootsOf
-root_is t r e = ap (λ (o : Option ℕ). rootIf o (at t r).box) e
+pub root_is : (t : List Cell) (r : ℕ) → (at t r).parent ≡ none → roots_of t r ≡ some (at t r).box
+unfolding roots_of
+root_is t r e = ap (λ (o : Option ℕ). root_if o (at t r).box) e
 
 -- the splitting of a table, by ids
 pub split_at : (t : List Cell) (r : ℕ) (p : Route) (i f : ℕ) → find t r p ≡ some i → (at t i).kids ≡ some f → splitting t r p ≡ true
 unfolding splitting
-split_at t r p i f e k = ap (splitIn t) e ∙ ap (λ (o : Option ℕ). not (is_none o)) k
+split_at t r p i f e k = ap (split_in t) e ∙ ap (λ (o : Option ℕ). not (is_none o)) k
 
 pub record SplitAt (t : List Cell) (r : ℕ) (p : Route) : Type 0 where
   pub id : ℕ
@@ -82,7 +82,7 @@ at_split t r p e = go (find t r p) refl e
     next i d none k h = absurd (false≢true h)
     next i d (some f) k h = record { id = i; first = f; found = d; kids = k }
 
-    go : (o : Option ℕ) → find t r p ≡ o → splitIn t o ≡ true → SplitAt t r p
+    go : (o : Option ℕ) → find t r p ≡ o → split_in t o ≡ true → SplitAt t r p
     go none d h = absurd (false≢true h)
     go (some i) d h = next i d (at t i).kids refl h
 

@@ -7,9 +7,9 @@ use Prim.Native.Nat.{ℕ, ◌+◌, ◌*◌, ◌-◌, ◌<◌, ◌≤◌}
 use native.Mathlib.Omega.{arith}
 use lib.ListN.{length}
 use Rattle.cell.specs.Boxes.{Quad, sw, se, nw, ne}
-use Rattle.table.specs.Mesh.{Cell, at, child, withKids, split}
+use Rattle.table.specs.Mesh.{Cell, at, child, with_kids, split}
 use Rattle.table.specs.Formed.{Formed}
-use Rattle.coarsest.specs.Passes.{Engine, splitsLeft, evened}
+use Rattle.coarsest.specs.Passes.{Engine, splits_left, evened}
 use Rattle.table.proofs.Meshes.{not_some, some_is, length-split, Kept, kept, kids-kept, View, old, self, new, out, view}
 use Rattle.coarsest.proofs.Least.{due-of, level-most}
 use Rattle.coarsest.proofs.Sweep.{Keeps}
@@ -65,7 +65,7 @@ from-keeps k t u f c hf hc w d =
 
 pub record Inherited (P : Cell → Type 0) : Type 0 where
   pub kid : (i : ℕ) (c : Cell) (q : Quad) → P c → P (child i c q)
-  pub parent : (c : Cell) (f : ℕ) → P c → P (withKids c f)
+  pub parent : (c : Cell) (f : ℕ) → P c → P (with_kids c f)
 
 -- every cell of the table
 abbrev pub Each : (Cell → Type 0) → List Cell → Type 0
@@ -115,5 +115,5 @@ module _ (e : Engine) (k M : ℕ) (t : List Cell) where
     evened-level = level-most M (evened e k M t) (evened-formed e k M t formed)
 
     -- the splits are a quarter of the growth
-    pub evened-quarter : length (evened e k M t) ≡ length t + 4 * (splitsLeft M t - splitsLeft M (evened e k M t))
+    pub evened-quarter : length (evened e k M t) ≡ length t + 4 * (splits_left M t - splits_left M (evened e k M t))
     evened-quarter = let s = (evened-spent e k M t formed).spent in let g = evened-from.longer in omega arith

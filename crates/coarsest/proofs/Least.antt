@@ -11,10 +11,10 @@ use native.Mathlib.Decide.{dec_le}
 use lib.Dec.{ltb}
 use lib.ListN.{length}
 use borrow.Author.Tests.{ltb-true, lt-ltb}
-use Rattle.cell.specs.Boxes.{Box, num, sharesEdge}
-use Rattle.table.specs.Mesh.{Cell, at, split, is_none, isLeaf}
+use Rattle.cell.specs.Boxes.{Box, num, shares_edge}
+use Rattle.table.specs.Mesh.{Cell, at, split, is_none, is_leaf}
 use Rattle.coarsest.specs.Passes.{due}
-use Rattle.coarsest.specs.Names.{Route, Splitting, Roots, place, Stands, Leaf, Admissible, ◌⊆◌, Coarsest, rootsOf, find, splitting}
+use Rattle.coarsest.specs.Names.{Route, Splitting, Roots, place, Stands, Leaf, Admissible, ◌⊆◌, Coarsest, roots_of, find, splitting}
 use Rattle.table.specs.Formed.{Formed}
 use Rattle.cell.proofs.Contact.{and_both}
 use Rattle.coarsest.proofs.Forced.{forced}
@@ -26,7 +26,7 @@ pub record Due (k : ℕ) (t : List Cell) (f c : ℕ) : Type 0 where
   pub fine : (at t f).kids ≡ none
   pub coarse : (at t c).kids ≡ none
   pub apart : (at t c).level + k < (at t f).level
-  pub shares : sharesEdge (at t f).box (at t c).box ≡ true
+  pub shares : shares_edge (at t f).box (at t c).box ≡ true
 
 is-none : (o : Option ℕ) → is_none o ≡ true → o ≡ none
 is-none none e = refl
@@ -42,14 +42,14 @@ due-split false y z w e = absurd (true≢false (sym e))
 pub due-of : (k : ℕ) (t : List Cell) (f c : ℕ) → due k t f c ≡ true → Due k t f c
 unfolding due
 due-of k t f c e =
-    let d = due-split (isLeaf t f) (isLeaf t c) (ltb ((at t c).level + k) (at t f).level) (sharesEdge (at t f).box (at t c).box) e in
+    let d = due-split (is_leaf t f) (is_leaf t c) (ltb ((at t c).level + k) (at t f).level) (shares_edge (at t f).box (at t c).box) e in
     record { fine = is-none (at t f).kids d.0; coarse = is-none (at t c).kids d.1; apart = ltb-true _ _ d.2; shares = d.3 }
 
 pub of-due : (k : ℕ) (t : List Cell) (f c : ℕ) → Due k t f c → due k t f c ≡ true
 unfolding due
 of-due k t f c d =
-    and_both (isLeaf t f) _ (ap is_none d.fine)
-    (and_both (isLeaf t c) _ (ap is_none d.coarse)
+    and_both (is_leaf t f) _ (ap is_none d.fine)
+    (and_both (is_leaf t c) _ (ap is_none d.coarse)
     (and_both (ltb ((at t c).level + k) (at t f).level) _ (lt-ltb _ _ d.apart) d.shares))
 
 -- no cell is finer than M
@@ -74,11 +74,11 @@ stands-more S T h r (q ∷ p) st = h r p st
 -- what holds of every table on the way from the splitting T of the roots R
 pub record Way (k M : ℕ) (R : Roots) (T : Splitting) (t : List Cell) : Type 0 where
   pub formed : Formed M t
-  pub roots : (r : ℕ) → rootsOf t r ≡ R r
+  pub roots : (r : ℕ) → roots_of t r ≡ R r
   pub keeps : T ⊆ splitting t
   pub least : (S : Splitting) → Admissible k M R S → T ⊆ S → splitting t ⊆ S
 
-pub way-start : (k M : ℕ) (t : List Cell) → Formed M t → Way k M (rootsOf t) (splitting t) t
+pub way-start : (k M : ℕ) (t : List Cell) → Formed M t → Way k M (roots_of t) (splitting t) t
 way-start k M t formed = record { formed = formed; roots = λ r. refl; keeps = λ r p e. e; least = λ S adm h. h }
 
 module _ (k M : ℕ) (R : Roots) (T : Splitting) (t : List Cell) (way : Way k M R T t) where
@@ -136,7 +136,7 @@ module _ (k M : ℕ) (R : Roots) (T : Splitting) (t : List Cell) (way : Way k M 
           level = s.level;
         }
 
-    even : (r s : ℕ) (p q : Route) (A B : Box) → Leaf R (splitting t) r p A → Leaf R (splitting t) s q B → sharesEdge A B ≡ true → length p ≤ length q + k
+    even : (r s : ℕ) (p q : Route) (A B : Box) → Leaf R (splitting t) r p A → Leaf R (splitting t) s q B → shares_edge A B ≡ true → length p ≤ length q + k
     even r s p q A B lp lq sh =
         let a = leaf-at r p A lp in
         let b = leaf-at s q B lq in

@@ -7,11 +7,11 @@ use Prim.Native.Nat.{ℕ, zero, suc, ◌+◌, ◌<◌, ◌≤◌}
 use native.Mathlib.Omega.{arith}
 use native.Mathlib.Nat.{add-zero, add-suc}
 use lib.ListN.{length}
-use Rattle.table.specs.Mesh.{Cell, split, is_none, isLeaf}
-use Rattle.coarsest.specs.Passes.{due, splitIf, Engine, balancing, conforming, step}
+use Rattle.table.specs.Mesh.{Cell, split, is_none, is_leaf}
+use Rattle.coarsest.specs.Passes.{due, split_if, Engine, balancing, conforming, step}
 use Rattle.coarsest.specs.Sweep.{row, rows}
 use Rattle.table.proofs.Meshes.{at_self}
-use Rattle.coarsest.proofs.Sweep.{dueOf, row-suc, row-grown, rows_grown, grown-least}
+use Rattle.coarsest.proofs.Sweep.{due_of, row-suc, row-grown, rows_grown, grown-least}
 
 -- the cell of the pair that is split
 abbrev pub coarser : Engine → ℕ → ℕ → ℕ
@@ -19,15 +19,15 @@ coarser balancing a b = b
 coarser conforming a b = a
 
 -- one pair
-pub row-due : (e : Engine) (k : ℕ) (t : List Cell) (a b : ℕ) → dueOf e k (row e k t a b) a b ≡ true → row e k t a (suc b) ≡ split (row e k t a b) (coarser e a b)
+pub row-due : (e : Engine) (k : ℕ) (t : List Cell) (a b : ℕ) → due_of e k (row e k t a b) a b ≡ true → row e k t a (suc b) ≡ split (row e k t a b) (coarser e a b)
 unfolding row step
-row-due balancing k t a b d = ap (λ (x : Bool). splitIf x (row balancing k t a b) b) d
-row-due conforming k t a b d = ap (λ (x : Bool). splitIf x (row conforming k t a b) a) d
+row-due balancing k t a b d = ap (λ (x : Bool). split_if x (row balancing k t a b) b) d
+row-due conforming k t a b d = ap (λ (x : Bool). split_if x (row conforming k t a b) a) d
 
-pub row-skip : (e : Engine) (k : ℕ) (t : List Cell) (a b : ℕ) → dueOf e k (row e k t a b) a b ≡ false → row e k t a (suc b) ≡ row e k t a b
+pub row-skip : (e : Engine) (k : ℕ) (t : List Cell) (a b : ℕ) → due_of e k (row e k t a b) a b ≡ false → row e k t a (suc b) ≡ row e k t a b
 unfolding row step
-row-skip balancing k t a b d = ap (λ (x : Bool). splitIf x (row balancing k t a b) b) d
-row-skip conforming k t a b d = ap (λ (x : Bool). splitIf x (row conforming k t a b) a) d
+row-skip balancing k t a b d = ap (λ (x : Bool). split_if x (row balancing k t a b) b) d
+row-skip conforming k t a b d = ap (λ (x : Bool). split_if x (row conforming k t a b) a) d
 
 -- nothing is due for an a or a b that is no leaf: a's row is done once a is split
 and-false : (x y z : Bool) → y ≡ false → (x && (y && z)) ≡ false
@@ -35,25 +35,25 @@ and-false true true z e = absurd (true≢false e)
 and-false true false z e = refl
 and-false false y z e = refl
 
-pub no-leaf : (e : Engine) (k : ℕ) (t : List Cell) (a b : ℕ) → isLeaf t a ≡ false → dueOf e k t a b ≡ false
+pub no-leaf : (e : Engine) (k : ℕ) (t : List Cell) (a b : ℕ) → is_leaf t a ≡ false → due_of e k t a b ≡ false
 unfolding due
-no-leaf balancing k t a b h = and-false true (isLeaf t a) _ h
-no-leaf conforming k t a b h = and-false (isLeaf t b) (isLeaf t a) _ h
+no-leaf balancing k t a b h = and-false true (is_leaf t a) _ h
+no-leaf conforming k t a b h = and-false (is_leaf t b) (is_leaf t a) _ h
 
-pub no-leaf-b : (e : Engine) (k : ℕ) (t : List Cell) (a b : ℕ) → isLeaf t b ≡ false → dueOf e k t a b ≡ false
+pub no-leaf-b : (e : Engine) (k : ℕ) (t : List Cell) (a b : ℕ) → is_leaf t b ≡ false → due_of e k t a b ≡ false
 unfolding due
-no-leaf-b balancing k t a b h = and-false (isLeaf t a) (isLeaf t b) _ h
-no-leaf-b conforming k t a b h = and-false true (isLeaf t b) _ h
+no-leaf-b balancing k t a b h = and-false (is_leaf t a) (is_leaf t b) _ h
+no-leaf-b conforming k t a b h = and-false true (is_leaf t b) _ h
 
-pub split-no-leaf : (t : List Cell) (c : ℕ) → c < length t → isLeaf (split t c) c ≡ false
+pub split-no-leaf : (t : List Cell) (c : ℕ) → c < length t → is_leaf (split t c) c ≡ false
 split-no-leaf t c h = ap (λ (x : Cell). is_none x.kids) (at_self t c h)
 
-pub row_done : (e : Engine) (k : ℕ) (t : List Cell) (a b d : ℕ) → isLeaf (row e k t a b) a ≡ false → row e k t a (b + d) ≡ row e k t a b
+pub row_done : (e : Engine) (k : ℕ) (t : List Cell) (a b d : ℕ) → is_leaf (row e k t a b) a ≡ false → row e k t a (b + d) ≡ row e k t a b
 row_done e k t a b zero h = ap (row e k t a) (add-zero b)
 row_done e k t a b (suc d) h =
     let r = row_done e k t a b d h in
     ap (row e k t a) (add-suc b d)
-    ∙ row-skip e k t a (b + d) (no-leaf e k (row e k t a (b + d)) a (b + d) (ap (λ (x : List Cell). isLeaf x a) r ∙ h))
+    ∙ row-skip e k t a (b + d) (no-leaf e k (row e k t a (b + d)) a (b + d) (ap (λ (x : List Cell). is_leaf x a) r ∙ h))
     ∙ r
 
 -- lengths on the way: a row, the rows of a pass

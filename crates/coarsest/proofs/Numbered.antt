@@ -6,21 +6,21 @@ use Prim.Native.Nat.{ℕ, ◌<◌}
 use native.Mathlib.Omega.{arith}
 use native.Mathlib.Decide.{dec_lt}
 use lib.ListN.{length}
-use Rattle.cell.specs.Boxes.{Quad, sw, se, nw, ne, num, quadAt}
+use Rattle.cell.specs.Boxes.{Quad, sw, se, nw, ne, num, quad_at}
 use Rattle.table.specs.Mesh.{Cell, at}
 use Rattle.table.specs.Formed.{Formed}
-use Rattle.coarsest.specs.Names.{Route, HasCells, rootsOf, find, splitting}
+use Rattle.coarsest.specs.Names.{Route, HasCells, roots_of, find, splitting}
 use Rattle.table.proofs.Meshes.{not_some, some_is}
 use Rattle.coarsest.proofs.Find.{find-up, find-root, find-rooted, is-root, root_is, stands_of, stands-found, tells, named}
 
-quad-num : (q : Quad) → quadAt (num q) ≡ q
+quad-num : (q : Quad) → quad_at (num q) ≡ q
 quad-num sw = refl
 quad-num se = refl
 quad-num nw = refl
 quad-num ne = refl
 
 num-one : (p q : Quad) → num p ≡ num q → p ≡ q
-num-one p q e = sym (quad-num p) ∙ ap quadAt e ∙ quad-num q
+num-one p q e = sym (quad-num p) ∙ ap quad_at e ∙ quad-num q
 
 -- a cell has one name
 module _ (M : ℕ) (t : List Cell) (formed : Formed M t) where
@@ -48,36 +48,36 @@ module _ (M : ℕ) (t : List Cell) (formed : Formed M t) where
       (n.0, ap₂ {C = Route} (λ a b. a ∷ b) (num-one x y (omega arith)) n.1)
 
   -- the name of a cell, and any other past the count
-  nameIf : (i : ℕ) → Dec (i < length t) → ℕ × Route
-  nameIf i (yes h) = let n = named M t formed i h in (n.root, n.path)
-  nameIf i (no h) = (0, [])
+  name_if : (i : ℕ) → Dec (i < length t) → ℕ × Route
+  name_if i (yes h) = let n = named M t formed i h in (n.root, n.path)
+  name_if i (no h) = (0, [])
 
-  name-found : (i : ℕ) (d : Dec (i < length t)) → i < length t → find t (nameIf i d).0 (nameIf i d).1 ≡ some i
-  unfolding nameIf
+  name-found : (i : ℕ) (d : Dec (i < length t)) → i < length t → find t (name_if i d).0 (name_if i d).1 ≡ some i
+  unfolding name_if
   name-found i (yes h) l = (named M t formed i h).found
   name-found i (no h) l = absurd (h l)
 
-  abbrev rootAt : ℕ → ℕ
-  rootAt i = (nameIf i (dec_lt i (length t))).0
+  abbrev root_at : ℕ → ℕ
+  root_at i = (name_if i (dec_lt i (length t))).0
 
-  abbrev routeAt : ℕ → Route
-  routeAt i = (nameIf i (dec_lt i (length t))).1
+  abbrev route_at : ℕ → Route
+  route_at i = (name_if i (dec_lt i (length t))).1
 
-  at_name : (i : ℕ) → i < length t → find t (rootAt i) (routeAt i) ≡ some i
+  at_name : (i : ℕ) → i < length t → find t (root_at i) (route_at i) ≡ some i
   at_name i h = name-found i (dec_lt i (length t)) h
 
-  pub formed-cells : HasCells (rootsOf t) (splitting t) (length t)
+  pub formed-cells : HasCells (roots_of t) (splitting t) (length t)
   formed-cells =
       record {
-        root = rootAt;
-        route = routeAt;
-        known = λ i h. ((at t (rootAt i)).box, root_is t (rootAt i) (find-rooted t (rootAt i) (routeAt i) i (at_name i h)));
-        stands = λ i h. stands_of t (rootAt i) (routeAt i) i (at_name i h);
+        root = root_at;
+        route = route_at;
+        known = λ i h. ((at t (root_at i)).box, root_is t (root_at i) (find-rooted t (root_at i) (route_at i) i (at_name i h)));
+        stands = λ i h. stands_of t (root_at i) (route_at i) i (at_name i h);
         once = λ i j hi hj r p.
-            some_is (find t (rootAt j) (routeAt j)) i j (subst₂ (λ (x : ℕ) (y : Route). find t x y ≡ some i) r p (at_name i hi)) (at_name j hj);
+            some_is (find t (root_at j) (route_at j)) i j (subst₂ (λ (x : ℕ) (y : Route). find t x y ≡ some i) r p (at_name i hi)) (at_name j hj);
         all = λ r p A k st.
             let f = stands-found t r p (is-root t r A k).0 st in
             let l = (tells M t formed r p f.0 f.1).inside in
-            let n = name-one (rootAt f.0) r (routeAt f.0) p f.0 (at_name f.0 l) f.1 in
+            let n = name-one (root_at f.0) r (route_at f.0) p f.0 (at_name f.0 l) f.1 in
             (f.0, l, n.0, n.1);
       }

@@ -1,4 +1,4 @@
--- A sweep over all ids below the count is document 01's pass, over the leaves of its start; so what one split keeps, a pass keeps; and
+-- A sweep over all ids below the count is the rules' pass, over the leaves of its start; so what one split keeps, a pass keeps; and
 -- a pass that makes no split leaves nothing due. Assumes nothing.
 use mathlib.Core.Path.{◌≡◌, refl, sym, ap, subst, ◌∙◌}
 use mathlib.Core.Bool.{Bool, true, false, true≢false}
@@ -9,23 +9,23 @@ use Prim.Native.Nat.{ℕ, zero, suc, ◌<◌, ◌≤◌}
 use native.Mathlib.Omega.{arith}
 use native.Mathlib.Nat.{zero-add}
 use lib.ListN.{length}
-use Rattle.table.specs.Mesh.{Cell, at, split, is_none, isLeaf}
-use Rattle.table.specs.Leaves.{oneIf, idsTo}
-use Rattle.coarsest.specs.Passes.{due, Engine, balancing, conforming, step, withEach, eachWith, pass}
+use Rattle.table.specs.Mesh.{Cell, at, split, is_none, is_leaf}
+use Rattle.table.specs.Leaves.{one_if, ids_to}
+use Rattle.coarsest.specs.Passes.{due, Engine, balancing, conforming, step, with_each, each_with, pass}
 use Rattle.coarsest.specs.Sweep.{row, rows, sweep}
 use Rattle.table.proofs.Meshes.{kids-kept}
 use Rattle.coarsest.proofs.Least.{due-of}
-use Rattle.coarsest.proofs.Sweep.{dueOf, Keeps, row_keeps, rows-keeps, rows_grown, rows-calm, Grown, grown-keeps, grown-least, grown-same}
+use Rattle.coarsest.proofs.Sweep.{due_of, Keeps, row_keeps, rows-keeps, rows_grown, rows-calm, Grown, grown-keeps, grown-least, grown-same}
 use Rattle.coarsest.proofs.Loops.{row-skip, row_done, no-leaf-b}
 
 -- what is no leaf of t is no leaf of u
 abbrev Stays : List Cell → List Cell → Type 0
-Stays t u = (i : ℕ) → isLeaf t i ≡ false → isLeaf u i ≡ false
+Stays t u = (i : ℕ) → is_leaf t i ≡ false → is_leaf u i ≡ false
 
-still : (u : List Cell) (c : ℕ) → c < length u → (at u c).kids ≡ none → (i : ℕ) → isLeaf u i ≡ false → isLeaf (split u c) i ≡ false
+still : (u : List Cell) (c : ℕ) → c < length u → (at u c).kids ≡ none → (i : ℕ) → is_leaf u i ≡ false → is_leaf (split u c) i ≡ false
 still u c hc leaf i h = go (at u i).kids refl
   where
-    go : (o : Option ℕ) → (at u i).kids ≡ o → isLeaf (split u c) i ≡ false
+    go : (o : Option ℕ) → (at u i).kids ≡ o → is_leaf (split u c) i ≡ false
     go none e = absurd (true≢false (sym (ap is_none e) ∙ h))
     go (some f) e = ap is_none (kids-kept u c hc leaf i f e)
 
@@ -33,47 +33,47 @@ stays-keeps : (k : ℕ) (t : List Cell) → Keeps k (Stays t)
 stays-keeps k t u f c hf hc p d = λ i h. still u c hc (due-of k u f c d).coarse i (p i h)
 
 module _ (e : Engine) (k : ℕ) where
-  with_append : (t : List Cell) (a : ℕ) (xs ys : List ℕ) → withEach e k t a (xs ++ ys) ≡ withEach e k (withEach e k t a xs) a ys
-  unfolding withEach
+  with_append : (t : List Cell) (a : ℕ) (xs ys : List ℕ) → with_each e k t a (xs ++ ys) ≡ with_each e k (with_each e k t a xs) a ys
+  unfolding with_each
   with_append t a [] ys = refl
   with_append t a (x ∷ xs) ys = with_append (step e k t a x) a xs ys
 
-  each_append : (t : List Cell) (xs ys bs : List ℕ) → eachWith e k t (xs ++ ys) bs ≡ eachWith e k (eachWith e k t xs bs) ys bs
-  unfolding eachWith
+  each_append : (t : List Cell) (xs ys bs : List ℕ) → each_with e k t (xs ++ ys) bs ≡ each_with e k (each_with e k t xs bs) ys bs
+  unfolding each_with
   each_append t [] ys bs = refl
-  each_append t (x ∷ xs) ys bs = each_append (withEach e k t x bs) xs ys bs
+  each_append t (x ∷ xs) ys bs = each_append (with_each e k t x bs) xs ys bs
 
   module _ (t : List Cell) (n : ℕ) where
     -- a's row, from a table u of the pass
-    row-leaves : (u : List Cell) (a b : ℕ) → a < n → b ≤ n → n ≤ length u → Stays t u → withEach e k u a (idsTo (isLeaf t) b) ≡ row e k u a b
-    unfolding idsTo withEach row
+    row-leaves : (u : List Cell) (a b : ℕ) → a < n → b ≤ n → n ≤ length u → Stays t u → with_each e k u a (ids_to (is_leaf t) b) ≡ row e k u a b
+    unfolding ids_to with_each row
     row-leaves u a zero ha hb l s = refl
     row-leaves u a (suc b) ha hb l s =
-        with_append u a (idsTo (isLeaf t) b) (oneIf (isLeaf t b) b)
-        ∙ ap (λ (x : List Cell). withEach e k x a (oneIf (isLeaf t b) b)) (row-leaves u a b ha (omega arith) l s)
-        ∙ last (isLeaf t b) refl
+        with_append u a (ids_to (is_leaf t) b) (one_if (is_leaf t b) b)
+        ∙ ap (λ (x : List Cell). with_each e k x a (one_if (is_leaf t b) b)) (row-leaves u a b ha (omega arith) l s)
+        ∙ last (is_leaf t b) refl
       where
-        last : (f : Bool) → isLeaf t b ≡ f → withEach e k (row e k u a b) a (oneIf f b) ≡ row e k u a (suc b)
+        last : (f : Bool) → is_leaf t b ≡ f → with_each e k (row e k u a b) a (one_if f b) ≡ row e k u a (suc b)
         last true h = refl
         last false h =
             sym (row-skip e k u a b (no-leaf-b e k (row e k u a b) a b (row_keeps e k n (Stays t) (stays-keeps k t) u a b ha (omega arith) l s b h)))
 
     -- a's turn: nothing where a is no leaf of t
-    turn-leaves : (u : List Cell) (a : ℕ) → a < n → n ≤ length u → Stays t u → (f : Bool) → isLeaf t a ≡ f
-        → eachWith e k u (oneIf f a) (idsTo (isLeaf t) n) ≡ row e k u a n
-    unfolding eachWith row
+    turn-leaves : (u : List Cell) (a : ℕ) → a < n → n ≤ length u → Stays t u → (f : Bool) → is_leaf t a ≡ f
+        → each_with e k u (one_if f a) (ids_to (is_leaf t) n) ≡ row e k u a n
+    unfolding each_with row
     turn-leaves u a ha l s true h = row-leaves u a n ha (omega arith) l s
     turn-leaves u a ha l s false h = sym (ap (row e k u a) (sym (zero-add n)) ∙ row_done e k u a 0 n (s a h))
 
-    rows-leaves : (a : ℕ) → a ≤ n → n ≤ length t → eachWith e k t (idsTo (isLeaf t) a) (idsTo (isLeaf t) n) ≡ rows e k n t a
-    unfolding idsTo eachWith rows
+    rows-leaves : (a : ℕ) → a ≤ n → n ≤ length t → each_with e k t (ids_to (is_leaf t) a) (ids_to (is_leaf t) n) ≡ rows e k n t a
+    unfolding ids_to each_with rows
     rows-leaves zero ha l = refl
     rows-leaves (suc a) ha l =
         let u = rows e k n t a in
         let g = grown-least t u (rows_grown e k n t a (omega arith) l) in
-        each_append t (idsTo (isLeaf t) a) (oneIf (isLeaf t a) a) (idsTo (isLeaf t) n)
-        ∙ ap (λ (x : List Cell). eachWith e k x (oneIf (isLeaf t a) a) (idsTo (isLeaf t) n)) (rows-leaves a (omega arith) l)
-        ∙ turn-leaves u a ha (omega arith) (rows-keeps e k n (Stays t) (stays-keeps k t) t a (omega arith) l (λ i h. h)) (isLeaf t a) refl
+        each_append t (ids_to (is_leaf t) a) (one_if (is_leaf t a) a) (ids_to (is_leaf t) n)
+        ∙ ap (λ (x : List Cell). each_with e k x (one_if (is_leaf t a) a) (ids_to (is_leaf t) n)) (rows-leaves a (omega arith) l)
+        ∙ turn-leaves u a ha (omega arith) (rows-keeps e k n (Stays t) (stays-keeps k t) t a (omega arith) l (λ i h. h)) (is_leaf t a) refl
 
 module _ (e : Engine) (k : ℕ) (t : List Cell) where
   pub sweep-pass : sweep e k t ≡ pass e k t
@@ -94,7 +94,7 @@ module _ (e : Engine) (k : ℕ) (t : List Cell) where
   pub pass_same : length (pass e k t) ≡ length t → pass e k t ≡ t
   pass_same l = grown-same t (pass e k t) grown l
 
-rows_none : (e : Engine) (k : ℕ) (t : List Cell) → length (pass e k t) ≡ length t → (a b : ℕ) → a < length t → b < length t → dueOf e k t a b ≡ false
+rows_none : (e : Engine) (k : ℕ) (t : List Cell) → length (pass e k t) ≡ length t → (a b : ℕ) → a < length t → b < length t → due_of e k t a b ≡ false
 unfolding sweep
 rows_none e k t l a b ha hb = rows-calm e k (length t) t (length t) (omega arith) (omega arith) (ap length (sweep-pass e k t) ∙ l) a b ha hb
 

@@ -8,22 +8,22 @@ use native.Mathlib.Omega.{arith}
 use lib.ListN.{length}
 use Rattle.table.specs.Mesh.{Cell, at, split}
 use Rattle.table.specs.Formed.{Formed}
-use Rattle.table.specs.Leaves.{oneIf, idsTo}
-use Rattle.coarsest.specs.Passes.{dueCells, due, splitIf, Engine, balancing, conforming, step}
-use Rattle.coarsest.specs.Sweep.{row, splitEach, anyTo}
+use Rattle.table.specs.Leaves.{one_if, ids_to}
+use Rattle.coarsest.specs.Passes.{due_cells, due, split_if, Engine, balancing, conforming, step}
+use Rattle.coarsest.specs.Sweep.{row, split_each, any_to}
 use Rattle.table.proofs.Meshes.{at_old}
 use Rattle.coarsest.proofs.Least.{due-of, level-most}
-use Rattle.coarsest.proofs.Sweep.{dueOf, row-grown, grown-least}
+use Rattle.coarsest.proofs.Sweep.{due_of, row-grown, grown-least}
 use Rattle.coarsest.proofs.Loops.{row-skip, no-leaf, split-no-leaf}
 
 -- ---- rows with nothing due
 
-pub row-none : (e : Engine) (k : ℕ) (t : List Cell) (a n : ℕ) → ((b : ℕ) → b < n → dueOf e k t a b ≡ false) → row e k t a n ≡ t
+pub row-none : (e : Engine) (k : ℕ) (t : List Cell) (a n : ℕ) → ((b : ℕ) → b < n → due_of e k t a b ≡ false) → row e k t a n ≡ t
 unfolding row
 row-none e k t a zero h = refl
 row-none e k t a (suc n) h =
     let r = row-none e k t a n (λ b l. h b (omega arith)) in
-    row-skip e k t a n (ap (λ (u : List Cell). dueOf e k u a n) r ∙ h n (omega arith)) ∙ r
+    row-skip e k t a n (ap (λ (u : List Cell). due_of e k u a n) r ∙ h n (omega arith)) ∙ r
 
 pub not-due : (k : ℕ) (t : List Cell) (f c : ℕ) → (at t f).level ≤ (at t c).level + k → due k t f c ≡ false
 not-due k t f c h = go (due k t f c) refl
@@ -43,17 +43,17 @@ row-finest k M t a n formed l h =
 
 -- ---- a balancing row
 
-each_append : (t : List Cell) (xs ys : List ℕ) → splitEach t (xs ++ ys) ≡ splitEach (splitEach t xs) ys
-unfolding splitEach
+each_append : (t : List Cell) (xs ys : List ℕ) → split_each t (xs ++ ys) ≡ split_each (split_each t xs) ys
+unfolding split_each
 each_append t [] ys = refl
 each_append t (x ∷ xs) ys = each_append (split t x) xs ys
 
-each-one : (t : List Cell) (c : ℕ) (d : Bool) → splitIf d t c ≡ splitEach t (oneIf d c)
-unfolding splitEach
+each-one : (t : List Cell) (c : ℕ) (d : Bool) → split_if d t c ≡ split_each t (one_if d c)
+unfolding split_each
 each-one t c true = refl
 each-one t c false = refl
 
-at-if : (u : List Cell) (c i : ℕ) (d : Bool) → c < length u → i < length u → (d ≡ true → i ≢ c) → at (splitIf d u c) i ≡ at u i
+at-if : (u : List Cell) (c i : ℕ) (d : Bool) → c < length u → i < length u → (d ≡ true → i ≢ c) → at (split_if d u c) i ≡ at u i
 at-if u c i true hc hi h = at_old u c hc i hi (h refl)
 at-if u c i false hc hi h = refl
 
@@ -81,24 +81,24 @@ module _ (k : ℕ) (t : List Cell) (a n : ℕ) (ha : a < n) (hn : n ≤ length t
 
   due-as-was : (b : ℕ) → b < n → due k (row balancing k t a b) a b ≡ due k t a b
   unfolding due
-  due-as-was b hb = ap₂ (dueCells k) (as-was b (omega arith) a ha (inr refl)) (as-was b (omega arith) b hb (inl (omega arith)))
+  due-as-was b hb = ap₂ (due_cells k) (as-was b (omega arith) a ha (inr refl)) (as-was b (omega arith) b hb (inl (omega arith)))
 
-  pub balance-row : (b : ℕ) → b ≤ n → row balancing k t a b ≡ splitEach t (idsTo (due k t a) b)
-  unfolding row step idsTo splitEach
+  pub balance-row : (b : ℕ) → b ≤ n → row balancing k t a b ≡ split_each t (ids_to (due k t a) b)
+  unfolding row step ids_to split_each
   balance-row zero hb = refl
   balance-row (suc b) hb =
-      ap₂ (λ (d : Bool) (u : List Cell). splitIf d u b) (due-as-was b hb) (balance-row b (omega arith))
-      ∙ each-one (splitEach t (idsTo (due k t a) b)) b (due k t a b)
-      ∙ sym (each_append t (idsTo (due k t a) b) (oneIf (due k t a b) b))
+      ap₂ (λ (d : Bool) (u : List Cell). split_if d u b) (due-as-was b hb) (balance-row b (omega arith))
+      ∙ each-one (split_each t (ids_to (due k t a) b)) b (due k t a b)
+      ∙ sym (each_append t (ids_to (due k t a) b) (one_if (due k t a b) b))
 
 -- ---- a conforming row
 
-pub conform-row : (k : ℕ) (t : List Cell) (a : ℕ) → a < length t → (n : ℕ) → row conforming k t a n ≡ splitIf (anyTo (λ b. due k t b a) n) t a
-unfolding row anyTo step
+pub conform-row : (k : ℕ) (t : List Cell) (a : ℕ) → a < length t → (n : ℕ) → row conforming k t a n ≡ split_if (any_to (λ b. due k t b a) n) t a
+unfolding row any_to step
 conform-row k t a ha zero = refl
-conform-row k t a ha (suc n) = go (anyTo (λ b. due k t b a) n) (conform-row k t a ha n)
+conform-row k t a ha (suc n) = go (any_to (λ b. due k t b a) n) (conform-row k t a ha n)
   where
-    go : (d : Bool) → row conforming k t a n ≡ splitIf d t a → row conforming k t a (suc n) ≡ splitIf (d || due k t n a) t a
+    go : (d : Bool) → row conforming k t a n ≡ split_if d t a → row conforming k t a (suc n) ≡ split_if (d || due k t n a) t a
     go true r =
         row-skip conforming k t a n (no-leaf conforming k (row conforming k t a n) a n (rw r (split-no-leaf t a ha))) ∙ r
-    go false r = ap (λ (u : List Cell). splitIf (due k u n a) u a) r
+    go false r = ap (λ (u : List Cell). split_if (due k u n a) u a) r

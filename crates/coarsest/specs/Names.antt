@@ -3,7 +3,7 @@
 -- of the passes.
 use Rattle.std.specs.Prelude.{ℕ, ◌+◌, ◌≤◌, ◌<◌, ◌≡◌, Bool, true, false, not, List, [], ◌∷◌, length}
 use Rattle.std.proofs.Math.Option.{Option, none, some}
-use Rattle.cell.specs.Boxes.{Box, Quad, num, quadrant, sharesEdge}
+use Rattle.cell.specs.Boxes.{Box, Quad, num, quadrant, shares_edge}
 use Rattle.table.specs.Mesh.{Cell, at, is_none}
 use Rattle.table.specs.Formed.{Formed}
 
@@ -42,7 +42,7 @@ pub record Admissible (k M : ℕ) (R : Roots) (S : Splitting) : Type 0 where
   pub rooted : (r : ℕ) (p : Route) → S r p ≡ true → (A : Box) × (R r ≡ some A)
   pub closed : (r : ℕ) (q : Quad) (p : Route) → S r (q ∷ p) ≡ true → S r p ≡ true
   pub deep : (r : ℕ) (p : Route) → S r p ≡ true → length p < M
-  pub even : (r s : ℕ) (p q : Route) (A B : Box) → Leaf R S r p A → Leaf R S s q B → sharesEdge A B ≡ true → length p ≤ length q + k
+  pub even : (r s : ℕ) (p q : Route) (A B : Box) → Leaf R S r p A → Leaf R S s q B → shares_edge A B ≡ true → length p ≤ length q + k
 
 infix 20 ◌⊆◌
 -- S splits what T splits
@@ -66,16 +66,16 @@ pub record HasCells (R : Roots) (S : Splitting) (n : ℕ) : Type 0 where
 
 -- ---- of a table: its roots, the id of a name, and its splitting
 
-abbrev pub rootIf : Option ℕ → Box → Option Box
-rootIf none B = some B
-rootIf (some j) B = none
+abbrev pub root_if : Option ℕ → Box → Option Box
+root_if none B = some B
+root_if (some j) B = none
 
-unfoldable pub rootsOf : List Cell → Roots
-rootsOf t r = rootIf (at t r).parent (at t r).box
+unfoldable pub roots_of : List Cell → Roots
+roots_of t r = root_if (at t r).parent (at t r).box
 
-abbrev pub idIf : Option ℕ → ℕ → Option ℕ
-idIf none r = some r
-idIf (some j) r = none
+abbrev pub id_if : Option ℕ → ℕ → Option ℕ
+id_if none r = some r
+id_if (some j) r = none
 
 abbrev pub plus : Option ℕ → Quad → Option ℕ
 plus none q = none
@@ -86,26 +86,26 @@ kid_of t none q = none
 kid_of t (some i) q = plus (at t i).kids q
 
 unfoldable pub find : List Cell → ℕ → Route → Option ℕ
-find t r [] = idIf (at t r).parent r
+find t r [] = id_if (at t r).parent r
 find t r (q ∷ p) = kid_of t (find t r p) q
 
-abbrev pub splitIn : List Cell → Option ℕ → Bool
-splitIn t none = false
-splitIn t (some i) = not (is_none (at t i).kids)
+abbrev pub split_in : List Cell → Option ℕ → Bool
+split_in t none = false
+split_in t (some i) = not (is_none (at t i).kids)
 
 unfoldable pub splitting : List Cell → Splitting
-splitting t r p = splitIn t (find t r p)
+splitting t r p = split_in t (find t r p)
 
 -- ---- what balance (k is 1) and conform (k is 0) are to come to
 
 -- the table u, of the same roots, has the coarsest splitting that keeps t's splits
 pub record Evens (k M : ℕ) (t u : List Cell) : Type 0 where
   pub formed : Formed M u
-  pub roots : (r : ℕ) → rootsOf u r ≡ rootsOf t r
-  pub coarsest : Coarsest k M (rootsOf t) (splitting t) (splitting u)
+  pub roots : (r : ℕ) → roots_of u r ≡ roots_of t r
+  pub coarsest : Coarsest k M (roots_of t) (splitting t) (splitting u)
 
--- "demand 3's coarsest splitting has" n cells
+-- the coarsest splitting has n cells
 pub record Needs (k M : ℕ) (t : List Cell) (n : ℕ) : Type 0 where
   pub splits : Splitting
-  pub coarsest : Coarsest k M (rootsOf t) (splitting t) splits
-  pub cells : HasCells (rootsOf t) splits n
+  pub coarsest : Coarsest k M (roots_of t) (splitting t) splits
+  pub cells : HasCells (roots_of t) splits n

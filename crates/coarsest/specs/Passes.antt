@@ -1,23 +1,23 @@
--- Balance and conform as document 01 says them, over a table with no limit on room: one definition over the allowed difference of
--- levels. Document 01: "Balance makes passes over the leaves of the pass's start in id order: for each a still a leaf, each other b
+-- Balance and conform as the rules say them, over a table with no limit on room: one definition over the allowed difference of
+-- levels. The rules: "Balance makes passes over the leaves of the pass's start in id order: for each a still a leaf, each other b
 -- still a leaf, if a's level exceeds b's by two or more and they share an edge, b is split. Conform: if a is coarser than b and they
 -- share an edge, a is split and the next a is taken. Both end after a pass without a split."
 use Rattle.std.specs.Prelude.{ℕ, zero, suc, ◌+◌, ◌*◌, ◌-◌, Bool, true, false, ◌&&◌, List, [], ◌∷◌, ltb, eqb, length}
-use Rattle.cell.specs.Boxes.{sharesEdge}
-use Rattle.table.specs.Mesh.{Cell, at, split, is_none, isLeaf}
-use Rattle.table.specs.Leaves.{idsTo}
+use Rattle.cell.specs.Boxes.{shares_edge}
+use Rattle.table.specs.Mesh.{Cell, at, split, is_none, is_leaf}
+use Rattle.table.specs.Leaves.{ids_to}
 
 -- the leaf C has to be split for the leaf F: F is finer by more than k levels, and they share an edge.
 -- No cell is finer than itself, so this says "other" too
-abbrev pub dueCells : ℕ → Cell → Cell → Bool
-dueCells k F C = is_none F.kids && (is_none C.kids && (ltb (C.level + k) F.level && sharesEdge F.box C.box))
+abbrev pub due_cells : ℕ → Cell → Cell → Bool
+due_cells k F C = is_none F.kids && (is_none C.kids && (ltb (C.level + k) F.level && shares_edge F.box C.box))
 
 unfoldable pub due : ℕ → List Cell → ℕ → ℕ → Bool
-due k t f c = dueCells k (at t f) (at t c)
+due k t f c = due_cells k (at t f) (at t c)
 
-abbrev pub splitIf : Bool → List Cell → ℕ → List Cell
-splitIf true t c = split t c
-splitIf false t c = t
+abbrev pub split_if : Bool → List Cell → ℕ → List Cell
+split_if true t c = split t c
+split_if false t c = t
 
 -- which of a pair (a, b) is the coarser one, that is split: b, or a
 pub data Engine : Type 0 where
@@ -25,25 +25,25 @@ pub data Engine : Type 0 where
 
 -- one pair: nothing is done unless both are still leaves. Once a is split no pair of a is due, so that conform takes the next a
 unfoldable pub step : Engine → ℕ → List Cell → ℕ → ℕ → List Cell
-step balancing k t a b = splitIf (due k t a b) t b
-step conforming k t a b = splitIf (due k t b a) t a
+step balancing k t a b = split_if (due k t a b) t b
+step conforming k t a b = split_if (due k t b a) t a
 
 -- a with each b of a list, in order; and each a of a list with each of the bs
-unfoldable pub withEach : Engine → ℕ → List Cell → ℕ → List ℕ → List Cell
-withEach e k t a [] = t
-withEach e k t a (b ∷ bs) = withEach e k (step e k t a b) a bs
+unfoldable pub with_each : Engine → ℕ → List Cell → ℕ → List ℕ → List Cell
+with_each e k t a [] = t
+with_each e k t a (b ∷ bs) = with_each e k (step e k t a b) a bs
 
-unfoldable pub eachWith : Engine → ℕ → List Cell → List ℕ → List ℕ → List Cell
-eachWith e k t [] bs = t
-eachWith e k t (a ∷ rest) bs = eachWith e k (withEach e k t a bs) rest bs
+unfoldable pub each_with : Engine → ℕ → List Cell → List ℕ → List ℕ → List Cell
+each_with e k t [] bs = t
+each_with e k t (a ∷ rest) bs = each_with e k (with_each e k t a bs) rest bs
 
 -- the leaves in id order
-abbrev pub leavesOf : List Cell → List ℕ
-leavesOf t = idsTo (isLeaf t) (length t)
+abbrev pub leaves_of : List Cell → List ℕ
+leaves_of t = ids_to (is_leaf t) (length t)
 
 -- "over the leaves of the pass's start in id order"
 unfoldable pub pass : Engine → ℕ → List Cell → List Cell
-pass e k t = eachWith e k t (leavesOf t) (leavesOf t)
+pass e k t = each_with e k t (leaves_of t) (leaves_of t)
 
 -- passes until one makes no split, or n of them were made
 unfoldable pub run : Engine → ℕ → ℕ → List Cell → List Cell
@@ -51,25 +51,25 @@ run e k zero t = t
 run e k (suc n) t = elim (eqb (length (pass e k t)) (length t)) [ true ↦ t | false ↦ run e k n (pass e k t) ]
 
 -- how many splits a leaf with n levels below it can still see, and all leaves of a table
-abbrev pub splitsBelow : ℕ → ℕ
-splitsBelow zero = 0
-splitsBelow (suc n) = suc (4 * splitsBelow n)
+abbrev pub splits_below : ℕ → ℕ
+splits_below zero = 0
+splits_below (suc n) = suc (4 * splits_below n)
 
-abbrev pub leftIf : Bool → ℕ → ℕ
-leftIf true n = splitsBelow n
-leftIf false n = 0
+abbrev pub left_if : Bool → ℕ → ℕ
+left_if true n = splits_below n
+left_if false n = 0
 
 abbrev pub left_of : ℕ → Cell → ℕ
-left_of M c = leftIf (is_none c.kids) (M - c.level)
+left_of M c = left_if (is_none c.kids) (M - c.level)
 
-abbrev pub splitsLeft : ℕ → List Cell → ℕ
-splitsLeft M [] = 0
-splitsLeft M (c ∷ cs) = left_of M c + splitsLeft M cs
+abbrev pub splits_left : ℕ → List Cell → ℕ
+splits_left M [] = 0
+splits_left M (c ∷ cs) = left_of M c + splits_left M cs
 
 -- what the passes end in. There are never more passes with a split than splits left: proofs/Evened.antt shows that the last pass made
 -- no split, and that no larger bound ends otherwise
 unfoldable pub evened : Engine → ℕ → ℕ → List Cell → List Cell
-evened e k M t = run e k (splitsLeft M t) t
+evened e k M t = run e k (splits_left M t) t
 
 -- "exceeds by two or more": by more than 1
 unfoldable pub balance : ℕ → List Cell → List Cell

@@ -19,10 +19,10 @@ sweep e k t = rows e k (length t) t (length t)
 
 -- a row at one blow (proofs/Rows.antt): a balancing one splits each b that is due at its start, and a conforming one a, if any b asks for it
 
-unfoldable pub splitEach : List Cell → List ℕ → List Cell
-splitEach t [] = t
-splitEach t (c ∷ cs) = splitEach (split t c) cs
+unfoldable pub split_each : List Cell → List ℕ → List Cell
+split_each t [] = t
+split_each t (c ∷ cs) = split_each (split t c) cs
 
-unfoldable pub anyTo : (ℕ → Bool) → ℕ → Bool
-anyTo f zero = false
-anyTo f (suc n) = anyTo f n || f n
+unfoldable pub any_to : (ℕ → Bool) → ℕ → Bool
+any_to f zero = false
+any_to f (suc n) = any_to f n || f n

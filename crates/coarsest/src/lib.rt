@@ -2,15 +2,15 @@
 #![tactic(auto)]
 
 ghost use Rattle.std.specs.Prelude.{◌≡◌};
-ghost use Rattle.table.specs.Mesh.{meshCell};
-ghost use Rattle.coarsest.specs.Passes.{dueCells};
+ghost use Rattle.table.specs.Mesh.{mesh_cell};
+ghost use Rattle.coarsest.specs.Passes.{due_cells};
 
 use cell::{Cell, shares_edge};
 
 // Whether the leaf b has to be split for the leaf a: a is finer by more than k levels, and they share an edge. Most pairs are told by
 // their levels, so the rectangles come last; a difference of levels cannot wrap where a sum could.
 pub fn due(a: Cell, b: Cell, k: u64) -> bool
-    ensures { result ≡ dueCells k (meshCell a) (meshCell b) }
+    ensures { result ≡ due_cells k (mesh_cell a) (mesh_cell b) }
 {
     if (a.first != Cell::NO_CELL) | (b.first != Cell::NO_CELL) {
         return false;

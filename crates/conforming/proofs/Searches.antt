@@ -5,17 +5,17 @@ use mathlib.Core.Bool.{Bool, true, false, ◌||◌}
 use mathlib.Core.Logic.{⊎_elim}
 use native.Mathlib.Nat.{eq-or-lt_of_le}
 use native.Mathlib.Omega.{arith}
-use Rattle.conforming.specs.Nodes.{anyBelow}
+use Rattle.conforming.specs.Nodes.{any_below}
 
 or-true : (b : Bool) → (b || true) ≡ true
 or-true true = refl
 or-true false = refl
 
-pub any-hit : (p : ℕ → Bool) (n i : ℕ) → i < n → p i ≡ true → anyBelow p n ≡ true
-unfolding anyBelow
+pub any-hit : (p : ℕ → Bool) (n i : ℕ) → i < n → p i ≡ true → any_below p n ≡ true
+unfolding any_below
 any-hit p zero i h e = absurd (omega arith)
 any-hit p (suc n) i h e =
     ⊎_elim
-    (λ (k : i ≡ n). rw (← k, e) (or-true (anyBelow p i)))
+    (λ (k : i ≡ n). rw (← k, e) (or-true (any_below p i)))
     (λ (l : i < n). rw (any-hit p n i l e))
     (eq-or-lt_of_le (omega arith))

@@ -1,39 +1,39 @@
 -- Nodes by their place, and edges by their ends.
 use Rattle.std.specs.Prelude.{ℕ, zero, suc, ◌/◌, Bool, true, false, not, ◌&&◌, ◌||◌, cond, List, length, get_or, eqb, ℤ, pos, Option, None, Some}
-use Rattle.sound_net.specs.Nets.{eqZ, nodeCount, layerAt, componentAt, xAt, yAt, fromAt, to_at}
+use Rattle.sound_net.specs.Nets.{eq_z, node_count, layer_at, component_at, x_at, y_at, from_at, to_at}
 use Rattle.conforming.specs.declared.Whose.{Whose}
 
 -- every node will do
-abbrev pub anyNode : Whose
-anyNode = record { own = false; layer = pos 0; component = pos 0 }
+abbrev pub any_node : Whose
+any_node = record { own = false; layer = pos 0; component = pos 0 }
 
 -- nodes of a polygon's own layer and component
-abbrev pub nodesOf : List ℕ → List ℕ → ℕ → Whose
-nodesOf layers components p = record { own = true; layer = pos (get_or layers p 0); component = pos (get_or components p 0) }
+abbrev pub nodes_of : List ℕ → List ℕ → ℕ → Whose
+nodes_of layers components p = record { own = true; layer = pos (get_or layers p 0); component = pos (get_or components p 0) }
 
 -- node n lies at the place x, y, and is one of those looked for
 unfoldable pub here : List ℤ → Whose → ℤ → ℤ → ℕ → Bool
 here nodes w x y n =
-    eqZ (xAt nodes n) x && eqZ (yAt nodes n) y
-    && (not w.own || (eqZ (layerAt nodes n) w.layer && eqZ (componentAt nodes n) w.component))
+    eq_z (x_at nodes n) x && eq_z (y_at nodes n) y
+    && (not w.own || (eq_z (layer_at nodes n) w.layer && eq_z (component_at nodes n) w.component))
 
 -- some index below n passes a test
-unfoldable pub anyBelow : (ℕ → Bool) → ℕ → Bool
-anyBelow p zero = false
-anyBelow p (suc n) = anyBelow p n || p n
+unfoldable pub any_below : (ℕ → Bool) → ℕ → Bool
+any_below p zero = false
+any_below p (suc n) = any_below p n || p n
 
 -- the last index below n that passes a test
-unfoldable pub lastBelow : (ℕ → Bool) → ℕ → Option ℕ
-lastBelow p zero = None
-lastBelow p (suc n) = cond (p n) (Some n) (lastBelow p n)
+unfoldable pub last_below : (ℕ → Bool) → ℕ → Option ℕ
+last_below p zero = None
+last_below p (suc n) = cond (p n) (Some n) (last_below p n)
 
 -- "the last one winning"
-abbrev pub nodeAt : List ℤ → Whose → ℤ → ℤ → Option ℕ
-nodeAt nodes w x y = lastBelow (here nodes w x y) (nodeCount nodes)
+abbrev pub node_at : List ℤ → Whose → ℤ → ℤ → Option ℕ
+node_at nodes w x y = last_below (here nodes w x y) (node_count nodes)
 
 -- edge e joins a and b, one way or the other
 unfoldable pub joins : List ℕ → ℕ → ℕ → ℕ → Bool
-joins ends a b e = (eqb (fromAt ends e) a && eqb (to_at ends e) b) || (eqb (fromAt ends e) b && eqb (to_at ends e) a)
+joins ends a b e = (eqb (from_at ends e) a && eqb (to_at ends e) b) || (eqb (from_at ends e) b && eqb (to_at ends e) a)
 
 abbrev pub joined : List ℕ → ℕ → ℕ → Bool
-joined ends a b = anyBelow (joins ends a b) (length ends / 2)
+joined ends a b = any_below (joins ends a b) (length ends / 2)

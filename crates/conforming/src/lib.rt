@@ -5,9 +5,9 @@
 
 ghost use Rattle.std.specs.Prelude.{◌≡◌, ℕ, ◌+◌, ◌*◌, ◌/◌, ◌<◌, ◌≤◌, length, ltb};
 ghost use Rattle.table.specs.Slots.{cell_at};
-ghost use Rattle.sound_net.specs.Nets.{netOf, all_below};
-ghost use Rattle.conforming.specs.Nodes.{anyNode, nodesOf, here, nodeAt, joins, joined};
-ghost use Rattle.conforming.specs.Checks.{chain, sidesFault, leafFault, cellFault, netFault, layerFault, polygonsFit, faultOf, checkedSaid, conformingSays, layersSays};
+ghost use Rattle.sound_net.specs.Nets.{net_of, all_below};
+ghost use Rattle.conforming.specs.Nodes.{any_node, nodes_of, here, node_at, joins, joined};
+ghost use Rattle.conforming.specs.Checks.{chain, sides_fault, leaf_fault, cell_fault, net_fault, layer_fault, polygons_fit, fault_of, checked_said, conforming_says, layers_says};
 
 use cell::Cell;
 use refusals::Refusal;
@@ -51,9 +51,9 @@ fn is_here(nodes: &[i64], whose: Whose, x: i64, y: i64, n: usize) -> bool
 }
 
 // The last node at a place.
-#[tactic(auto, unfolding(crate::specs::Nodes::lastBelow))]
+#[tactic(auto, unfolding(crate::specs::Nodes::last_below))]
 fn node_at(nodes: &[i64], whose: Whose, x: i64, y: i64) -> Option<usize>
-    ensures { result ≡ nodeAt nodes.now whose x y }
+    ensures { result ≡ node_at nodes.now whose x y }
 {
     for n in (0..nodes.len() / 4).rev() {
         if is_here(nodes, whose, x, y, n) {
@@ -76,7 +76,7 @@ fn edge_joins(ends: &[u64], a: usize, b: usize, e: usize) -> bool
 }
 
 // Whether an edge joins two nodes.
-#[tactic(auto, unfolding(crate::specs::Nodes::anyBelow))]
+#[tactic(auto, unfolding(crate::specs::Nodes::any_below))]
 fn are_joined(ends: &[u64], a: usize, b: usize) -> bool
     ensures { result ≡ joined ends.now a b }
 {
@@ -101,7 +101,7 @@ fn side_fault(
     mx: i64,
     my: i64,
 ) -> Fault
-    ensures { faultOf result ≡ chain nodes.now ends.now whose ax ay bx by mx my }
+    ensures { fault_of result ≡ chain nodes.now ends.now whose ax ay bx by mx my }
 {
     let Some(m) = node_at(nodes, whose, mx, my) else {
         return Fault::Clear;
@@ -119,7 +119,7 @@ fn side_fault(
 }
 
 // The four edges of a leaf: south, east, north, west, walked anticlockwise.
-#[tactic(auto, unfolding(crate::specs::Checks::sidesFault))]
+#[tactic(auto, unfolding(crate::specs::Checks::sides_fault))]
 fn sides_fault(
     nodes: &[i64],
     ends: &[u64],
@@ -131,7 +131,7 @@ fn sides_fault(
     mx: i64,
     my: i64,
 ) -> Fault
-    ensures { faultOf result ≡ sidesFault nodes.now ends.now whose west south east north mx my }
+    ensures { fault_of result ≡ sides_fault nodes.now ends.now whose west south east north mx my }
 {
     let first = side_fault(nodes, ends, whose, west, south, east, south, mx, south);
     let Fault::Clear = first else {
@@ -148,9 +148,9 @@ fn sides_fault(
     side_fault(nodes, ends, whose, west, north, west, south, west, my)
 }
 
-#[tactic(auto, unfolding(crate::specs::Checks::leafFault))]
+#[tactic(auto, unfolding(crate::specs::Checks::leaf_fault))]
 fn leaf_fault(nodes: &[i64], ends: &[u64], whose: Whose, c: Cell) -> Fault
-    ensures { faultOf result ≡ leafFault nodes.now ends.now whose c }
+    ensures { fault_of result ≡ leaf_fault nodes.now ends.now whose c }
 {
     let m = c.midpoint();
     let west = cell::ticks::ticks(c.x0);
@@ -163,10 +163,10 @@ fn leaf_fault(nodes: &[i64], ends: &[u64], whose: Whose, c: Cell) -> Fault
 }
 
 // Internal: the cell stands in the table.
-#[tactic(auto, unfolding(crate::specs::Checks::cellFault, table::specs::Leaves::leafAt))]
+#[tactic(auto, unfolding(crate::specs::Checks::cell_fault, table::specs::Leaves::leaf_at))]
 fn cell_fault(t: &[i64], nodes: &[i64], ends: &[u64], whose: Whose, i: usize) -> Fault
     requires { i * 8 + 8 ≤ length t.now }
-    ensures { faultOf result ≡ cellFault t.now nodes.now ends.now whose i }
+    ensures { fault_of result ≡ cell_fault t.now nodes.now ends.now whose i }
 {
     let c = table::slots::cell_at(t, i);
     if c.first != Cell::NO_CELL {
@@ -178,7 +178,7 @@ fn cell_fault(t: &[i64], nodes: &[i64], ends: &[u64], whose: Whose, i: usize) ->
 // The nodes of polygon p's layer and component. Internal: the polygon stands in the rows.
 fn nodes_of(layers: &[u16], components: &[u32], p: usize) -> Whose
     requires { (p < length layers.now) × (p < length components.now) }
-    ensures { result ≡ nodesOf layers.now components.now p }
+    ensures { result ≡ nodes_of layers.now components.now p }
 {
     Whose {
         own: true,
@@ -188,10 +188,10 @@ fn nodes_of(layers: &[u16], components: &[u32], p: usize) -> Whose
 }
 
 // The first fault of the leaves by id. Internal: the cells stand in the table.
-#[tactic(auto, unfolding(crate::specs::Checks::netFault, crate::specs::Checks::firstFault))]
+#[tactic(auto, unfolding(crate::specs::Checks::net_fault, crate::specs::Checks::first_fault))]
 fn net_fault(t: &[i64], n: usize, nodes: &[i64], ends: &[u64]) -> Fault
     requires { n * 8 ≤ length t.now }
-    ensures { faultOf result ≡ netFault t.now n nodes.now ends.now }
+    ensures { fault_of result ≡ net_fault t.now n nodes.now ends.now }
 {
     for i in 0..n {
         let fault = cell_fault(t, nodes, ends, ANY_NODE, i);
@@ -203,7 +203,7 @@ fn net_fault(t: &[i64], n: usize, nodes: &[i64], ends: &[u64]) -> Fault
 }
 
 // The same by layer. Internal: the cells stand in the table, and their polygons in the rows.
-#[tactic(auto, unfolding(crate::specs::Checks::layerFault, crate::specs::Checks::firstFault))]
+#[tactic(auto, unfolding(crate::specs::Checks::layer_fault, crate::specs::Checks::first_fault))]
 fn layer_fault(
     t: &[i64],
     n: usize,
@@ -213,7 +213,7 @@ fn layer_fault(
     components: &[u32],
 ) -> Fault
     requires { (n * 8 ≤ length t.now) × (length layers.now ≡ length components.now) × ((i : ℕ) → i < n → (cell_at t.now i).poly < length layers.now) }
-    ensures { faultOf result ≡ layerFault t.now n nodes.now ends.now layers.now components.now }
+    ensures { fault_of result ≡ layer_fault t.now n nodes.now ends.now layers.now components.now }
 {
     for i in 0..n {
         let p = table::slots::poly_at(t, i) as usize;
@@ -234,16 +234,16 @@ fn polygons_below(t: &[i64], n: usize, count: usize) -> bool
 }
 
 // Whether the rows of the polygons are of one length, and no cell names a polygon past the last. Internal: the cells stand in the table.
-#[tactic(auto, unfolding(crate::specs::Checks::polygonsFit))]
+#[tactic(auto, unfolding(crate::specs::Checks::polygons_fit))]
 pub fn polygons_fit(t: &[i64], n: usize, layers: &[u16], components: &[u32]) -> bool
     requires { n * 8 ≤ length t.now }
-    ensures { result ≡ polygonsFit t.now n layers.now components.now }
+    ensures { result ≡ polygons_fit t.now n layers.now components.now }
 {
     (layers.len() == components.len()) & polygons_below(t, n, layers.len())
 }
 
-// check_network_conforming of document 01. Refuses 7 only: a bad table or a bad net.
-#[tactic(auto, unfolding(crate::specs::Checks::conformingSays))]
+// check_network_conforming of the rules. Refuses 7 only: a bad table or a bad net.
+#[tactic(auto, unfolding(crate::specs::Checks::conforming_says))]
 pub fn check_network_conforming(
     t: &[i64],
     head: Head,
@@ -253,7 +253,7 @@ pub fn check_network_conforming(
     corners: &[u64],
     sheets: &[f64],
 ) -> Result<Fault, Refusal>
-    ensures { checkedSaid result ≡ conformingSays t.now head.count head.max_level (netOf nodes.now ends.now conductances.now corners.now sheets.now) }
+    ensures { checked_said result ≡ conforming_says t.now head.count head.max_level (net_of nodes.now ends.now conductances.now corners.now sheets.now) }
 {
     if !table::formed::well_formed(t, head)
         || !sound_net::is_sound(nodes, ends, conductances, corners, sheets)
@@ -264,7 +264,7 @@ pub fn check_network_conforming(
 }
 
 // The by-layer check: nodes of the leaf's own layer and component. Refuses 7 for the polygons too.
-#[tactic(auto, unfolding(crate::specs::Checks::layersSays))]
+#[tactic(auto, unfolding(crate::specs::Checks::layers_says))]
 pub fn check_by_layer(
     t: &[i64],
     head: Head,
@@ -276,7 +276,7 @@ pub fn check_by_layer(
     layers: &[u16],
     components: &[u32],
 ) -> Result<Fault, Refusal>
-    ensures { checkedSaid result ≡ layersSays t.now head.count head.max_level (netOf nodes.now ends.now conductances.now corners.now sheets.now) layers.now components.now }
+    ensures { checked_said result ≡ layers_says t.now head.count head.max_level (net_of nodes.now ends.now conductances.now corners.now sheets.now) layers.now components.now }
 {
     if !table::formed::well_formed(t, head)
         || !sound_net::is_sound(nodes, ends, conductances, corners, sheets)

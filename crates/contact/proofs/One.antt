@@ -8,7 +8,7 @@ use Rattle.refusals.specs.Said.{bit}
 use Rattle.refusals.specs.declared.Refusal.{Refusal}
 use Rattle.refusals.proofs.Settled.{one-said}
 use Rattle.contact.specs.declared.Rect.{Rect}
-use Rattle.contact.specs.Contact.{contactSaid, contactSays}
+use Rattle.contact.specs.Contact.{contact_said, contact_says}
 
 abbrev pub told-bit : List ℕ → Bool
 told-bit [] = false
@@ -19,5 +19,5 @@ bit-back : (b : Bool) → told-bit (bit b ∷ []) ≡ b
 bit-back true = refl
 bit-back false = refl
 
-pub one-contact : (a b : Rect) (r q : Result Bool Refusal) → contactSaid r ≡ contactSays a b → contactSaid q ≡ contactSays a b → r ≡ q
-one-contact a b = one-said (λ b. bit b ∷ []) told-bit bit-back (contactSays a b)
+pub one-contact : (a b : Rect) (r q : Result Bool Refusal) → contact_said r ≡ contact_says a b → contact_said q ≡ contact_says a b → r ≡ q
+one-contact a b = one-said (λ b. bit b ∷ []) told-bit bit-back (contact_says a b)

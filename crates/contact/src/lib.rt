@@ -2,9 +2,9 @@
 #![tactic(auto)]
 
 ghost use Rattle.std.specs.Prelude.{◌≡◌};
-ghost use Rattle.cell.specs.Cells.{rootOf};
+ghost use Rattle.cell.specs.Cells.{root_of};
 ghost use Rattle.cell.specs.Ticks.{off};
-ghost use Rattle.contact.specs.Contact.{soundRect, contactSaid, contactSays};
+ghost use Rattle.contact.specs.Contact.{sound_rect, contact_said, contact_says};
 
 use cell::Cell;
 use cell::ticks::{in_range, offset};
@@ -20,9 +20,9 @@ pub struct Rect {
 
 impl Rect {
     // All four coordinates are in range and both sides positive.
-    #[tactic(auto, unfolding(crate::specs::Contact::soundRect))]
+    #[tactic(auto, unfolding(crate::specs::Contact::sound_rect))]
     fn is_sound(self) -> bool
-        ensures { result ≡ soundRect self }
+        ensures { result ≡ sound_rect self }
     {
         in_range(self.x0)
             & in_range(self.y0)
@@ -34,7 +34,7 @@ impl Rect {
 
     // The rectangle as a cell. Only its box counts here.
     fn as_cell(self) -> Cell
-        ensures { result ≡ rootOf (off self.x0) (off self.y0) (off self.x1) (off self.y1) 0 }
+        ensures { result ≡ root_of (off self.x0) (off self.y0) (off self.x1) (off self.y1) 0 }
     {
         Cell::root(
             offset(self.x0),
@@ -46,11 +46,11 @@ impl Rect {
     }
 }
 
-// Contact of document 01: refusal 3 for a coordinate out of range or a side that isn't positive, else whether they share
+// Contact of the rules: refusal 3 for a coordinate out of range or a side that isn't positive, else whether they share
 // an edge.
-#[tactic(auto, unfolding(crate::specs::Contact::contactSays))]
+#[tactic(auto, unfolding(crate::specs::Contact::contact_says))]
 pub fn between(a: Rect, b: Rect) -> Result<bool, Refusal>
-    ensures { contactSaid result ≡ contactSays a b }
+    ensures { contact_said result ≡ contact_says a b }
 {
     if !(a.is_sound() & b.is_sound()) {
         return Err(Refusal::OutOfRange(0));

@@ -7,7 +7,7 @@ use mathlib.Core.Option.{none, some}
 use mathlib.Core.List.{List}
 use native.Mathlib.Omega.{arith}
 use lib.ListN.{length}
-use Rattle.cell.specs.Boxes.{Quad, num, quadrant, sharesEdge}
+use Rattle.cell.specs.Boxes.{Quad, num, quadrant, shares_edge}
 use Rattle.table.specs.Mesh.{Cell, at}
 use Rattle.table.specs.Formed.{Formed}
 use Rattle.table.proofs.Meshes.{num-below, kids-in}
@@ -81,7 +81,7 @@ aside-unwanted M t formed p low high a s w = apart-unwanted M t formed p low hig
 
 -- a leaf that shares an edge with a child of p meets p
 pub kid-meets : (M : ℕ) (t : List Cell) → Formed M t → (p f y a : ℕ) (q : Quad) → (at t p).kids ≡ some f → y ≡ f + num q → a < length t
-    → sharesEdge (at t a).box (at t y).box ≡ true → meet (at t p).box (at t a).box ≡ true
+    → shares_edge (at t a).box (at t y).box ≡ true → meet (at t p).box (at t a).box ≡ true
 kid-meets M t formed p f y a q kids e ha shares =
     let s = formed.split p f kids in
     let b = s.below in

@@ -9,7 +9,7 @@ use native.Mathlib.Omega.{arith}
 use lib.Dec.{ltb, leb}
 use lib.ListN.{length}
 use borrow.Author.Tests.{leb-true, le-leb, lt-leb, le-ltb, lt-ltb}
-use Rattle.cell.specs.Boxes.{Box, Quad, sw, se, nw, ne, num, quadrant, sharesEdge}
+use Rattle.cell.specs.Boxes.{Box, Quad, sw, se, nw, ne, num, quadrant, shares_edge}
 use Rattle.cell.proofs.Contact.{and_both, and_left, and_right, Touch, east, west, north, south, shares→touch, shares-sym}
 use Rattle.table.specs.Mesh.{Cell, past, at}
 use Rattle.table.specs.Formed.{Formed}
@@ -19,7 +19,7 @@ use Rattle.coarsest.specs.Names.{Route, find}
 use Rattle.coarsest.proofs.Least.{due-of}
 use Rattle.coarsest.proofs.Find.{find-up, find-root, find-rooted, named}
 use Rattle.coarsest.proofs.Sides.{cell-sides}
-use Rattle.descent.specs.Search.{meet, nearCells, Reach, Under}
+use Rattle.descent.specs.Search.{meet, near_cells, Reach, Under}
 
 pub record Meet (a b : Box) : Type 0 where
   pub west : a.x0 ≤ b.x1
@@ -61,7 +61,7 @@ touch-meet a b s r (west e h) = let w = s.wide in let v = r.wide in record { wes
 touch-meet a b s r (north e h) = let w = s.high in let v = r.high in record { west = omega arith; east = omega arith; south = omega arith; north = omega arith }
 touch-meet a b s r (south e h) = let w = s.high in let v = r.high in record { west = omega arith; east = omega arith; south = omega arith; north = omega arith }
 
-pub shares-meet : (a b : Box) → Straight a → Straight b → sharesEdge a b ≡ true → Meet a b
+pub shares-meet : (a b : Box) → Straight a → Straight b → shares_edge a b ≡ true → Meet a b
 shares-meet a b s r e = touch-meet a b s r (shares→touch a b e)
 
 -- a box meets what a quadrant of it meets
@@ -152,8 +152,8 @@ module _ (M : ℕ) (t : List Cell) (formed : Formed M t) where
   under-above a c b u m = above a u.route c b u.reach m
 
   -- what is to be split for a stands in the subtrees of near cells only
-  pub near_of : (k a c b : ℕ) → a < length t → b < length t → Under t c b → due k t a b ≡ true → nearCells k (at t a) (at t c) ≡ true
-  unfolding nearCells
+  pub near_of : (k a c b : ℕ) → a < length t → b < length t → Under t c b → due k t a b ≡ true → near_cells k (at t a) (at t c) ≡ true
+  unfolding near_cells
   near_of k a c b ha hb u d =
       let w = due-of k t a b d in
       let v = above (at t a).box u.route c b u.reach (shares-meet (at t a).box (at t b).box (straight a ha) (straight b hb) w.shares) in
@@ -169,12 +169,12 @@ module _ (M : ℕ) (t : List Cell) (formed : Formed M t) where
       (above (at t a).box u.route c b u.reach (shares-meet (at t a).box (at t b).box (straight a ha) (straight b hb) e)).meets
 
 -- the tests by their numbers
-pub near-level : (k : ℕ) (a c : Cell) → a.level ≤ c.level + k → nearCells k a c ≡ false
-unfolding nearCells
+pub near-level : (k : ℕ) (a c : Cell) → a.level ≤ c.level + k → near_cells k a c ≡ false
+unfolding near_cells
 near-level k a c h = rw (le-ltb (c.level + k) a.level h)
 
-pub near_apart : (k : ℕ) (a c : Cell) → meet a.box c.box ≡ false → nearCells k a c ≡ false
-unfolding nearCells
+pub near_apart : (k : ℕ) (a c : Cell) → meet a.box c.box ≡ false → near_cells k a c ≡ false
+unfolding near_cells
 near_apart k a c e = rw e (and_no (ltb (c.level + k) a.level))
   where
     and_no : (b : Bool) → (b && false) ≡ false

@@ -11,7 +11,7 @@ use borrow.Author.Tests.{ltb-true, leb-true}
 use Rattle.refusals.specs.Limits.{coordinate}
 use Rattle.cell.specs.Ticks.{in_range, off}
 use Rattle.cell.proofs.Contact.{and_left, and_right}
-use Rattle.cell.specs.Cells.{boxOf}
+use Rattle.cell.specs.Cells.{box_of}
 use Rattle.table.specs.Slots.{number, start, cell_at, in_slot}
 use Rattle.descent.specs.Search.{meet}
 use Rattle.descent.proofs.Meeting.{apart-west, apart-east, apart-south, apart-north}
@@ -53,21 +53,21 @@ corners t i e =
 
 -- two slots whose boxes lie apart
 module _ (t : List ℤ) (a c : ℕ) (ia : in_slot t a ≡ true) (ic : in_slot t c ≡ true) where
-  pub lie-west : lt_z (number t c 2) (start t a) ≡ true → meet (boxOf (cell_at t a)) (boxOf (cell_at t c)) ≡ false
+  pub lie-west : lt_z (number t c 2) (start t a) ≡ true → meet (box_of (cell_at t a)) (box_of (cell_at t c)) ≡ false
   unfolding cell_at
-  lie-west e = apart-west (boxOf (cell_at t a)) (boxOf (cell_at t c)) (off_less (number t c 2) (start t a) (corners t c ic).x1 (corners t a ia).x0 e)
+  lie-west e = apart-west (box_of (cell_at t a)) (box_of (cell_at t c)) (off_less (number t c 2) (start t a) (corners t c ic).x1 (corners t a ia).x0 e)
 
-  pub lie-east : lt_z (number t a 2) (start t c) ≡ true → meet (boxOf (cell_at t a)) (boxOf (cell_at t c)) ≡ false
+  pub lie-east : lt_z (number t a 2) (start t c) ≡ true → meet (box_of (cell_at t a)) (box_of (cell_at t c)) ≡ false
   unfolding cell_at
-  lie-east e = apart-east (boxOf (cell_at t a)) (boxOf (cell_at t c)) (off_less (number t a 2) (start t c) (corners t a ia).x1 (corners t c ic).x0 e)
+  lie-east e = apart-east (box_of (cell_at t a)) (box_of (cell_at t c)) (off_less (number t a 2) (start t c) (corners t a ia).x1 (corners t c ic).x0 e)
 
-  pub lie-south : lt_z (number t c 3) (number t a 1) ≡ true → meet (boxOf (cell_at t a)) (boxOf (cell_at t c)) ≡ false
+  pub lie-south : lt_z (number t c 3) (number t a 1) ≡ true → meet (box_of (cell_at t a)) (box_of (cell_at t c)) ≡ false
   unfolding cell_at
-  lie-south e = apart-south (boxOf (cell_at t a)) (boxOf (cell_at t c)) (off_less (number t c 3) (number t a 1) (corners t c ic).y1 (corners t a ia).y0 e)
+  lie-south e = apart-south (box_of (cell_at t a)) (box_of (cell_at t c)) (off_less (number t c 3) (number t a 1) (corners t c ic).y1 (corners t a ia).y0 e)
 
-  pub lie-north : lt_z (number t a 3) (number t c 1) ≡ true → meet (boxOf (cell_at t a)) (boxOf (cell_at t c)) ≡ false
+  pub lie-north : lt_z (number t a 3) (number t c 1) ≡ true → meet (box_of (cell_at t a)) (box_of (cell_at t c)) ≡ false
   unfolding cell_at
-  lie-north e = apart-north (boxOf (cell_at t a)) (boxOf (cell_at t c)) (off_less (number t a 3) (number t c 1) (corners t a ia).y1 (corners t c ic).y0 e)
+  lie-north e = apart-north (box_of (cell_at t a)) (box_of (cell_at t c)) (off_less (number t a 3) (number t c 1) (corners t a ia).y1 (corners t c ic).y0 e)
 
 -- what the test of two slots needs
 pub ruleset lying = (lie-west, lie-east, lie-south, lie-north)

@@ -10,7 +10,7 @@ use native.Mathlib.Decide.{dec_lt, ℕ_discrete}
 use lib.IntN.{ℤ}
 use lib.ListN.{length}
 use Rattle.table.specs.Slots.{cell_at}
-use Rattle.table.specs.Mesh.{Cell, at, table, meshCell}
+use Rattle.table.specs.Mesh.{Cell, at, table, mesh_cell}
 use Rattle.table.specs.Formed.{Formed, WellFormed}
 use Rattle.table.proofs.Cells.{length-table}
 use Rattle.table.proofs.Meshes.{root_in}
@@ -55,7 +55,7 @@ module _ (k M : ℕ) (t : List ℤ) (n a : ℕ) (w : WellFormed t n M) (ha : a <
   aside_none b s d =
       let i = inside s.0 s.1 in
       far_none t n k M a s.0 w ha i
-      (near_apart k (meshCell (cell_at t a)) (meshCell (cell_at t s.0)) (sym (meet-slots t n a s.0 ha i) ∙ s.2)) b s.3 d
+      (near_apart k (mesh_cell (cell_at t a)) (mesh_cell (cell_at t s.0)) (sym (meet-slots t n a s.0 ha i) ∙ s.2)) b s.3 d
 
   pub aside-asks : (b : ℕ) → Aside (table t n) a b → due k (table t n) b a ≡ true → ⊥
   aside-asks b s d =

@@ -4,8 +4,8 @@ use Rattle.std.proofs.Math.Option.{none}
 use Rattle.table.specs.Mesh.{Cell, at}
 use Rattle.descent.specs.Search.{meet}
 
-abbrev pub markAt : List Bool → ℕ → Bool
-markAt marks a = get_or marks (a / 8) false
+abbrev pub mark_at : List Bool → ℕ → Bool
+mark_at marks a = get_or marks (a / 8) false
 
 -- a is a leaf of a level from low to high that meets the cell p
 pub record Wanted (t : List Cell) (p low high a : ℕ) : Type 0 where
@@ -18,4 +18,4 @@ pub record Wanted (t : List Cell) (p low high a : ℕ) : Type 0 where
 pub record Marked (seen wanted : ℕ → Type 0) (old new : List Bool) : Type 0 where
   pub size : length new ≡ length old
   pub kept : (i : ℕ) → get_or old i false ≡ true → get_or new i false ≡ true
-  pub marked : (a : ℕ) → seen a → wanted a → markAt new a ≡ true
+  pub marked : (a : ℕ) → seen a → wanted a → mark_at new a ≡ true

@@ -10,8 +10,8 @@ unfoldable pub meet : Box → Box → Bool
 meet a b = (leb a.x0 b.x1 && leb b.x0 a.x1) && (leb a.y0 b.y1 && leb b.y0 a.y1)
 
 -- the cell C meets A and is coarser by more than k
-unfoldable pub nearCells : ℕ → Cell → Cell → Bool
-nearCells k A C = ltb (C.level + k) A.level && meet A.box C.box
+unfoldable pub near_cells : ℕ → Cell → Cell → Bool
+near_cells k A C = ltb (C.level + k) A.level && meet A.box C.box
 
 -- the route from c, the topmost quadrant first, leads to b
 abbrev pub Reach : List Cell → Route → ℕ → ℕ → Type 0
@@ -50,13 +50,13 @@ abbrev pub Clears : Box → Box → Type 0
 Clears a b = (x : Box) → Within x b → meet a x ≡ false
 
 -- the index of the roots has a box of four numbers for each block of 64 ids
-abbrev pub blockBox : List (List ℕ) → ℕ → Box
-blockBox boxes j =
+abbrev pub block_box : List (List ℕ) → ℕ → Box
+block_box boxes j =
     record { x0 = get_or (get_or boxes j []) 0 0; y0 = get_or (get_or boxes j []) 1 0; x1 = get_or (get_or boxes j []) 2 0; y1 = get_or (get_or boxes j []) 3 0 }
 
 -- each root's id is below top, and its block's box holds it
 abbrev pub Indexed : ℕ → List (List ℕ) → List Cell → Type 0
-Indexed top boxes t = (i : ℕ) → (at t i).parent ≡ none → (i < top) × Within (at t i).box (blockBox boxes (i / 64))
+Indexed top boxes t = (i : ℕ) → (at t i).parent ≡ none → (i < top) × Within (at t i).box (block_box boxes (i / 64))
 
 -- no root from c below r meets the cell a
 abbrev pub Passed : List Cell → ℕ → ℕ → ℕ → Type 0

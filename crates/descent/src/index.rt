@@ -1,12 +1,12 @@
 // An index of the roots: a box for each 64 ids that holds the roots among them, so that a search passes over most of
 // them at once.
 ghost use Rattle.std.specs.Prelude.{◌≡◌, true, ℕ, ◌+◌, ◌*◌, ◌/◌, ◌%◌, ◌<◌, ◌≤◌, length, set};
-ghost use Rattle.cell.specs.Cells.{boxOf};
+ghost use Rattle.cell.specs.Cells.{box_of};
 ghost use Rattle.table.specs.Slots.{cell_at};
 ghost use Rattle.table.specs.Mesh.{table};
 ghost use Rattle.table.specs.Formed.{WellFormed};
-ghost use Rattle.descent.specs.Search.{RootsBelow, Within, Clears, blockBox, Indexed, Passed};
-ghost use Rattle.descent.specs.Bounds.{boundsBox, boundsRow, Holds};
+ghost use Rattle.descent.specs.Search.{RootsBelow, Within, Clears, block_box, Indexed, Passed};
+ghost use Rattle.descent.specs.Bounds.{bounds_box, bounds_row, Holds};
 
 use crate::root_meets;
 use table::slots::{cell_at, level_at};
@@ -25,7 +25,7 @@ pub struct Bounds {
 impl Bounds {
     // The least box that holds both.
     fn widen(self, other: Bounds) -> Bounds
-        ensures { Within (boundsBox self) (boundsBox result) × Within (boundsBox other) (boundsBox result) }
+        ensures { Within (bounds_box self) (bounds_box result) × Within (bounds_box other) (bounds_box result) }
     {
         Bounds {
             x0: self.x0.min(other.x0),
@@ -39,7 +39,7 @@ impl Bounds {
 // The box of the cell in slot i. Internal: the slot is in the row.
 pub fn bounds_at(t: &[i64], i: usize) -> Bounds
     requires { i * 8 + 8 ≤ length t.now }
-    ensures { boundsBox result ≡ boxOf (cell_at t.now i) }
+    ensures { bounds_box result ≡ box_of (cell_at t.now i) }
 {
     let c = cell_at(t, i);
     Bounds {
@@ -53,9 +53,9 @@ pub fn bounds_at(t: &[i64], i: usize) -> Bounds
 // The box b, widened by the cell in slot i if that is a root.
 fn with_root(t: &[i64], i: usize, b: Bounds) -> Bounds
     requires { i * 8 + 8 ≤ length t.now }
-    ensures within { Within (boundsBox b) (boundsBox result) }
+    ensures within { Within (bounds_box b) (bounds_box result) }
     ensures within_2 { (cell_at t.now i).level ≡ 0
-        → Within (boxOf (cell_at t.now i)) (boundsBox result) }
+        → Within (box_of (cell_at t.now i)) (bounds_box result) }
 {
     if level_at(t, i) == 0 {
         b.widen(bounds_at(t, i))
@@ -67,7 +67,7 @@ fn with_root(t: &[i64], i: usize, b: Bounds) -> Bounds
 // A box that holds the roots from `from` below `to`.
 fn block(t: &[i64], n: usize, from: usize, to: usize) -> Bounds
     requires { (n * 8 ≤ length t.now) × (to ≤ n) }
-    ensures { Holds t.now from to (boundsBox result) }
+    ensures { Holds t.now from to (bounds_box result) }
 {
     let mut b = Bounds {
         x0: 137438953472,
@@ -92,7 +92,7 @@ fn block_end(j: usize, top: usize) -> usize
 
 fn put_block(boxes: &mut [[u64; 4]], j: usize, b: Bounds)
     requires { j < length boxes.old }
-    ensures { boxes.new ≡ set boxes.old j (boundsRow b) }
+    ensures { boxes.new ≡ set boxes.old j (bounds_row b) }
 {
     boxes[j] = [b.x0, b.y0, b.x1, b.y1];
 }
@@ -114,7 +114,7 @@ pub fn index(t: &[i64], m: u64, n: usize, top: usize, boxes: &mut [[u64; 4]])
 #[tactic(auto, using(crate::proofs::Meeting::apart))]
 fn apart(boxes: &[[u64; 4]], j: usize, b: Bounds) -> bool
     requires { j < length boxes.now }
-    ensures { result ≡ true → Clears (boundsBox b) (blockBox boxes.now j) }
+    ensures { result ≡ true → Clears (bounds_box b) (block_box boxes.now j) }
 {
     let block = &boxes[j];
     block[2] < b.x0 || b.x1 < block[0] || block[3] < b.y0 || b.y1 < block[1]
@@ -123,7 +123,7 @@ fn apart(boxes: &[[u64; 4]], j: usize, b: Bounds) -> bool
 // Whether the ids from i on are a block that lies apart from b.
 fn skips(boxes: &[[u64; 4]], i: usize, b: Bounds) -> bool
     requires { i / 64 < length boxes.now }
-    ensures { result ≡ true → (i % 64 ≡ 0) × Clears (boundsBox b) (blockBox boxes.now (i / 64)) }
+    ensures { result ≡ true → (i % 64 ≡ 0) × Clears (bounds_box b) (block_box boxes.now (i / 64)) }
 {
     i % 64 == 0 && apart(boxes, i / 64, b)
 }
@@ -141,7 +141,7 @@ pub fn next_root(
 ) -> usize
     requires well_formed { WellFormed t.now n m }
     requires a_lt_n { ((a < n) × (top ≤ n)) × (length boxes.now ≡ 256) }
-    requires indexed { Indexed top boxes.now (table t.now n) × (boundsBox b ≡ boxOf (cell_at t.now a)) }
+    requires indexed { Indexed top boxes.now (table t.now n) × (bounds_box b ≡ box_of (cell_at t.now a)) }
     ensures { (c ≤ result) × Passed (table t.now n) a c result }
 {
     let mut i = c;

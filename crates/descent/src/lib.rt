@@ -4,12 +4,12 @@
 
 ghost use Rattle.std.specs.Prelude.{◌≡◌, true, false, ◌+◌, ◌*◌, ◌<◌, ◌≤◌, pos, length, get_or};
 ghost use Rattle.std.specs.Int.Signed.{lt_z};
-ghost use Rattle.cell.specs.Cells.{boxOf};
+ghost use Rattle.cell.specs.Cells.{box_of};
 ghost use Rattle.table.specs.Slots.{cell_at, in_slot};
-ghost use Rattle.table.specs.Mesh.{meshCell, table};
+ghost use Rattle.table.specs.Mesh.{mesh_cell, table};
 ghost use Rattle.table.specs.Formed.{WellFormed};
-ghost use Rattle.coarsest.specs.Passes.{dueCells, due};
-ghost use Rattle.descent.specs.Search.{meet, nearCells, Under, Least, Found, RootsBelow, Indexed};
+ghost use Rattle.coarsest.specs.Passes.{due_cells, due};
+ghost use Rattle.descent.specs.Search.{meet, near_cells, Under, Least, Found, RootsBelow, Indexed};
 
 pub mod index;
 pub mod marks;
@@ -32,7 +32,7 @@ pub fn meets_at(t: &[i64], a: usize, c: usize) -> bool
     requires a_in_bounds { (a * 8 + 8 ≤ length t.now) × (c * 8 + 8 ≤ length t.now) }
     requires a_value { (in_slot t.now a ≡ true) × (in_slot t.now c ≡ true) }
     ensures { result ≡ false
-        → meet (boxOf (cell_at t.now a)) (boxOf (cell_at t.now c)) ≡ false }
+        → meet (box_of (cell_at t.now a)) (box_of (cell_at t.now c)) ≡ false }
 {
     let apart = below(t, c * 8 + 2, a * 8)
         || below(t, a * 8 + 2, c * 8)
@@ -48,7 +48,7 @@ fn near(t: &[i64], k: u64, a: usize, c: usize) -> bool
     requires a_in_bounds { (a * 8 + 8 ≤ length t.now) × (c * 8 + 8 ≤ length t.now) }
     requires a_value { (in_slot t.now a ≡ true) × (in_slot t.now c ≡ true) }
     ensures { result ≡ false
-        → nearCells k (meshCell (cell_at t.now a)) (meshCell (cell_at t.now c)) ≡ false }
+        → near_cells k (mesh_cell (cell_at t.now a)) (mesh_cell (cell_at t.now c)) ≡ false }
 {
     meets_at(t, a, c) && k < level_at(t, a).saturating_sub(level_at(t, c))
 }
@@ -58,7 +58,7 @@ pub fn root_meets(t: &[i64], a: usize, c: usize) -> bool
     requires a_in_bounds { (a * 8 + 8 ≤ length t.now) × (c * 8 + 8 ≤ length t.now) }
     requires a_value { (in_slot t.now a ≡ true) × (in_slot t.now c ≡ true) }
     ensures { result ≡ false → (cell_at t.now c).level ≡ 0
-        → meet (boxOf (cell_at t.now a)) (boxOf (cell_at t.now c)) ≡ false }
+        → meet (box_of (cell_at t.now a)) (box_of (cell_at t.now c)) ≡ false }
 {
     level_at(t, c) == 0 && meets_at(t, a, c)
 }
@@ -66,7 +66,7 @@ pub fn root_meets(t: &[i64], a: usize, c: usize) -> bool
 // Whether the leaf c is to be split for the leaf f.
 fn due_at(t: &[i64], f: usize, c: usize, k: u64) -> bool
     requires { (f * 8 + 8 ≤ length t.now) × (c * 8 + 8 ≤ length t.now) }
-    ensures { result ≡ dueCells k (meshCell (cell_at t.now f)) (meshCell (cell_at t.now c)) }
+    ensures { result ≡ due_cells k (mesh_cell (cell_at t.now f)) (mesh_cell (cell_at t.now c)) }
 {
     coarsest::due(cell_at(t, f), cell_at(t, c), k)
 }

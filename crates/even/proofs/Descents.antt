@@ -13,14 +13,14 @@ use Rattle.std.specs.Prelude.{Some, None}
 use Rattle.table.specs.Mesh.{Cell, table}
 use Rattle.coarsest.specs.Passes.{Engine, balancing, due, pass}
 use Rattle.coarsest.specs.Sweep.{row, rows}
-use Rattle.coarsest.proofs.Sweep.{dueOf, row_keeps, rows-keeps}
+use Rattle.coarsest.proofs.Sweep.{due_of, row_keeps, rows-keeps}
 use Rattle.coarsest.proofs.Loops.{row-skip}
 use Rattle.coarsest.proofs.Passes.{pass-keeps}
 use Rattle.descent.specs.Search.{Least, Indexed}
 use Rattle.descent.proofs.Boxes.{indexed-keeps}
 use Rattle.even.proofs.Pairs.{no_true}
 use Rattle.table.specs.Slots.{cell_at}
-use Rattle.table.specs.Refine.{splitRow}
+use Rattle.table.specs.Refine.{split_row}
 use Rattle.even.specs.Parts.{Grew}
 use Rattle.even.proofs.Turns.{On, on-as, on_grew, ready, finer-row, turn-split, turn-full}
 
@@ -50,7 +50,7 @@ module _ (k M : ℕ) (T : List Cell) (t u : List ℤ) (n r a b stop c : ℕ) (o 
       ∙ ap (row balancing k T a) e)
       o
 
-  pub row-asks : c < stop → dueOf balancing k (row balancing k T a c) a c ≡ true
+  pub row-asks : c < stop → due_of balancing k (row balancing k T a c) a c ≡ true
   row-asks h = ap (λ (y : List Cell). due k y a c) (sym row_next.cells) ∙ (x.found h).1
 
   -- the end of the row, where none is due
@@ -67,7 +67,7 @@ module _ (k M : ℕ) (T : List Cell) (t u : List ℤ) (n r a b stop c : ℕ) (o 
         let y = ready balancing k M T t u n r a c row_next (omega arith) (omega arith) (row-asks h) in
         finer-row _ _ _ _ _ _ row_next c (omega arith) y.0 y.1
 
-    pub row-split : r + 4 ≤ length t / 8 → On M (row balancing k T a (c + 1)) t (splitRow u r c) n (r + 4)
+    pub row-split : r + 4 ≤ length t / 8 → On M (row balancing k T a (c + 1)) t (split_row u r c) n (r + 4)
     row-split = turn-split balancing k M T t u n r a c row_next (omega arith) (omega arith) (row-asks h)
 
     pub row-full : stop ≤ length T → length t / 8 < r + 4 → Grew M (row balancing k T a stop) t u n None

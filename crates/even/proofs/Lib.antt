@@ -6,5 +6,5 @@ pub mod Turns
 pub mod Descents
 pub mod Watching
 pub mod Passing
-pub mod Demand
+pub mod Ending
 pub mod One

@@ -5,7 +5,7 @@ use mathlib.Core.Bool.{Bool, true, false, ◌||◌}
 use mathlib.Core.Logic.{⊎_elim}
 use native.Mathlib.Omega.{arith}
 use Rattle.table.proofs.All.{top?}
-use Rattle.coarsest.specs.Sweep.{anyTo}
+use Rattle.coarsest.specs.Sweep.{any_to}
 use Rattle.descent.specs.Search.{Found}
 
 -- a test of all below a bound
@@ -17,21 +17,21 @@ or_right : (x y : Bool) → y ≡ true → (x || y) ≡ true
 or_right true y e = refl
 or_right false y e = e
 
-pub any_found : (f : ℕ → Bool) (n i : ℕ) → i < n → f i ≡ true → anyTo f n ≡ true
-unfolding anyTo
+pub any_found : (f : ℕ → Bool) (n i : ℕ) → i < n → f i ≡ true → any_to f n ≡ true
+unfolding any_to
 any_found f zero i h e = absurd (omega arith)
 any_found f (suc n) i h e =
     ⊎_elim
     (λ (l : i < n). ap (λ (b : Bool). b || f n) (any_found f n i l e))
-    (λ (d : i ≡ n). or_right (anyTo f n) (f n) (rw d at e))
+    (λ (d : i ≡ n). or_right (any_to f n) (f n) (rw d at e))
     (top? i n h)
 
-pub any_none : (f : ℕ → Bool) (n : ℕ) → ((i : ℕ) → i < n → f i ≡ true → ⊥) → anyTo f n ≡ false
-unfolding anyTo
+pub any_none : (f : ℕ → Bool) (n : ℕ) → ((i : ℕ) → i < n → f i ≡ true → ⊥) → any_to f n ≡ false
+unfolding any_to
 any_none f zero h = refl
 any_none f (suc n) h = rw (any_none f n (λ i l. h i (omega arith))) (no_true (f n) (h n (omega arith)))
 
 -- what a search below the bound found
-pub found-any : (f : ℕ → Bool) (n stop : ℕ) (r : Bool) → stop ≤ n → Found f (λ (b : ℕ). b < n) stop r → r ≡ anyTo f stop
+pub found-any : (f : ℕ → Bool) (n stop : ℕ) (r : Bool) → stop ≤ n → Found f (λ (b : ℕ). b < n) stop r → r ≡ any_to f stop
 found-any f n stop true h x = let y = x.yes refl in sym (any_found f stop y.0 y.1 y.2)
 found-any f n stop false h x = sym (any_none f stop (λ i l e. x.no refl i (omega arith) l e))

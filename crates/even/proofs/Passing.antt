@@ -10,7 +10,7 @@ use Rattle.std.specs.Prelude.{Some, None}
 use Rattle.table.specs.Mesh.{Cell, table}
 use Rattle.table.specs.Formed.{Formed}
 use Rattle.table.proofs.Cells.{length-table}
-use Rattle.coarsest.specs.Passes.{Engine, pass, evened, splitsLeft}
+use Rattle.coarsest.specs.Passes.{Engine, pass, evened, splits_left}
 use Rattle.coarsest.specs.Sweep.{row, rows, sweep}
 use Rattle.coarsest.proofs.Loops.{row-most, rows-most}
 use Rattle.coarsest.proofs.Passes.{sweep-pass, pass-grown, pass_same}
@@ -108,7 +108,7 @@ module _ (e : Engine) (k M : ℕ) (t u : List ℤ) (n r : ℕ) (what : List Cell
     lengths : length (pass e k T) ≡ s
     lengths = on-length M (pass e k T) t v n s evened-turn
 
-    pub evened-less : (s ≡ r → ⊥) → splitsLeft M (pass e k T) < splitsLeft M T
+    pub evened-less : (s ≡ r → ⊥) → splits_left M (pass e k T) < splits_left M T
     evened-less ne = let p = pass-grown e k T in pass-left e k M T formed (omega (arith, length-table u r, lengths))
 
     pub evened-done : s ≡ r → pass e k T ≡ evened e k M (table t n)

@@ -10,20 +10,20 @@ use lib.IntN.{ℤ, pos}
 use lib.ListN.{length, get_or, take, drop, replicate, length-drop, length-replicate, get_or-replicate, take-append-drop}
 use lib.Seq.{ext_get_or, drop-cons, length-take-le, get_or-drop, take-add}
 use borrow.Author.Tests.{eqb-true}
-use Rattle.cell.specs.Cells.{noCell}
+use Rattle.cell.specs.Cells.{no_cell}
 use Rattle.table.specs.Slots.{cell_at}
-use Rattle.table.specs.Mesh.{Cell, opt, optIf, meshCell, table}
+use Rattle.table.specs.Mesh.{Cell, opt, opt_if, mesh_cell, table}
 use Rattle.table.specs.Formed.{WellFormed}
 use Rattle.table.proofs.Exact.{Exact, exact}
-use Rattle.even.specs.Rows.{marked, numbersOf, flat, rowOf}
+use Rattle.even.specs.Rows.{marked, numbers_of, flat, row_of}
 
 -- ---- one number, there and back
 
 pub marked-opt : (v : ℕ) → marked (opt v) ≡ pos v
-marked-opt v = by (eqb v noCell) refl
+marked-opt v = by (eqb v no_cell) refl
   where
-    by : (b : Bool) → eqb v noCell ≡ b → marked (optIf b v) ≡ pos v
-    by true e = ap pos (sym (eqb-true v noCell e))
+    by : (b : Bool) → eqb v no_cell ≡ b → marked (opt_if b v) ≡ pos v
+    by true e = ap pos (sym (eqb-true v no_cell e))
     by false e = refl
 
 -- ---- the numbers of one cell
@@ -42,13 +42,13 @@ run_is l b k (suc m) h =
     ∙ ap (λ (r : List ℤ). get_or l (b + k) (pos 0) ∷ r) (run_is l b (k + 1) m (omega arith))
 
 module _ (t : List ℤ) (i : ℕ) (w : Exact t i) where
-  numbers-run : numbersOf (meshCell (cell_at t i)) ≡ run t (i * 8) 0 8
+  numbers-run : numbers_of (mesh_cell (cell_at t i)) ≡ run t (i * 8) 0 8
   numbers-run =
       λ x.
       (w.x0 ∙ ap (λ (j : ℕ). get_or t j (pos 0)) (sym (add-zero (i * 8)))) x ∷ w.y0 x ∷ w.x1 x ∷ w.y1 x ∷ w.level x
       ∷ (marked-opt (cell_at t i).parent ∙ w.parent) x ∷ (marked-opt (cell_at t i).first ∙ w.first) x ∷ w.poly x ∷ []
 
-  numbers-are : i * 8 + 8 ≤ length t → numbersOf (meshCell (cell_at t i)) ≡ take 8 (drop (i * 8) t)
+  numbers-are : i * 8 + 8 ≤ length t → numbers_of (mesh_cell (cell_at t i)) ≡ take 8 (drop (i * 8) t)
   numbers-are h =
       numbers-run ∙ sym (run_is t (i * 8) 0 8 (omega arith)) ∙ ap (λ (j : ℕ). take 8 (drop j t)) (add-zero (i * 8))
 
@@ -57,11 +57,11 @@ module _ (t : List ℤ) (i : ℕ) (w : Exact t i) where
 flat_append : (a b : List Cell) → flat (a ++ b) ≡ flat a ++ flat b
 unfolding flat
 flat_append [] b = refl
-flat_append (c ∷ cs) b = ap (λ (r : List ℤ). numbersOf c ++ r) (flat_append cs b) ∙ sym (append_assoc (numbersOf c) (flat cs) (flat b))
+flat_append (c ∷ cs) b = ap (λ (r : List ℤ). numbers_of c ++ r) (flat_append cs b) ∙ sym (append_assoc (numbers_of c) (flat cs) (flat b))
 
-flat-one : (c : Cell) → flat (c ∷ []) ≡ numbersOf c
+flat-one : (c : Cell) → flat (c ∷ []) ≡ numbers_of c
 unfolding flat
-flat-one c = append-nil (numbersOf c)
+flat-one c = append-nil (numbers_of c)
 
 module _ (t : List ℤ) (n M : ℕ) (w : WellFormed t n M) where
   room : n * 8 ≤ length t
@@ -73,10 +73,10 @@ module _ (t : List ℤ) (n M : ℕ) (w : WellFormed t n M) where
   flat-front (suc k) h =
       let r = room in
       let e : k * 8 + 8 ≡ suc k * 8 = omega arith in
-      flat_append (table t k) (meshCell (cell_at t k) ∷ [])
-      ∙ ap (λ (r : List ℤ). r ++ flat (meshCell (cell_at t k) ∷ [])) (flat-front k (omega arith))
+      flat_append (table t k) (mesh_cell (cell_at t k) ∷ [])
+      ∙ ap (λ (r : List ℤ). r ++ flat (mesh_cell (cell_at t k) ∷ [])) (flat-front k (omega arith))
       ∙ ap (λ (r : List ℤ). take (k * 8) t ++ r)
-      (flat-one (meshCell (cell_at t k)) ∙ numbers-are t k (exact t k (w.held k (omega arith))) (omega arith))
+      (flat-one (mesh_cell (cell_at t k)) ∙ numbers-are t k (exact t k (w.held k (omega arith))) (omega arith))
       ∙ sym (take-add (k * 8) 8 t)
       ∙ ap (λ (j : ℕ). take j t) e
 
@@ -89,8 +89,8 @@ module _ (t : List ℤ) (n M : ℕ) (w : WellFormed t n M) where
       get_or-drop (n * 8) t j (pos 0) ∙ w.rest (n * 8 + j) (omega arith) (omega arith)
       ∙ sym (get_or-replicate (length t - n * 8) j (pos 0) (pos 0) h))
 
-  pub row_is : t ≡ rowOf (table t n) (length t)
-  unfolding rowOf
+  pub row_is : t ≡ row_of (table t n) (length t)
+  unfolding row_of
   row_is =
       let f = flat-front n (omega arith) in
       let l = ap length f ∙ length-take-le (n * 8) t room in

@@ -10,20 +10,20 @@ use lib.Dec.{eqb}
 use lib.IntN.{ℤ}
 use lib.ListN.{length}
 use Rattle.std.specs.Prelude.{Some, None}
-use Rattle.cell.specs.Cells.{noCell}
+use Rattle.cell.specs.Cells.{no_cell}
 use Rattle.table.specs.Slots.{cell_at}
-use Rattle.table.specs.Mesh.{Cell, at, table, split, is_none, isLeaf}
+use Rattle.table.specs.Mesh.{Cell, at, table, split, is_none, is_leaf}
 use Rattle.table.specs.Formed.{WellFormed}
-use Rattle.table.specs.Leaves.{leafAt}
-use Rattle.table.specs.Refine.{splitRow}
+use Rattle.table.specs.Leaves.{leaf_at}
+use Rattle.table.specs.Refine.{split_row}
 use Rattle.table.proofs.Cells.{length-table, at_table}
-use Rattle.table.proofs.Splits.{split-table, refine-keeps, length-splitRow}
+use Rattle.table.proofs.Splits.{split-table, refine-keeps, length-split_row}
 use Rattle.coarsest.specs.Passes.{Engine, due}
 use Rattle.coarsest.specs.Sweep.{row}
 use Rattle.coarsest.proofs.Pair.{leaf-is}
 use Rattle.coarsest.proofs.Least.{due-of}
 use Rattle.table.proofs.Meshes.{length-split}
-use Rattle.coarsest.proofs.Sweep.{dueOf}
+use Rattle.coarsest.proofs.Sweep.{due_of}
 use Rattle.coarsest.proofs.Loops.{coarser, row-due, row-most}
 use Rattle.even.specs.Undo.{undone}
 use Rattle.even.specs.Parts.{Grew, Rowed}
@@ -75,13 +75,13 @@ on_then M mid goal t u v n r s o p =
     let b = p.more in
     record { formed = p.formed; cells = p.cells; size = p.size ∙ o.size; more = omega arith; back = λ m h. p.back m (omega arith) ∙ o.back m h }
 
-none-leaf : (u : List ℤ) (r c : ℕ) → c < r → (at (table u r) c).kids ≡ none → leafAt u c ≡ true
-unfolding leafAt
+none-leaf : (u : List ℤ) (r c : ℕ) → c < r → (at (table u r) c).kids ≡ none → leaf_at u c ≡ true
+unfolding leaf_at
 none-leaf u r c h e = sym (leaf-is (cell_at u c).first) ∙ ap (λ (x : Cell). is_none x.kids) (sym (at_table u r c h)) ∙ ap is_none e
 
 module _ (M : ℕ) (what : List Cell) (t u : List ℤ) (n r : ℕ) (o : On M what t u n r) (c : ℕ) (inside : c < r)
     (leaf : (at what c).kids ≡ none) (finer : (at what c).level < M) where
-  leaf-row : leafAt u c ≡ true
+  leaf-row : leaf_at u c ≡ true
   leaf-row = none-leaf u r c inside (ap (λ (x : List Cell). (at x c).kids) o.cells ∙ leaf)
 
   pub finer-row : (cell_at u c).level < M
@@ -89,14 +89,14 @@ module _ (M : ℕ) (what : List Cell) (t u : List ℤ) (n r : ℕ) (o : On M wha
       subst (λ (l : ℕ). l < M)
       (ap (λ (x : List Cell). (at x c).level) (sym o.cells) ∙ ap (λ (x : Cell). x.level) (at_table u r c inside)) finer
 
-  pub on-split : r + 4 ≤ length t / 8 → On M (split what c) t (splitRow u r c) n (r + 4)
+  pub on-split : r + 4 ≤ length t / 8 → On M (split what c) t (split_row u r c) n (r + 4)
   on-split room =
       let here : r + 4 ≤ length u / 8 = subst (λ (x : ℕ). r + 4 ≤ x / 8) (sym o.size) room in
       let g = o.more in
       record {
         formed = refine-keeps u r M c o.formed inside leaf-row finer-row here;
         cells = split-table u r M c o.formed inside leaf-row finer-row here ∙ ap (λ (x : List Cell). split x c) o.cells;
-        size = length-splitRow u r c ∙ o.size;
+        size = length-split_row u r c ∙ o.size;
         more = omega arith;
         back = λ m h. undone-split u r M c m o.formed inside leaf-row here (omega arith) ∙ o.back m h;
       }
@@ -121,21 +121,21 @@ module _ (e : Engine) (k M : ℕ) (T : List Cell) (t u : List ℤ) (n r a b : �
   abbrev Ready : Type 0
   Ready = ((at (row e k T a b) (coarser e a b)).kids ≡ none) × ((at (row e k T a b) (coarser e a b)).level < M)
 
-  pub ready : dueOf e k (row e k T a b) a b ≡ true → Ready
+  pub ready : due_of e k (row e k T a b) a b ≡ true → Ready
   ready = by e refl
     where
-      by : (d : Engine) → d ≡ e → dueOf d k (row e k T a b) a b ≡ true → ((at (row e k T a b) (coarser d a b)).kids ≡ none) × ((at (row e k T a b) (coarser d a b)).level < M)
+      by : (d : Engine) → d ≡ e → due_of d k (row e k T a b) a b ≡ true → ((at (row e k T a b) (coarser d a b)).kids ≡ none) × ((at (row e k T a b) (coarser d a b)).level < M)
       by Rattle.coarsest.specs.Passes.balancing q d = ((due-of k (row e k T a b) a b d).coarse, finer-of a b ha d)
       by Rattle.coarsest.specs.Passes.conforming q d = ((due-of k (row e k T a b) b a d).coarse, finer-of b a hb d)
 
-  pub turn-split : dueOf e k (row e k T a b) a b ≡ true → r + 4 ≤ length t / 8 → On M (row e k T a (b + 1)) t (splitRow u r (coarser e a b)) n (r + 4)
+  pub turn-split : due_of e k (row e k T a b) a b ≡ true → r + 4 ≤ length t / 8 → On M (row e k T a (b + 1)) t (split_row u r (coarser e a b)) n (r + 4)
   turn-split d room =
       let w = ready d in
-      on-as M (split (row e k T a b) (coarser e a b)) (row e k T a (b + 1)) t (splitRow u r (coarser e a b)) n (r + 4)
+      on-as M (split (row e k T a b) (coarser e a b)) (row e k T a (b + 1)) t (split_row u r (coarser e a b)) n (r + 4)
       (sym (ap (row e k T a) (add-one b) ∙ row-due e k T a b d))
       (on-split M (row e k T a b) t u n r o (coarser e a b) both w.0 w.1 room)
 
-  pub turn-full : (stop : ℕ) → a < stop → b < stop → stop ≤ length T → dueOf e k (row e k T a b) a b ≡ true → length t / 8 < r + 4
+  pub turn-full : (stop : ℕ) → a < stop → b < stop → stop ≤ length T → due_of e k (row e k T a b) a b ≡ true → length t / 8 < r + 4
       → Grew M (row e k T a stop) t u n None
   turn-full stop la lb ls d full =
       let s : length (row e k T a (suc b)) ≡ r + 4 =
@@ -146,7 +146,7 @@ module _ (e : Engine) (k M : ℕ) (T : List Cell) (t u : List ℤ) (n r a b : �
       on-full M (row e k T a b) (row e k T a stop) t u n r o (omega arith)
 
 -- whether a slot's cell is a leaf, in the table that the row holds
-pub kids-of : (t : List ℤ) (n i : ℕ) → i < n → isLeaf (table t n) i ≡ eqb (cell_at t i).first noCell
+pub kids-of : (t : List ℤ) (n i : ℕ) → i < n → is_leaf (table t n) i ≡ eqb (cell_at t i).first no_cell
 kids-of t n i h = ap (λ (x : Cell). is_none x.kids) (at_table t n i h) ∙ leaf-is (cell_at t i).first
 
 pub none_of : (o : Option ℕ) → is_none o ≡ true → o ≡ none

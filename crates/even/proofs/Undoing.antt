@@ -13,32 +13,32 @@ use lib.Signed.{le_z}
 use lib.ListN.{length, get_or, set, take, drop}
 use lib.Seq.{ext_get_or, take_all, take-suc, drop-cons, drop-length, length-take-le, set_at, get_or_at, append_snoc}
 use borrow.Author.Tests.{le-leb, lt-leb, eq-eqb, ne_eqb, eqb-true}
-use Rattle.refusals.specs.Limits.{maxSlots}
+use Rattle.refusals.specs.Limits.{max_slots}
 use Rattle.cell.specs.declared.Cell as Held
-use Rattle.cell.specs.Boxes.{quadAt}
-use Rattle.cell.specs.Cells.{noCell, childOf}
+use Rattle.cell.specs.Boxes.{quad_at}
+use Rattle.cell.specs.Cells.{no_cell, child_of}
 use Rattle.table.specs.Slots.{number, cell_at}
 use Rattle.table.specs.Mesh.{Cell}
 use Rattle.table.specs.Formed.{WellFormed}
-use Rattle.table.specs.Leaves.{leafAt}
-use Rattle.table.specs.Refine.{putKid, splitRow}
+use Rattle.table.specs.Leaves.{leaf_at}
+use Rattle.table.specs.Refine.{put_kid, split_row}
 use Rattle.table.proofs.Stores.{put-elsewhere, first-elsewhere}
 use Rattle.table.proofs.Cells.{length-table, at_table}
 use Rattle.table.proofs.Wellformed.{opt-some}
-use Rattle.table.proofs.Splits.{length-splitRow, splitRow-self, splitRow-old-held}
+use Rattle.table.proofs.Splits.{length-split_row, split_row-self, split_row-old-held}
 use Rattle.table.proofs.Exact.{exact}
-use Rattle.even.specs.Undo.{undoneAt, mapFrom, undone}
+use Rattle.even.specs.Undo.{undone_at, map_from, undone}
 
 -- ---- number by number
 
 module _ (f : ℕ → ℤ → ℤ) where
-  length_from : (j : ℕ) (t : List ℤ) → length (mapFrom f j t) ≡ length t
-  unfolding mapFrom
+  length_from : (j : ℕ) (t : List ℤ) → length (map_from f j t) ≡ length t
+  unfolding map_from
   length_from j [] = refl
   length_from j (z ∷ zs) = ap suc (length_from (suc j) zs)
 
-  from_at : (j : ℕ) (t : List ℤ) (i : ℕ) → i < length t → get_or (mapFrom f j t) i (pos 0) ≡ f (j + i) (get_or t i (pos 0))
-  unfolding mapFrom
+  from_at : (j : ℕ) (t : List ℤ) (i : ℕ) → i < length t → get_or (map_from f j t) i (pos 0) ≡ f (j + i) (get_or t i (pos 0))
+  unfolding map_from
   from_at j [] i h = absurd (let l : i < 0 = h in omega arith)
   from_at j (z ∷ zs) zero h = ap (λ (k : ℕ). f k z) (sym (add-zero j))
   from_at j (z ∷ zs) (suc i) h =
@@ -47,62 +47,62 @@ module _ (f : ℕ → ℤ → ℤ) where
 
 pub length-undone : (n : ℕ) (t : List ℤ) → length (undone n t) ≡ length t
 unfolding undone
-length-undone n t = length_from (undoneAt n) 0 t
+length-undone n t = length_from (undone_at n) 0 t
 
-pub undone-at : (n : ℕ) (t : List ℤ) (j : ℕ) → j < length t → get_or (undone n t) j (pos 0) ≡ undoneAt n j (get_or t j (pos 0))
+pub undone-at : (n : ℕ) (t : List ℤ) (j : ℕ) → j < length t → get_or (undone n t) j (pos 0) ≡ undone_at n j (get_or t j (pos 0))
 unfolding undone
 undone-at n t j h =
     let e : 0 + j ≡ j = omega arith in
-    from_at (undoneAt n) 0 t j h ∙ ap (λ (k : ℕ). undoneAt n k (get_or t j (pos 0))) e
+    from_at (undone_at n) 0 t j h ∙ ap (λ (k : ℕ). undone_at n k (get_or t j (pos 0))) e
 
 -- rows whose numbers are undone to the same are undone to the same row
 pub undone-same : (m : ℕ) (t u : List ℤ) → length u ≡ length t
-    → ((j : ℕ) → j < length t → undoneAt m j (get_or u j (pos 0)) ≡ undoneAt m j (get_or t j (pos 0))) → undone m u ≡ undone m t
+    → ((j : ℕ) → j < length t → undone_at m j (get_or u j (pos 0)) ≡ undone_at m j (get_or t j (pos 0))) → undone m u ≡ undone m t
 undone-same m t u e f =
     ext_get_or (pos 0) (undone m u) (undone m t) (length-undone m u ∙ e ∙ sym (length-undone m t))
     (λ j h.
     let b : j < length u = rw length-undone at h in
     undone-at m u j b ∙ f j (omega arith) ∙ sym (undone-at m t j (omega arith)))
 
--- the answers of `undoneAt`
+-- the answers of `undone_at`
 module _ (n j : ℕ) where
-  pub undone-past : (z : ℤ) → n * 8 ≤ j → undoneAt n j z ≡ pos 0
-  unfolding undoneAt
+  pub undone-past : (z : ℤ) → n * 8 ≤ j → undone_at n j z ≡ pos 0
+  unfolding undone_at
   undone-past z h = rw (le-leb (n * 8) j h)
 
-  pub undone-other : (z : ℤ) → j < n * 8 → j % 8 ≢ 6 → undoneAt n j z ≡ z
-  unfolding undoneAt
+  pub undone-other : (z : ℤ) → j < n * 8 → j % 8 ≢ 6 → undone_at n j z ≡ z
+  unfolding undone_at
   undone-other z h o = simp (lt-leb (n * 8) j h, ne_eqb (j % 8) 6 o)
 
   module _ (inside : j < n * 8) (six : j % 8 ≡ 6) where
-    undone-first : (z : ℤ) → undoneAt n j z ≡ cond (le_z (pos n) z) (pos noCell) z
-    unfolding undoneAt
+    undone-first : (z : ℤ) → undone_at n j z ≡ cond (le_z (pos n) z) (pos no_cell) z
+    unfolding undone_at
     undone-first z = simp (lt-leb (n * 8) j inside, eq-eqb (j % 8) 6 six)
 
-    pub undone-none : undoneAt n j (pos noCell) ≡ pos noCell
-    undone-none = undone-first (pos noCell) ∙ by (le_z (pos n) (pos noCell))
+    pub undone-none : undone_at n j (pos no_cell) ≡ pos no_cell
+    undone-none = undone-first (pos no_cell) ∙ by (le_z (pos n) (pos no_cell))
       where
-        by : (b : Bool) → cond b (pos noCell) (pos noCell) ≡ pos noCell
+        by : (b : Bool) → cond b (pos no_cell) (pos no_cell) ≡ pos no_cell
         by true = refl
         by false = refl
 
-    pub undone-kept : (v : ℕ) → v < n → undoneAt n j (pos v) ≡ pos v
+    pub undone-kept : (v : ℕ) → v < n → undone_at n j (pos v) ≡ pos v
     undone-kept v h = undone-first (pos v) ∙ (rw (lt-leb n v h))
 
-    pub undone-new : (v : ℕ) → n ≤ v → undoneAt n j (pos v) ≡ pos noCell
+    pub undone-new : (v : ℕ) → n ≤ v → undone_at n j (pos v) ≡ pos no_cell
     undone-new v h = undone-first (pos v) ∙ (rw (le-leb n v h))
 
 -- ---- a well-formed row
 
 module _ (t : List ℤ) (n M : ℕ) (w : WellFormed t n M) where
   -- a first child is none, or below the count
-  first-undone : (i : ℕ) → i < n → (j : ℕ) → j ≡ i * 8 + 6 → undoneAt n j (get_or t j (pos 0)) ≡ get_or t j (pos 0)
+  first-undone : (i : ℕ) → i < n → (j : ℕ) → j ≡ i * 8 + 6 → undone_at n j (get_or t j (pos 0)) ≡ get_or t j (pos 0)
   first-undone i h j e =
       let s : j % 8 ≡ 6 = omega arith in
       let b : j < n * 8 = omega arith in
       let d : get_or t j (pos 0) ≡ pos (cell_at t i).first = rw e (sym (exact t i (w.held i h)).first) in
       rw d
-      (by_cases (ℕ_discrete (cell_at t i).first noCell)
+      (by_cases (ℕ_discrete (cell_at t i).first no_cell)
       (λ f. rw f (undone-none n j b s))
       (λ f.
       let k = (w.cells.split i (cell_at t i).first (ap (λ (c : Cell). c.kids) (at_table t n i h) ∙ opt-some (cell_at t i).first f)).below in
@@ -124,53 +124,53 @@ module _ (t : List ℤ) (n M : ℕ) (w : WellFormed t n M) where
 -- ---- a split
 
 -- the numbers before the children, but the first child of the split cell, are as they were
-kid-front : (t : List ℤ) (n i : ℕ) (c : Held.Cell) (k j : ℕ) → j < n * 8 → get_or (putKid t n i c k) j (pos 0) ≡ get_or t j (pos 0)
-unfolding putKid
-kid-front t n i c k j h = put-elsewhere t (n + k) (childOf i (quadAt k) c) j (inl (omega arith))
+kid-front : (t : List ℤ) (n i : ℕ) (c : Held.Cell) (k j : ℕ) → j < n * 8 → get_or (put_kid t n i c k) j (pos 0) ≡ get_or t j (pos 0)
+unfolding put_kid
+kid-front t n i c k j h = put-elsewhere t (n + k) (child_of i (quad_at k) c) j (inl (omega arith))
 
-pub splitRow-front : (t : List ℤ) (n i j : ℕ) → j < n * 8 → j ≢ i * 8 + 6 → get_or (splitRow t n i) j (pos 0) ≡ get_or t j (pos 0)
-unfolding splitRow
-splitRow-front t n i j h o =
+pub split_row-front : (t : List ℤ) (n i j : ℕ) → j < n * 8 → j ≢ i * 8 + 6 → get_or (split_row t n i) j (pos 0) ≡ get_or t j (pos 0)
+unfolding split_row
+split_row-front t n i j h o =
     let c = cell_at t i in
-    let t1 = putKid t n i c 0 in
-    let t2 = putKid t1 n i c 1 in
-    let t3 = putKid t2 n i c 2 in
-    first-elsewhere (putKid t3 n i c 3) i n j o
+    let t1 = put_kid t n i c 0 in
+    let t2 = put_kid t1 n i c 1 in
+    let t3 = put_kid t2 n i c 2 in
+    first-elsewhere (put_kid t3 n i c 3) i n j o
     ∙ kid-front t3 n i c 3 j h ∙ kid-front t2 n i c 2 j h ∙ kid-front t1 n i c 1 j h ∙ kid-front t n i c 0 j h
 
-leaf_first : (u : List ℤ) (c : ℕ) → leafAt u c ≡ true → (cell_at u c).first ≡ noCell
-unfolding leafAt
-leaf_first u c e = eqb-true (cell_at u c).first noCell e
+leaf_first : (u : List ℤ) (c : ℕ) → leaf_at u c ≡ true → (cell_at u c).first ≡ no_cell
+unfolding leaf_at
+leaf_first u c e = eqb-true (cell_at u c).first no_cell e
 
 -- to a row from before the split it leaves no trace
-pub undone-split : (u : List ℤ) (n M c m : ℕ) → WellFormed u n M → c < n → leafAt u c ≡ true → n + 4 ≤ length u / 8 → m ≤ n
-    → undone m (splitRow u n c) ≡ undone m u
+pub undone-split : (u : List ℤ) (n M c m : ℕ) → WellFormed u n M → c < n → leaf_at u c ≡ true → n + 4 ≤ length u / 8 → m ≤ n
+    → undone m (split_row u n c) ≡ undone m u
 undone-split u n M c m w inside leaf enough before =
-    undone-same m u (splitRow u n c) (length-splitRow u n c)
+    undone-same m u (split_row u n c) (length-split_row u n c)
     (λ j h.
     by_cases (dec_lt j (m * 8))
-    (λ b. by_cases (ℕ_discrete j (c * 8 + 6)) (λ e. here j b e) (λ o. ap (undoneAt m j) (splitRow-front u n c j (omega arith) o)))
-    (λ b. undone-past m j (get_or (splitRow u n c) j (pos 0)) (omega arith) ∙ sym (undone-past m j (get_or u j (pos 0)) (omega arith))))
+    (λ b. by_cases (ℕ_discrete j (c * 8 + 6)) (λ e. here j b e) (λ o. ap (undone_at m j) (split_row-front u n c j (omega arith) o)))
+    (λ b. undone-past m j (get_or (split_row u n c) j (pos 0)) (omega arith) ∙ sym (undone-past m j (get_or u j (pos 0)) (omega arith))))
   where
     room : (n + 4) * 8 ≤ length u
     room = omega arith
 
-    small : n ≤ maxSlots
+    small : n ≤ max_slots
     small = let s = w.slots in omega arith
 
-    old : number u c 6 ≡ pos noCell
+    old : number u c 6 ≡ pos no_cell
     old = sym (exact u c (w.held c inside)).first ∙ ap pos (leaf_first u c leaf)
 
-    new : number (splitRow u n c) c 6 ≡ pos n
+    new : number (split_row u n c) c 6 ≡ pos n
     new =
-        sym (exact (splitRow u n c) c (splitRow-old-held u n c inside room small c inside (w.held c inside))).first
-        ∙ ap (λ (x : Held.Cell). pos x.first) (splitRow-self u n c inside room small)
+        sym (exact (split_row u n c) c (split_row-old-held u n c inside room small c inside (w.held c inside))).first
+        ∙ ap (λ (x : Held.Cell). pos x.first) (split_row-self u n c inside room small)
 
-    here : (j : ℕ) → j < m * 8 → j ≡ c * 8 + 6 → undoneAt m j (get_or (splitRow u n c) j (pos 0)) ≡ undoneAt m j (get_or u j (pos 0))
+    here : (j : ℕ) → j < m * 8 → j ≡ c * 8 + 6 → undone_at m j (get_or (split_row u n c) j (pos 0)) ≡ undone_at m j (get_or u j (pos 0))
     here j b e =
         let s : j % 8 ≡ 6 = omega arith in
-        ap (λ (k : ℕ). undoneAt m j (get_or (splitRow u n c) k (pos 0))) e ∙ ap (undoneAt m j) new ∙ undone-new m j b s n before
-        ∙ sym (ap (λ (k : ℕ). undoneAt m j (get_or u k (pos 0))) e ∙ ap (undoneAt m j) old ∙ undone-none m j b s)
+        ap (λ (k : ℕ). undone_at m j (get_or (split_row u n c) k (pos 0))) e ∙ ap (undone_at m j) new ∙ undone-new m j b s n before
+        ∙ sym (ap (λ (k : ℕ). undone_at m j (get_or u k (pos 0))) e ∙ ap (undone_at m j) old ∙ undone-none m j b s)
 
 -- ---- a loop that overwrites the row number by number
 
@@ -186,9 +186,9 @@ module _ (n : ℕ) (t : List ℤ) where
   undoing-here j h =
       rw (drop-cons t j (pos 0) h) (get_or_at (take j (undone n t)) (get_or t j (pos 0)) (drop (suc j) t) (pos 0) j (front j h))
 
-  undoing-next : (j : ℕ) → j < length t → set (undoing n t j) j (undoneAt n j (get_or t j (pos 0))) ≡ undoing n t (j + 1)
+  undoing-next : (j : ℕ) → j < length t → set (undoing n t j) j (undone_at n j (get_or t j (pos 0))) ≡ undoing n t (j + 1)
   undoing-next j h =
-      let z = undoneAt n j (get_or t j (pos 0)) in
+      let z = undone_at n j (get_or t j (pos 0)) in
       ap (λ (l : List ℤ). set (take j (undone n t) ++ l) j z) (drop-cons t j (pos 0) h)
       ∙ set_at (take j (undone n t)) (get_or t j (pos 0)) (drop (suc j) t) z j (front j h)
       ∙ sym (append_snoc (take j (undone n t)) z (drop (suc j) t))
@@ -202,7 +202,7 @@ module _ (n : ℕ) (t : List ℤ) where
       ∙ take_all (length t) (undone n t) (rw length-undone (omega arith))
 
 -- a turn of the loop, and its end
-pub undo-turn : (n : ℕ) (t u : List ℤ) (j : ℕ) (z : ℤ) → u ≡ undoing n t j → j < length t → z ≡ undoneAt n j (get_or u j (pos 0))
+pub undo-turn : (n : ℕ) (t u : List ℤ) (j : ℕ) (z : ℤ) → u ≡ undoing n t j → j < length t → z ≡ undone_at n j (get_or u j (pos 0))
     → set u j z ≡ undoing n t (j + 1)
 undo-turn n t u j z e h d =
     let s : get_or u j (pos 0) ≡ get_or t j (pos 0) = ap (λ (l : List ℤ). get_or l j (pos 0)) e ∙ undoing-here n t j h in

@@ -11,11 +11,11 @@ use native.Mathlib.Nat.{add-zero, add-suc}
 use lib.IntN.{ℤ}
 use lib.ListN.{length, get_or, replicate}
 use borrow.Author.Tests.{eq-eqb, ne_eqb}
-use Rattle.cell.specs.Boxes.{Quad, num, quadAt}
-use Rattle.cell.specs.Cells.{noCell}
+use Rattle.cell.specs.Boxes.{Quad, num, quad_at}
+use Rattle.cell.specs.Cells.{no_cell}
 use Rattle.cell.proofs.Contact.{shares-sym}
 use Rattle.table.specs.Slots.{cell_at}
-use Rattle.table.specs.Mesh.{Cell, at, table, optIf}
+use Rattle.table.specs.Mesh.{Cell, at, table, opt_if}
 use Rattle.table.specs.Formed.{Formed, WellFormed}
 use Rattle.table.proofs.Cells.{length-table, at_table}
 use Rattle.table.proofs.Meshes.{not_some, some_is, num-below, kids-in}
@@ -23,11 +23,11 @@ use Rattle.table.proofs.Wellformed.{num-quad}
 use Rattle.coarsest.specs.Passes.{Engine, balancing, conforming, pass}
 use Rattle.coarsest.specs.Sweep.{rows}
 use Rattle.coarsest.proofs.Least.{due-of, level-most}
-use Rattle.coarsest.proofs.Sweep.{dueOf, rows-keeps}
+use Rattle.coarsest.proofs.Sweep.{due_of, rows-keeps}
 use Rattle.coarsest.proofs.Rows.{row-none}
 use Rattle.coarsest.proofs.Settled.{Calm, calm-keeps, settled}
 use Rattle.descent.specs.Search.{Indexed}
-use Rattle.descent.specs.Marks.{markAt, Wanted, Marked}
+use Rattle.descent.specs.Marks.{mark_at, Wanted, Marked}
 use Rattle.descent.proofs.Marking.{kid-meets}
 use Rattle.descent.proofs.Slots.{leaf-slot, split-slot}
 use Rattle.even.proofs.Pairs.{no_true}
@@ -37,8 +37,8 @@ use Rattle.even.specs.Watch.{Watched, Settled, Unmarked, Reaches, Kept, Met}
 -- ---- rows without a mark
 
 module _ (e : Engine) (k n : ℕ) (marks : List Bool) (T : List Cell) (long : n ≤ length T) (watched : Watched e k marks T n) where
-  calm : (a : ℕ) → a < n → markAt marks a ≡ false → Calm e k n a n T
-  calm a h u = record { long = long; calm = λ b l. no_true (dueOf e k T a b) (λ d. true≢false (sym (watched a b h l d) ∙ u)) }
+  calm : (a : ℕ) → a < n → mark_at marks a ≡ false → Calm e k n a n T
+  calm a h u = record { long = long; calm = λ b l. no_true (due_of e k T a b) (λ d. true≢false (sym (watched a b h l d) ∙ u)) }
 
   -- from a on, d rows without a mark
   pub rows_on : (a d : ℕ) → a + d ≤ n → Unmarked marks a (a + d) → rows e k n T (a + d) ≡ rows e k n T a
@@ -69,7 +69,7 @@ watched-all e k t n m h a b ha hb d = go m (a / 8) (omega arith)
 module _ (e : Engine) (k M : ℕ) (t : List Cell) (formed : Formed M t) (p f low high : ℕ) (kids : (at t p).kids ≡ some f)
     (spans : (x : ℕ) → Reaches e k M ((at t p).level + 1) x → (low ≤ x) × (x ≤ high)) where
   wanted_by : (d : Engine) → ((x : ℕ) → Reaches d k M ((at t p).level + 1) x → (low ≤ x) × (x ≤ high)) → (q : Quad) (y a : ℕ) → y ≡ f + num q → a < length t
-      → dueOf d k t a y ≡ true → Wanted t p low high a
+      → due_of d k t a y ≡ true → Wanted t p low high a
   wanted_by balancing sp q y a z ha due =
       let w = due-of k t a y due in
       let l = ap (λ (x : ℕ). (at t x).level) z ∙ ((formed.split p f kids).kid q).level in
@@ -87,7 +87,7 @@ module _ (e : Engine) (k M : ℕ) (t : List Cell) (formed : Formed M t) (p f low
   pub kid-met : (n : ℕ) → n ≤ length t → (old mid new : List Bool) → Marked (λ (a : ℕ). a < n) (Wanted t p low high) old mid
       → Marked (λ (a : ℕ). (f ≤ a) × (a < f + 4)) (λ (a : ℕ). a ≡ a) mid new → (y : ℕ) → f ≤ y → y < f + 4 → Met e k new t n y
   kid-met n hn old mid new near four y l h =
-      let q = quadAt (y - f) in
+      let q = quad_at (y - f) in
       let g = num-quad (y - f) (omega arith) in
       let z : y ≡ f + num q = omega arith in
       record {
@@ -109,7 +109,7 @@ watched-new e k marks t stop n settled met a b ha hb d =
 
 -- after a pass no pair of the cells of its start is due
 pub settled-pass : (e : Engine) (k M : ℕ) (T : List Cell) (t u : List ℤ) (n r stop : ℕ) → On M (pass e k T) t u n r → stop ≤ length T → Settled e k (table u r) stop
-settled-pass e k M T t u n r stop o h a b ha hb = ap (λ (x : List Cell). dueOf e k x a b) o.cells ∙ settled e k T a b (omega arith) (omega arith)
+settled-pass e k M T t u n r stop o h a b ha hb = ap (λ (x : List Cell). due_of e k x a b) o.cells ∙ settled e k T a b (omega arith) (omega arith)
 
 -- ---- the group that a new cell stands in
 
@@ -125,7 +125,7 @@ born-group M t n x p w h e =
     let b = w.cells.born x p (rw (length-table t n) h) e in
     let i : p < n = rw (length-table t n) at (kids-in (table t n) p b.first b.split) in
     let same : (cell_at t p).first ≡ b.first =
-    by_cases (ℕ_discrete (cell_at t p).first noCell)
+    by_cases (ℕ_discrete (cell_at t p).first no_cell)
     (λ z. not_some (at (table t n) p).kids b.first (leaf-slot t n p i z) b.split)
     (λ z. some_is (at (table t n) p).kids (cell_at t p).first b.first (split-slot t n p i z) b.split) in
     let s = (w.cells.split p b.first b.split).below in
@@ -139,6 +139,6 @@ pub group_of : (M : ℕ) (t : List ℤ) (n top x : ℕ) (boxes : List (List ℕ)
 group_of M t n top x boxes w i l h =
     let p = (cell_at t x).parent in
     let parent = ap (λ (c : Cell). c.parent) (at_table t n x h) in
-    by_cases (ℕ_discrete p noCell)
-    (λ e. let r = (i x (parent ∙ ap (λ (b : Bool). optIf b p) (eq-eqb p noCell e))).0 in absurd (omega arith))
-    (λ e. born-group M t n x p w h (parent ∙ ap (λ (b : Bool). optIf b p) (ne_eqb p noCell e)))
+    by_cases (ℕ_discrete p no_cell)
+    (λ e. let r = (i x (parent ∙ ap (λ (b : Bool). opt_if b p) (eq-eqb p no_cell e))).0 in absurd (omega arith))
+    (λ e. born-group M t n x p w h (parent ∙ ap (λ (b : Bool). opt_if b p) (ne_eqb p no_cell e)))

@@ -7,9 +7,9 @@ use Rattle.coarsest.specs.Passes.{Engine, balancing, conforming, pass, evened}
 use Rattle.coarsest.specs.Sweep.{row}
 use Rattle.even.specs.Undo.{undone}
 
-abbrev pub engineOf : Bool → Engine
-engineOf false = balancing
-engineOf true = conforming
+abbrev pub engine_of : Bool → Engine
+engine_of false = balancing
+engine_of true = conforming
 
 -- from the row t of n cells to the row u, with its count or none: u holds the cells `what`, or they don't fit the slots;
 -- the splits can be taken back

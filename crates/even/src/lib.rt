@@ -8,10 +8,10 @@ ghost use Rattle.table.specs.Mesh.{at, table};
 ghost use Rattle.table.specs.Formed.{WellFormed};
 ghost use Rattle.coarsest.specs.Passes.{balancing, conforming};
 ghost use Rattle.descent.specs.Search.{Indexed};
-ghost use Rattle.even.specs.Undo.{undoneAt, undone};
-ghost use Rattle.even.specs.Parts.{engineOf, Rowed, Passed, Evened};
+ghost use Rattle.even.specs.Undo.{undone_at, undone};
+ghost use Rattle.even.specs.Parts.{engine_of, Rowed, Passed, Evened};
 ghost use Rattle.even.specs.Watch.{Watched, Settled, Unmarked, Reaches, Kept, Met};
-ghost use Rattle.even.specs.Even.{eveningSaid, evenSays, evenRow, DemandThree};
+ghost use Rattle.even.specs.Even.{evening_said, even_says, even_row, EndsCoarsest};
 
 use cell::Cell;
 use descent::index::{BLOCKS, index};
@@ -117,7 +117,7 @@ fn even_row(
     requires well_formed { WellFormed t.old n m }
     requires stop_le_n { (stop ≤ n) × (a < stop) }
     requires top_le_n { ((top ≤ n) × (length boxes.now ≡ 256)) × Indexed top boxes.now (table t.old n) }
-    ensures { Rowed (engineOf conforms) k m t.old t.new n a stop result }
+    ensures { Rowed (engine_of conforms) k m t.old t.new n a stop result }
 {
     if conforms {
         conform_row(t, m, k, n, top, boxes, a, stop)
@@ -154,8 +154,8 @@ fn even_pass(
 ) -> Option<usize>
     requires well_formed { WellFormed t.old n m }
     requires top_le_n { ((top ≤ n) × (length boxes.now ≡ 256)) × Indexed top boxes.now (table t.old n) }
-    requires marks_len { (length marks.now ≡ 2048) × Watched (engineOf conforms) k marks.now (table t.old n) n }
-    ensures { Passed (engineOf conforms) k m t.old t.new n result }
+    requires marks_len { (length marks.now ≡ 2048) × Watched (engine_of conforms) k marks.now (table t.old n) n }
+    ensures { Passed (engine_of conforms) k m t.old t.new n result }
 {
     let mut count = n;
     let mut a = next_row(marks, 0, n);
@@ -175,7 +175,7 @@ struct Levels {
 
 fn concerned(conforms: bool, m: u64, k: u64, l: u64) -> Levels
     requires { (l ≤ 64) × (k ≤ 64) }
-    ensures { (x : ℕ) → Reaches (engineOf conforms) k m l x → (result.low ≤ x) × (x ≤ result.high) }
+    ensures { (x : ℕ) → Reaches (engine_of conforms) k m l x → (result.low ≤ x) × (x ≤ result.high) }
 {
     if conforms {
         Levels {
@@ -208,7 +208,7 @@ fn mark_kids(
     requires p_lt_n { (((p < n) × (k ≤ 64)) × (length marks.old ≡ 2048)) × ((at (table t.now n) p).kids ≡ some f) }
     ensures kept { Kept marks.old marks.new }
     ensures by_index { (y : ℕ) → f ≤ y → y < f + 4
-        → Met (engineOf conforms) k marks.new (table t.now n) n y }
+        → Met (engine_of conforms) k marks.new (table t.now n) n y }
 {
     let s = concerned(conforms, m, k, level_at(t, p) + 1);
     mark_near(t, m, n, top, boxes, p, s.low, s.high, marks);
@@ -230,8 +230,8 @@ fn mark_new(
     requires well_formed { WellFormed t.now n m }
     requires top_le_n { ((top ≤ n) × (length boxes.now ≡ 256)) × Indexed top boxes.now (table t.now n) }
     requires top_le_stop { (((top ≤ stop) × (stop ≤ n)) × (k ≤ 64)) × (length marks.old ≡ 2048) }
-    requires settled { Settled (engineOf conforms) k (table t.now n) stop }
-    ensures { Watched (engineOf conforms) k marks.new (table t.now n) n }
+    requires settled { Settled (engine_of conforms) k (table t.now n) stop }
+    ensures { Watched (engine_of conforms) k marks.new (table t.now n) n }
 {
     marks.fill(false);
     let mut x = stop;
@@ -257,8 +257,8 @@ fn passes(
     requires well_formed { WellFormed t.old n m }
     requires top_le_n { ((top ≤ n) × (length boxes.now ≡ 256)) × Indexed top boxes.now (table t.old n) }
     requires marks_len { ((length marks.old ≡ 2048) × (k ≤ 64))
-        × Watched (engineOf conforms) k marks.old (table t.old n) n }
-    ensures { Evened (engineOf conforms) k m t.old t.new n result }
+        × Watched (engine_of conforms) k marks.old (table t.old n) n }
+    ensures { Evened (engine_of conforms) k m t.old t.new n result }
 {
     let mut count = n;
     'passes: loop {
@@ -276,7 +276,7 @@ fn passes(
 fn even_out(t: &mut [i64], conforms: bool, m: u64, k: u64, n: usize) -> Option<usize>
     requires well_formed { WellFormed t.old n m }
     requires k_bound { k ≤ 64 }
-    ensures { Evened (engineOf conforms) k m t.old t.new n result }
+    ensures { Evened (engine_of conforms) k m t.old t.new n result }
 {
     let top = roots_end(t, m, n);
     let mut boxes = [[0u64; 4]; BLOCKS];
@@ -285,10 +285,10 @@ fn even_out(t: &mut [i64], conforms: bool, m: u64, k: u64, n: usize) -> Option<u
     passes(t, conforms, m, k, n, top, &boxes, &mut marks)
 }
 
-#[tactic(auto, unfolding(crate::specs::Undo::undoneAt))]
+#[tactic(auto, unfolding(crate::specs::Undo::undone_at))]
 fn undone_at(n: usize, j: usize, z: i64) -> i64
     requires { n * 8 < 9223372036854775808 }
-    ensures { result ≡ undoneAt n j z }
+    ensures { result ≡ undone_at n j z }
 {
     if n * 8 <= j {
         0
@@ -312,9 +312,9 @@ fn undo(t: &mut [i64], n: usize)
 // Both calls: 7, 6, or the table evened out.
 fn even_table(t: &mut [i64], head: Head, conforms: bool, k: u64) -> Result<Evening, Refusal>
     requires { k ≤ 64 }
-    ensures result_value { eveningSaid result ≡ evenSays (engineOf conforms) k t.old head.count head.max_level }
-    ensures t_after { t.new ≡ evenRow (engineOf conforms) k t.old head.count head.max_level }
-    ensures demand_three { DemandThree k head.max_level t.old t.new head.count (eveningSaid result) }
+    ensures result_value { evening_said result ≡ even_says (engine_of conforms) k t.old head.count head.max_level }
+    ensures t_after { t.new ≡ even_row (engine_of conforms) k t.old head.count head.max_level }
+    ensures coarsest { EndsCoarsest k head.max_level t.old t.new head.count (evening_said result) }
 {
     if !well_formed(t, head) {
         return Err(Refusal::BadTable);
@@ -333,18 +333,18 @@ fn even_table(t: &mut [i64], head: Head, conforms: bool, k: u64) -> Result<Eveni
 
 // No two leaves that share an edge differ by more than one level.
 pub fn balance(t: &mut [i64], head: Head) -> Result<Evening, Refusal>
-    ensures result_value { eveningSaid result ≡ evenSays balancing 1 t.old head.count head.max_level }
-    ensures t_after { t.new ≡ evenRow balancing 1 t.old head.count head.max_level }
-    ensures demand_three { DemandThree 1 head.max_level t.old t.new head.count (eveningSaid result) }
+    ensures result_value { evening_said result ≡ even_says balancing 1 t.old head.count head.max_level }
+    ensures t_after { t.new ≡ even_row balancing 1 t.old head.count head.max_level }
+    ensures coarsest { EndsCoarsest 1 head.max_level t.old t.new head.count (evening_said result) }
 {
     even_table(t, head, false, 1)
 }
 
 // No two leaves that share an edge differ in level.
 pub fn conform(t: &mut [i64], head: Head) -> Result<Evening, Refusal>
-    ensures result_value { eveningSaid result ≡ evenSays conforming 0 t.old head.count head.max_level }
-    ensures t_after { t.new ≡ evenRow conforming 0 t.old head.count head.max_level }
-    ensures demand_three { DemandThree 0 head.max_level t.old t.new head.count (eveningSaid result) }
+    ensures result_value { evening_said result ≡ even_says conforming 0 t.old head.count head.max_level }
+    ensures t_after { t.new ≡ even_row conforming 0 t.old head.count head.max_level }
+    ensures coarsest { EndsCoarsest 0 head.max_level t.old t.new head.count (evening_said result) }
 {
     even_table(t, head, true, 0)
 }

@@ -1,4 +1,4 @@
--- What document 01's ranges say of a number. Assumes nothing.
+-- What the rules' ranges say of a number. Assumes nothing.
 use mathlib.Core.Path.{subst}
 use Prim.Native.Nat.{ℕ, ◌*◌, ◌^◌, ◌≤◌, ◌<◌}
 use native.Mathlib.Nat.{le_of_lt, mul-one}
@@ -11,7 +11,7 @@ use lib.Ieee.Fits.{and_l, and_r}
 use lib.Ieee.Back.{round_whole}
 use lib.Ieee.Exact.{HasValue}
 use lib.Ieee.Positive.{positive, positive_of_value}
-use Rattle.floats.specs.Fractions.{float, sheetLow, sheetHigh, peak, inSheet, inPotential}
+use Rattle.floats.specs.Fractions.{float, sheet_low, sheet_high, peak, in_sheet, in_potential}
 use Rattle.floats.proofs.Ranges.{In, in-positive}
 use Rattle.floats.proofs.Sizes.{within, lt-or-eq, gt-or-eq}
 
@@ -28,24 +28,24 @@ pub float-positive : (n : ℕ) → 0 < n → n ≤ 2 ^ 53 → T (positive (float
 float-positive n p h = positive_of_value (float n) n 1 (float_value n h) p
 
 -- a sheet resistance in range lies between two positive numbers
-pub sheet-in : (r : Float) → T (inSheet r) → In sheetLow sheetHigh r
-unfolding inSheet
-sheet-in r t = record { from = and_l (le sheetLow r) (le r sheetHigh) t; to = and_r (le sheetLow r) (le r sheetHigh) t }
+pub sheet-in : (r : Float) → T (in_sheet r) → In sheet_low sheet_high r
+unfolding in_sheet
+sheet-in r t = record { from = and_l (le sheet_low r) (le r sheet_high) t; to = and_r (le sheet_low r) (le r sheet_high) t }
 
-pub low-positive : T (positive sheetLow)
+pub low-positive : T (positive sheet_low)
 unfolding round
 low-positive = tt
 
-pub high-positive : T (positive sheetHigh)
+pub high-positive : T (positive sheet_high)
 unfolding round
 high-positive = tt
 
-pub sheet-positive : (r : Float) → T (inSheet r) → T (positive r)
+pub sheet-positive : (r : Float) → T (in_sheet r) → T (positive r)
 sheet-positive r t = in-positive low-positive high-positive (sheet-in r t)
 
 -- a potential in range is finite, and at most 2^20 either way
-pub potential-within : (u : Float) → T (inPotential u) → within 20 u
-unfolding inPotential le round Ieee.neg
+pub potential-within : (u : Float) → T (in_potential u) → within 20 u
+unfolding in_potential le round Ieee.neg
 potential-within nan t = absurd t
 potential-within (inf true) t = absurd t
 potential-within (inf false) t = absurd t

@@ -9,10 +9,10 @@ use lib.Ieee.Fits.{round_is}
 use lib.Ieee.Bits.{cond_no}
 use lib.Ieee.Scale.{finite}
 use lib.Ieee.Positive.{positive}
-use Rattle.floats.specs.Fractions.{noNan, nonneg}
+use Rattle.floats.specs.Fractions.{no_nan, nonneg}
 
 -- ---- what `round` gives
-odd_no_nan : (d : ℕ) (s : Bool) (q k l : ℕ) → T (noNan (odd d s q k l))
+odd_no_nan : (d : ℕ) (s : Bool) (q k l : ℕ) → T (no_nan (odd d s q k l))
 unfolding odd is_nan
 odd_no_nan d s zero k l = tt
 odd_no_nan d s (suc q) k l = tt
@@ -22,11 +22,11 @@ unfolding odd
 odd-nonneg d zero k l = tt
 odd-nonneg d (suc q) k l = tt
 
-units-no-nan : (f : Format) (s : Bool) (q k : ℕ) → T (noNan (units f s q k))
+units-no-nan : (f : Format) (s : Bool) (q k : ℕ) → T (no_nan (units f s q k))
 unfolding units is_nan
 units-no-nan f s q k = go (ltb (q * 2 ^ k) (2 ^ (low f + suc (emax f))))
   where
-    go : (b : Bool) → T (noNan (cond b (odd (suc (prec f)) s q k (low f)) (inf s)))
+    go : (b : Bool) → T (no_nan (cond b (odd (suc (prec f)) s q k (low f)) (inf s)))
     go true = odd_no_nan (suc (prec f)) s q k (low f)
     go false = tt
 
@@ -38,26 +38,26 @@ units-nonneg f q k = go (ltb (q * 2 ^ k) (2 ^ (low f + suc (emax f))))
     go true = odd-nonneg (suc (prec f)) q k (low f)
     go false = tt
 
-pub round-no-nan : (f : Format) (s : Bool) (a b : ℕ) → T (noNan (round f s a b))
-round-no-nan f s a b = subst (λ (x : Float). T (noNan x)) (sym (round_is f s a b)) (units-no-nan f s _ _)
+pub round-no-nan : (f : Format) (s : Bool) (a b : ℕ) → T (no_nan (round f s a b))
+round-no-nan f s a b = subst (λ (x : Float). T (no_nan x)) (sym (round_is f s a b)) (units-no-nan f s _ _)
 
 pub round-nonneg : (f : Format) (a b : ℕ) → T (nonneg (round f false a b))
 round-nonneg f a b = subst (λ (x : Float). T (nonneg x)) (sym (round_is f false a b)) (units-nonneg f _ _)
 
 -- ---- no NaN
-pub positive-no-nan : (x : Float) → T (positive x) → T (noNan x)
+pub positive-no-nan : (x : Float) → T (positive x) → T (no_nan x)
 unfolding is_nan
 positive-no-nan nan p = absurd p
 positive-no-nan (inf s) p = tt
 positive-no-nan (fin s m e) p = tt
 
-pub nonneg-no-nan : (x : Float) → T (nonneg x) → T (noNan x)
+pub nonneg-no-nan : (x : Float) → T (nonneg x) → T (no_nan x)
 unfolding is_nan
 nonneg-no-nan nan p = absurd p
 nonneg-no-nan (inf s) p = tt
 nonneg-no-nan (fin s m e) p = tt
 
-pub mul-no-nan : (f : Format) (x y : Float) → T (finite x) → T (finite y) → T (noNan (mul f x y))
+pub mul-no-nan : (f : Format) (x y : Float) → T (finite x) → T (finite y) → T (no_nan (mul f x y))
 unfolding mul
 mul-no-nan f nan y p q = absurd p
 mul-no-nan f (inf s) y p q = absurd p
@@ -72,7 +72,7 @@ pub nonzero : (n : ℕ) → T (ltb 0 n) → T (not (eqb n 0))
 nonzero n p = not_T (eqb n 0) (λ (u : T (eqb n 0)). above_zero n (ltb→lt 0 n p) (eqb→eq n 0 u))
 
 -- a quotient by a positive number, of anything but a NaN
-pub div-no-nan : (f : Format) (x y : Float) → T (noNan x) → T (positive y) → T (noNan (div f x y))
+pub div-no-nan : (f : Format) (x y : Float) → T (no_nan x) → T (positive y) → T (no_nan (div f x y))
 unfolding div is_nan
 div-no-nan f nan y p q = absurd p
 div-no-nan f (inf s) nan p q = absurd q
@@ -82,10 +82,10 @@ div-no-nan f (fin s m e) nan p q = absurd q
 div-no-nan f (fin s m e) (inf t) p q = absurd q
 div-no-nan f (fin s m e) (fin true n d) p q = absurd q
 div-no-nan f (fin s m e) (fin false n d) p q =
-    subst (λ (x : Float). T (noNan x)) (sym (cond_no (eqb n 0) _ _ (nonzero n q))) (round-no-nan f (unlike s false) (m * up e * down d) (n * up d * down e))
+    subst (λ (x : Float). T (no_nan x)) (sym (cond_no (eqb n 0) _ _ (nonzero n q))) (round-no-nan f (unlike s false) (m * up e * down d) (n * up d * down e))
 
 -- a quotient of a positive number, by anything but a NaN
-pub div-no-nan' : (f : Format) (x y : Float) → T (positive x) → T (noNan y) → T (noNan (div f x y))
+pub div-no-nan' : (f : Format) (x y : Float) → T (positive x) → T (no_nan y) → T (no_nan (div f x y))
 unfolding div is_nan
 div-no-nan' f nan y p q = absurd p
 div-no-nan' f (inf s) y p q = absurd p
@@ -94,16 +94,16 @@ div-no-nan' f (fin false m e) nan p q = absurd q
 div-no-nan' f (fin false m e) (inf t) p q = tt
 div-no-nan' f (fin false m e) (fin t n d) p q = go (eqb n 0)
   where
-    inner : (b : Bool) → T (not b) → T (noNan (cond b nan (inf (unlike false t))))
+    inner : (b : Bool) → T (not b) → T (no_nan (cond b nan (inf (unlike false t))))
     inner true k = absurd k
     inner false k = tt
 
-    go : (b : Bool) → T (noNan (cond b (cond (eqb m 0) nan (inf (unlike false t))) (round f (unlike false t) (m * up e * down d) (n * up d * down e))))
+    go : (b : Bool) → T (no_nan (cond b (cond (eqb m 0) nan (inf (unlike false t))) (round f (unlike false t) (m * up e * down d) (n * up d * down e))))
     go true = inner (eqb m 0) (nonzero m p)
     go false = round-no-nan f (unlike false t) (m * up e * down d) (n * up d * down e)
 
 -- ---- no NaN and not negative
-pub square-nonneg : (f : Format) (x : Float) → T (noNan x) → T (nonneg (mul f x x))
+pub square-nonneg : (f : Format) (x : Float) → T (no_nan x) → T (nonneg (mul f x x))
 unfolding mul is_nan
 square-nonneg f nan p = absurd p
 square-nonneg f (inf true) p = tt

@@ -11,7 +11,7 @@ use lib.Ieee.Fits.{down_pos, and_l, round_is}
 use lib.Ieee.Exact.{HasValue, round_exact}
 use lib.Ieee.Order.{round_mono}
 use lib.Ieee.Scale.{finite}
-use Rattle.floats.specs.Fractions.{noNan, nonneg}
+use Rattle.floats.specs.Fractions.{no_nan, nonneg}
 use Rattle.floats.proofs.Signs.{round-nonneg}
 
 -- ---- bounds either way
@@ -25,7 +25,7 @@ within-finite k nan w = absurd w
 within-finite k (inf s) w = absurd w
 within-finite k (fin s m e) w = tt
 
-pub finite-no-nan : (x : Float) → T (finite x) → T (noNan x)
+pub finite-no-nan : (x : Float) → T (finite x) → T (no_nan x)
 unfolding is_nan
 finite-no-nan nan p = absurd p
 finite-no-nan (inf s) p = tt

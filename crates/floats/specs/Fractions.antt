@@ -1,4 +1,4 @@
--- Fractions in binary64: the operations, each rounded once, and document 01's ranges of a resistance and a potential.
+-- Fractions in binary64: the operations, each rounded once, and the rules' ranges of a resistance and a potential.
 use Rattle.std.specs.Prelude.{ℕ, ◌^◌, Bool, false, not, ◌&&◌, pos, Float}
 use Rattle.std.specs.Float.Ieee as Ieee
 use Rattle.std.specs.Float.{nan, inf, fin, binary64}
@@ -29,27 +29,27 @@ float n = Ieee.of_int binary64 (pos n)
 abbrev pub ratio : ℕ → ℕ → Float
 ratio a b = Ieee.round binary64 false a b
 
--- document 01: r_sheet from 2^-40 to 2^40
-abbrev pub sheetLow : Float
-sheetLow = ratio 1 (2 ^ 40)
+-- the rules: r_sheet from 2^-40 to 2^40
+abbrev pub sheet_low : Float
+sheet_low = ratio 1 (2 ^ 40)
 
-abbrev pub sheetHigh : Float
-sheetHigh = ratio (2 ^ 40) 1
+abbrev pub sheet_high : Float
+sheet_high = ratio (2 ^ 40) 1
 
 -- a NaN compares with nothing, so it is out of range
-unfoldable pub inSheet : Float → Bool
-inSheet r = Ieee.le sheetLow r && Ieee.le r sheetHigh
+unfoldable pub in_sheet : Float → Bool
+in_sheet r = Ieee.le sheet_low r && Ieee.le r sheet_high
 
--- document 01: a potential is finite, and of a magnitude of at most 2^20
+-- the rules: a potential is finite, and of a magnitude of at most 2^20
 abbrev pub peak : Float
 peak = ratio (2 ^ 20) 1
 
-unfoldable pub inPotential : Float → Bool
-inPotential u = Ieee.le (Ieee.neg peak) u && Ieee.le u peak
+unfoldable pub in_potential : Float → Bool
+in_potential u = Ieee.le (Ieee.neg peak) u && Ieee.le u peak
 
 -- no NaN
-abbrev pub noNan : Float → Bool
-noNan x = not (is_nan x)
+abbrev pub no_nan : Float → Bool
+no_nan x = not (is_nan x)
 
 -- no NaN and no minus sign, not even that of -0
 abbrev pub nonneg : Float → Bool

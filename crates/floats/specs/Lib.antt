@@ -1,2 +1,2 @@
--- Fractions in binary64, as the formulas of document 01 use them.
+-- Fractions in binary64, as the formulas of the rules use them.
 pub mod Fractions

@@ -10,7 +10,7 @@ use borrow.Rule.Slice.PartMut.{put_mid}
 use lib.IntN.{ℤ}
 use lib.ListN.{length, get_or, take}
 use lib.Seq.{length-take-le, take-take}
-use Rattle.refusals.specs.Limits.{maxSlots}
+use Rattle.refusals.specs.Limits.{max_slots}
 use Rattle.rows.specs.Order as Rows
 use Rattle.rows.specs.Parts.{part, put, tab}
 use Rattle.rows.specs.Contract.{Small, Sorted}
@@ -20,7 +20,7 @@ use Rattle.rows.proofs.Lent.{block-long, block-other, block-third}
 use Rattle.net.specs.First.{first_of}
 use Rattle.places.proofs.Numbers.{first-of}
 use Rattle.places.proofs.Numbered.{tab-small}
-use Rattle.gaps.specs.Gaps.{Rowed, line_key, alongKey, line_of, lineKeys, Ranked}
+use Rattle.gaps.specs.Gaps.{Rowed, line_key, along_key, line_of, line_keys, Ranked}
 use Rattle.gaps.proofs.Neighbours.{line_small, first_small, along-small}
 
 -- n keys are written in front of a row, which has room for a block
@@ -121,26 +121,26 @@ module _ (across : Bool) (row : List ℤ) (n : ℕ) (w₀ : List ℕ) (P : Rowed
     unfolding line_of
     firsts-are = first_part n (line_key across row) w₀ w₁ room e₁ last₂ is₂
 
-    pub along-requires : Rowed row n × ((3 * n ≤ length w₂) × Small (4 * maxSlots) (part w₂ (n + n) n))
+    pub along-requires : Rowed row n × ((3 * n ≤ length w₂) × Small (4 * max_slots) (part w₂ (n + n) n))
     along-requires =
-        (P, (room₂, subst (Small (4 * maxSlots)) (sym firsts-are) (unfold line_of in tab-small (first_of (tab (line_key across row) n)) n (4 * maxSlots) (first_small across row n P))))
+        (P, (room₂, subst (Small (4 * max_slots)) (sym firsts-are) (unfold line_of in tab-small (first_of (tab (line_key across row) n)) n (4 * max_slots) (first_small across row n P))))
 
-    module _ (w₃ : List ℕ) (e₃ : w₃ ≡ put w₂ 0 (tab (alongKey across row (part w₂ (n + n) n)) n)) where
-      along-are : w₃ ≡ put w₂ 0 (tab (alongKey across row (line_of across row n)) n)
-      along-are = e₃ ∙ ap (λ (z : List ℕ). put w₂ 0 (tab (alongKey across row z) n)) firsts-are
+    module _ (w₃ : List ℕ) (e₃ : w₃ ≡ put w₂ 0 (tab (along_key across row (part w₂ (n + n) n)) n)) where
+      along-are : w₃ ≡ put w₂ 0 (tab (along_key across row (line_of across row n)) n)
+      along-are = e₃ ∙ ap (λ (z : List ℕ). put w₂ 0 (tab (along_key across row z) n)) firsts-are
 
       pub along-sorts : (length (take (3 * n - 0) w₃) ≡ 3 * n) × Small (2 ^ 54) (take n (take (3 * n - 0) w₃))
-      along-sorts = keyed-sorts n (alongKey across row (line_of across row n)) w₂ w₃ room₂ along-are (2 ^ 54) (along-small across row n P)
+      along-sorts = keyed-sorts n (along_key across row (line_of across row n)) w₂ w₃ room₂ along-are (2 ^ 54) (along-small across row n P)
 
       module _ (last₄ : List ℕ) (S₄ : Sorted (take n (take (3 * n - 0) w₃)) last₄ n) where
         pub lines-ranked : Ranked across row w₀ (put_mid 0 (3 * n - 0) w₃ last₄) n
-        unfolding lineKeys
+        unfolding line_keys
         lines-ranked =
             let l = first-long n (line_key across row) w₀ w₁ room e₁ last₂ is₂ in
             record {
-              long = sorted-long n (alongKey across row (line_of across row n)) w₂ w₃ room₂ along-are last₄ S₄ ∙ l;
-              kept = λ j h g. sorted-kept n (alongKey across row (line_of across row n)) w₂ w₃ room₂ along-are last₄ S₄ j h
+              long = sorted-long n (along_key across row (line_of across row n)) w₂ w₃ room₂ along-are last₄ S₄ ∙ l;
+              kept = λ j h g. sorted-kept n (along_key across row (line_of across row n)) w₂ w₃ room₂ along-are last₄ S₄ j h
                   ∙ first-kept n (line_key across row) w₀ w₁ room e₁ last₂ is₂ j h g;
-              keys = sorted-keys n (alongKey across row (line_of across row n)) w₂ w₃ room₂ along-are last₄ S₄;
-              order = sorted-order n (alongKey across row (line_of across row n)) w₂ w₃ room₂ along-are last₄ S₄;
+              keys = sorted-keys n (along_key across row (line_of across row n)) w₂ w₃ room₂ along-are last₄ S₄;
+              order = sorted-order n (along_key across row (line_of across row n)) w₂ w₃ room₂ along-are last₄ S₄;
             }

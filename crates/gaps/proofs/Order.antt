@@ -12,9 +12,9 @@ use Rattle.rows.specs.Ordered.{Before}
 use Rattle.rows.specs.Parts.{part}
 use Rattle.rows.proofs.Parts.{length_part, part_at}
 use Rattle.rows.proofs.Ascending.{ordered-is, length-ordered}
-use Rattle.net.specs.Flat.{pickNum}
+use Rattle.net.specs.Flat.{pick_num}
 use Rattle.places.specs.Places.{wide}
-use Rattle.gaps.specs.Gaps.{rank_at, key_at, riseAt, Lined}
+use Rattle.gaps.specs.Gaps.{rank_at, key_at, rise_at, Lined}
 
 module _ (ks : List ℕ) where
   pub rank-low : (k : ℕ) → k < length ks → rank_at ks k < length ks
@@ -27,17 +27,17 @@ module _ (ks : List ℕ) where
   ranks-apart a b h k e = let r = (ranks-go a b h k).tie (ap (λ (i : ℕ). get_or ks i 0) e) in omega arith
 
   -- the cases of a gap
-  pub rise-is : (k : ℕ) → suc k < length ks → key_at ks k / wide ≡ key_at ks (suc k) / wide → riseAt ks k ≡ key_at ks (suc k) - key_at ks k
-  unfolding riseAt
-  rise-is k h e = ap (λ (b : Bool). pickNum b (key_at ks (suc k) - key_at ks k) 0) (ap₂ {C = Bool} (λ u v. u && v) (lt-ltb (suc k) (length ks) h) (eq-eqb (key_at ks k / wide) (key_at ks (suc k) / wide) e))
+  pub rise-is : (k : ℕ) → suc k < length ks → key_at ks k / wide ≡ key_at ks (suc k) / wide → rise_at ks k ≡ key_at ks (suc k) - key_at ks k
+  unfolding rise_at
+  rise-is k h e = ap (λ (b : Bool). pick_num b (key_at ks (suc k) - key_at ks k) 0) (ap₂ {C = Bool} (λ u v. u && v) (lt-ltb (suc k) (length ks) h) (eq-eqb (key_at ks k / wide) (key_at ks (suc k) / wide) e))
 
-  pub rise-last : (k : ℕ) → length ks ≤ suc k → riseAt ks k ≡ 0
-  unfolding riseAt
-  rise-last k h = ap (λ (b : Bool). pickNum (b && eqb (key_at ks k / wide) (key_at ks (suc k) / wide)) (key_at ks (suc k) - key_at ks k) 0) (le-ltb (suc k) (length ks) h)
+  pub rise-last : (k : ℕ) → length ks ≤ suc k → rise_at ks k ≡ 0
+  unfolding rise_at
+  rise-last k h = ap (λ (b : Bool). pick_num (b && eqb (key_at ks k / wide) (key_at ks (suc k) / wide)) (key_at ks (suc k) - key_at ks k) 0) (le-ltb (suc k) (length ks) h)
 
-  pub rise-other : (k : ℕ) → suc k < length ks → (key_at ks k / wide ≡ key_at ks (suc k) / wide → ⊥) → riseAt ks k ≡ 0
-  unfolding riseAt
-  rise-other k h e = ap (λ (b : Bool). pickNum b (key_at ks (suc k) - key_at ks k) 0) (ap₂ {C = Bool} (λ u v. u && v) (lt-ltb (suc k) (length ks) h) (ne_eqb (key_at ks k / wide) (key_at ks (suc k) / wide) e))
+  pub rise-other : (k : ℕ) → suc k < length ks → (key_at ks k / wide ≡ key_at ks (suc k) / wide → ⊥) → rise_at ks k ≡ 0
+  unfolding rise_at
+  rise-other k h e = ap (λ (b : Bool). pick_num b (key_at ks (suc k) - key_at ks k) 0) (ap₂ {C = Bool} (λ u v. u && v) (lt-ltb (suc k) (length ks) h) (ne_eqb (key_at ks k / wide) (key_at ks (suc k) / wide) e))
 
 -- keys and order in front of a row
 module _ (w : List ℕ) (n : ℕ) (L : Lined w n) where
@@ -74,10 +74,10 @@ module _ (w : List ℕ) (n : ℕ) (L : Lined w n) where
       let r = (ranks-go (part w 0 n) k (suc k) (omega arith) (omega arith)).low in
       omega arith
 
-  pub last_rise : (k : ℕ) → n ≤ k + 1 → 0 ≡ riseAt (part w 0 n) k
+  pub last_rise : (k : ℕ) → n ≤ k + 1 → 0 ≡ rise_at (part w 0 n) k
   last_rise k h = let l = keys-long in sym (rise-last (part w 0 n) k (omega arith))
 
-  pub one_line : (k : ℕ) → suc k < n → get_or w (get_or w (n + k) 0) 0 / wide ≡ get_or w (get_or w (n + k + 1) 0) 0 / wide → get_or w (get_or w (n + k + 1) 0) 0 - get_or w (get_or w (n + k) 0) 0 ≡ riseAt (part w 0 n) k
+  pub one_line : (k : ℕ) → suc k < n → get_or w (get_or w (n + k) 0) 0 / wide ≡ get_or w (get_or w (n + k + 1) 0) 0 / wide → get_or w (get_or w (n + k + 1) 0) 0 - get_or w (get_or w (n + k) 0) 0 ≡ rise_at (part w 0 n) k
   one_line k h e =
       let l = keys-long in
       let a = key-is k (omega arith) in
@@ -85,7 +85,7 @@ module _ (w : List ℕ) (n : ℕ) (L : Lined w n) where
       ap₂ (λ (u v : ℕ). u - v) b a
       ∙ sym (rise-is (part w 0 n) k (omega arith) (ap (λ (z : ℕ). z / wide) (sym a) ∙ (e ∙ ap (λ (z : ℕ). z / wide) b)))
 
-  pub two_lines : (k : ℕ) → suc k < n → (get_or w (get_or w (n + k) 0) 0 / wide ≡ get_or w (get_or w (n + k + 1) 0) 0 / wide → ⊥) → 0 ≡ riseAt (part w 0 n) k
+  pub two_lines : (k : ℕ) → suc k < n → (get_or w (get_or w (n + k) 0) 0 / wide ≡ get_or w (get_or w (n + k + 1) 0) 0 / wide → ⊥) → 0 ≡ rise_at (part w 0 n) k
   two_lines k h f =
       let l = keys-long in
       let a = key-is k (omega arith) in

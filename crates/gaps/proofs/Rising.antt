@@ -11,19 +11,19 @@ use lib.Seq.{get_or-set_same, get_or-set_other, ext_get_or}
 use Rattle.rows.specs.Order.{ordered}
 use Rattle.rows.specs.Parts.{part}
 use Rattle.rows.proofs.Parts.{length_part, part_at}
-use Rattle.gaps.specs.Gaps.{rank_at, riseAt, fallAt, Lined, Risen}
+use Rattle.gaps.specs.Gaps.{rank_at, rise_at, fall_at, Lined, Risen}
 use Rattle.gaps.proofs.Order.{rank-low, ranks-apart, keys-long, rank_is}
 
 -- once k of n are written
 pub record Rising (w₀ w : List ℕ) (n l at fall k : ℕ) : Type 0 where
   pub long : length w ≡ length w₀
   pub kept : (j : ℕ) → (j < at) ⊎ (at + 8 * l ≤ j) → get_or w j 0 ≡ get_or w₀ j 0
-  pub next : (q : ℕ) → q < k → get_or w (at + rank_at (part w₀ 0 n) q) 0 ≡ riseAt (part w₀ 0 n) q
-  pub prev : (q : ℕ) → q < k → get_or w (at + 4 * l + rank_at (part w₀ 0 n) q) 0 ≡ fallAt (part w₀ 0 n) q
-  pub last : fall ≡ fallAt (part w₀ 0 n) k
+  pub next : (q : ℕ) → q < k → get_or w (at + rank_at (part w₀ 0 n) q) 0 ≡ rise_at (part w₀ 0 n) q
+  pub prev : (q : ℕ) → q < k → get_or w (at + 4 * l + rank_at (part w₀ 0 n) q) 0 ≡ fall_at (part w₀ 0 n) q
+  pub last : fall ≡ fall_at (part w₀ 0 n) k
 
-fall-suc : (ks : List ℕ) (k : ℕ) → fallAt ks (suc k) ≡ riseAt ks k
-unfolding fallAt
+fall-suc : (ks : List ℕ) (k : ℕ) → fall_at ks (suc k) ≡ rise_at ks k
+unfolding fall_at
 fall-suc ks k = refl
 
 -- an entry of two that were written
@@ -38,7 +38,7 @@ module _ (w₀ : List ℕ) (n l at : ℕ) (L : Lined w₀ n) (most : n ≤ 4 * l
         kept = λ j o. refl;
         next = λ q h. absurd (omega arith);
         prev = λ q h. absurd (omega arith);
-        last = unfold fallAt in refl;
+        last = unfold fall_at in refl;
       }
 
   module _ (w : List ℕ) (fall k : ℕ) (R : Rising w₀ w n l at fall k) where
@@ -71,7 +71,7 @@ module _ (w₀ : List ℕ) (n l at : ℕ) (L : Lined w₀ n) (most : n ≤ 4 * l
     rank_below h = let e = rank-there h in let s = keys-long w₀ n L in let r = rank-low (part w₀ 0 n) k (omega arith) in omega arith
 
     -- one more, at its index i
-    module _ (h : k < n) (x : ℕ) (q : x ≡ riseAt (part w 0 n) k) where
+    module _ (h : k < n) (x : ℕ) (q : x ≡ rise_at (part w 0 n) k) where
       abbrev i : ℕ
       i = rank_at (part w₀ 0 n) k
 
@@ -81,8 +81,8 @@ module _ (w₀ : List ℕ) (n l at : ℕ) (L : Lined w₀ n) (most : n ≤ 4 * l
       i-low : i < n
       i-low = let e = rank-there h in let r = rank_below h in omega arith
 
-      rise-there : x ≡ riseAt (part w₀ 0 n) k
-      rise-there = q ∙ ap (λ (z : List ℕ). riseAt z k) (part_same 0 (omega arith))
+      rise-there : x ≡ rise_at (part w₀ 0 n) k
+      rise-there = q ∙ ap (λ (z : List ℕ). rise_at z k) (part_same 0 (omega arith))
 
       other : (m : ℕ) → m < k + 1 → m ≢ k → (rank_at (part w₀ 0 n) m < n) × (rank_at (part w₀ 0 n) m ≢ i)
       other m g ne =
@@ -90,25 +90,25 @@ module _ (w₀ : List ℕ) (n l at : ℕ) (L : Lined w₀ n) (most : n ≤ 4 * l
           let r = rank-low (part w₀ 0 n) m (omega arith) in
           (omega arith, ranks-apart (part w₀ 0 n) m k (omega arith) (omega arith))
 
-      next-there : (m : ℕ) → m < k + 1 → get_or v (at + rank_at (part w₀ 0 n) m) 0 ≡ riseAt (part w₀ 0 n) m
+      next-there : (m : ℕ) → m < k + 1 → get_or v (at + rank_at (part w₀ 0 n) m) 0 ≡ rise_at (part w₀ 0 n) m
       next-there m g =
           let r = i-low in
           let e = R.long in
           by_cases (ℕ_discrete m k)
-          (λ (p : m ≡ k). subst (λ (z : ℕ). get_or v (at + rank_at (part w₀ 0 n) z) 0 ≡ riseAt (part w₀ 0 n) z) (sym p)
+          (λ (p : m ≡ k). subst (λ (z : ℕ). get_or v (at + rank_at (part w₀ 0 n) z) 0 ≡ rise_at (part w₀ 0 n) z) (sym p)
           (get_or-set_other (set w (at + i) x) (at + 4 * l + i) (at + i) fall 0 (λ u. omega arith) ∙ (get_or-set_same w (at + i) x 0 (omega arith) ∙ rise-there)))
           (λ (p : m ≢ k).
           let o = other m g p in
           let a = o.0 in
           two-set w (at + i) (at + 4 * l + i) x fall (at + rank_at (part w₀ 0 n) m) (λ u. o.1 (omega arith)) (λ u. omega arith) ∙ R.next m (omega arith))
 
-      prev-there : (m : ℕ) → m < k + 1 → get_or v (at + 4 * l + rank_at (part w₀ 0 n) m) 0 ≡ fallAt (part w₀ 0 n) m
+      prev-there : (m : ℕ) → m < k + 1 → get_or v (at + 4 * l + rank_at (part w₀ 0 n) m) 0 ≡ fall_at (part w₀ 0 n) m
       prev-there m g =
           let r = i-low in
           let e = R.long in
           let f = length-set w (at + i) x in
           by_cases (ℕ_discrete m k)
-          (λ (p : m ≡ k). subst (λ (z : ℕ). get_or v (at + 4 * l + rank_at (part w₀ 0 n) z) 0 ≡ fallAt (part w₀ 0 n) z) (sym p)
+          (λ (p : m ≡ k). subst (λ (z : ℕ). get_or v (at + 4 * l + rank_at (part w₀ 0 n) z) 0 ≡ fall_at (part w₀ 0 n) z) (sym p)
           (get_or-set_same (set w (at + i) x) (at + 4 * l + i) fall 0 (omega arith) ∙ R.last))
           (λ (p : m ≢ k).
           let o = other m g p in
@@ -130,7 +130,7 @@ module _ (w₀ : List ℕ) (n l at : ℕ) (L : Lined w₀ n) (most : n ≤ 4 * l
             kept = outside;
             next = next-there;
             prev = prev-there;
-            last = rise-there ∙ (sym (fall-suc (part w₀ 0 n) k) ∙ ap (fallAt (part w₀ 0 n)) (sym (add-one k)));
+            last = rise-there ∙ (sym (fall-suc (part w₀ 0 n) k) ∙ ap (fall_at (part w₀ 0 n)) (sym (add-one k)));
           }
 
       pub rising-turn : Rising w₀ (set (set w (at + get_or w (n + k) 0) x) (at + 4 * l + get_or w (n + k) 0) fall) n l at x (k + 1)

@@ -7,9 +7,9 @@ use Prim.Native.Nat.{ℕ, zero, suc, ◌+◌, ◌*◌, ◌<◌, ◌≤◌}
 use native.Mathlib.Omega.{arith}
 use lib.IntN.{ℤ}
 use lib.ListN.{length, get_or}
-use Rattle.net.specs.Net.{nextGap, prevGap, gap}
-use Rattle.node_rows.specs.Rows.{nodesIn, Gapped, extentAt, way_of}
-use Rattle.gaps.specs.Gaps.{allFacing, rank_at, riseAt, fallAt, Ranked, Risen, Spaced}
+use Rattle.net.specs.Net.{next_gap, prev_gap, gap}
+use Rattle.node_rows.specs.Rows.{nodes_in, Gapped, extent_at, way_of}
+use Rattle.gaps.specs.Gaps.{all_facing, rank_at, rise_at, fall_at, Ranked, Risen, Spaced}
 use Rattle.gaps.proofs.Neighbours.{Spot, spot, line-next, line-prev}
 
 module _ (across : Bool) (row : List ℤ) (w₀ w₁ w₂ : List ℕ) (n l at : ℕ) (most : n ≤ 4 * l) (K : Ranked across row w₀ w₁ n) (R : Risen w₁ w₂ n l at) where
@@ -22,19 +22,19 @@ module _ (across : Bool) (row : List ℤ) (w₀ w₁ w₂ : List ℕ) (n l at : 
         prev = λ i h. prev i (spot across row n i h);
       }
     where
-      next : (i : ℕ) → Spot across row n i → get_or w₂ (at + i) 0 ≡ nextGap (allFacing across (nodesIn row n)) i
+      next : (i : ℕ) → Spot across row n i → get_or w₂ (at + i) 0 ≡ next_gap (all_facing across (nodes_in row n)) i
       next i s =
-          let r = subst (λ (ks : List ℕ). get_or w₂ (at + rank_at ks s.at) 0 ≡ riseAt ks s.at) K.keys (R.next s.at s.inside) in
-          subst (λ (z : ℕ). get_or w₂ (at + z) 0 ≡ nextGap (allFacing across (nodesIn row n)) z) s.here (r ∙ sym (line-next across row n s.at s.inside))
+          let r = subst (λ (ks : List ℕ). get_or w₂ (at + rank_at ks s.at) 0 ≡ rise_at ks s.at) K.keys (R.next s.at s.inside) in
+          subst (λ (z : ℕ). get_or w₂ (at + z) 0 ≡ next_gap (all_facing across (nodes_in row n)) z) s.here (r ∙ sym (line-next across row n s.at s.inside))
 
-      prev : (i : ℕ) → Spot across row n i → get_or w₂ (at + 4 * l + i) 0 ≡ prevGap (allFacing across (nodesIn row n)) i
+      prev : (i : ℕ) → Spot across row n i → get_or w₂ (at + 4 * l + i) 0 ≡ prev_gap (all_facing across (nodes_in row n)) i
       prev i s =
-          let r = subst (λ (ks : List ℕ). get_or w₂ (at + 4 * l + rank_at ks s.at) 0 ≡ fallAt ks s.at) K.keys (R.prev s.at s.inside) in
-          subst (λ (z : ℕ). get_or w₂ (at + 4 * l + z) 0 ≡ prevGap (allFacing across (nodesIn row n)) z) s.here (r ∙ sym (line-prev across row n s.at s.inside))
+          let r = subst (λ (ks : List ℕ). get_or w₂ (at + 4 * l + rank_at ks s.at) 0 ≡ fall_at ks s.at) K.keys (R.prev s.at s.inside) in
+          subst (λ (z : ℕ). get_or w₂ (at + 4 * l + z) 0 ≡ prev_gap (all_facing across (nodes_in row n)) z) s.here (r ∙ sym (line-prev across row n s.at s.inside))
 
 -- both calls
 module _ (row : List ℤ) (w₀ w₁ w₂ : List ℕ) (n l : ℕ) (most : n ≤ 4 * l) (room : 64 * l ≤ length w₀) (C : Spaced false row w₀ w₁ n l (44 * l)) (D : Spaced true row w₁ w₂ n l (52 * l)) where
-  at-way : (q i : ℕ) → q < 4 → i < n → extentAt w₂ l q i ≡ gap (way_of q) (nodesIn row n) i
+  at-way : (q i : ℕ) → q < 4 → i < n → extent_at w₂ l q i ≡ gap (way_of q) (nodes_in row n) i
   unfolding gap
   at-way zero i h k =
       let e = C.long in

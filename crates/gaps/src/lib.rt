@@ -5,12 +5,12 @@
 #![tactic(auto)]
 
 ghost use Rattle.std.specs.Prelude.{◌≡◌, ◌+◌, ◌*◌, ◌<◌, ◌≤◌, length};
-ghost use Rattle.refusals.specs.Limits.{maxSlots};
+ghost use Rattle.refusals.specs.Limits.{max_slots};
 ghost use Rattle.rows.specs.Parts.{part, put, tab};
 ghost use Rattle.rows.specs.Contract.{Small};
 ghost use Rattle.places.specs.Places.{wide};
-ghost use Rattle.node_rows.specs.Rows.{nodeIn, Noded, Gapped};
-ghost use Rattle.gaps.specs.Gaps.{facing, Rowed, line_key, alongKey, Lined, riseAt, Ranked, Risen, Spaced};
+ghost use Rattle.node_rows.specs.Rows.{node_in, Noded, Gapped};
+ghost use Rattle.gaps.specs.Gaps.{facing, Rowed, line_key, along_key, Lined, rise_at, Ranked, Risen, Spaced};
 
 use refusals::limits;
 
@@ -23,7 +23,7 @@ const KEY_BITS: u64 = 54;
 // The coordinate that is one for all nodes of a line: x of a column, y of a row.
 fn line_at(nodes: &[i64], i: usize, across: bool) -> u64
     requires { 4 * i + 4 ≤ length nodes.now }
-    ensures { (result ≡ (facing across (nodeIn nodes.now i)).x) × (result < wide) }
+    ensures { (result ≡ (facing across (node_in nodes.now i)).x) × (result < wide) }
 {
     if across {
         node_rows::y_at(nodes, i)
@@ -35,7 +35,7 @@ fn line_at(nodes: &[i64], i: usize, across: bool) -> u64
 // The coordinate along the line.
 fn along_at(nodes: &[i64], i: usize, across: bool) -> u64
     requires { 4 * i + 4 ≤ length nodes.now }
-    ensures { (result ≡ (facing across (nodeIn nodes.now i)).y) × (result < wide) }
+    ensures { (result ≡ (facing across (node_in nodes.now i)).y) × (result < wide) }
 {
     if across {
         node_rows::x_at(nodes, i)
@@ -59,8 +59,8 @@ fn line_keys(nodes: &[i64], n: usize, work: &mut [u64], across: bool)
 fn along_keys(nodes: &[i64], n: usize, work: &mut [u64], across: bool)
     requires rowed { Rowed nodes.now n }
     requires n_in_bounds { 3 * n ≤ length work.old }
-    requires small { Small (4 * maxSlots) (part work.old (n + n) n) }
-    ensures { work.new ≡ put work.old 0 (tab (alongKey across nodes.now (part work.old (n + n) n)) n) }
+    requires small { Small (4 * max_slots) (part work.old (n + n) n) }
+    ensures { work.new ≡ put work.old 0 (tab (along_key across nodes.now (part work.old (n + n) n)) n) }
 {
     let m = n + n;
     for i in 0..n {
@@ -88,7 +88,7 @@ fn sort_lines(nodes: &[i64], n: usize, work: &mut [u64], across: bool)
 fn rise_at(work: &[u64], n: usize, k: usize) -> u64
     requires lined { Lined work.now n }
     requires k_lt_n { k < n }
-    ensures { result ≡ riseAt (part work.now 0 n) k }
+    ensures { result ≡ rise_at (part work.now 0 n) k }
 {
     if n <= k + 1 {
         return 0;

@@ -10,7 +10,7 @@ use Rattle.table.specs.Mesh.{Cell, at, split, is_none}
 use Rattle.table.specs.Formed.{Formed}
 use Rattle.table.proofs.Meshes.{root_in, Kept, kept, formed-split}
 use Rattle.coarsest.specs.Passes.{balancing, conforming, evened, balance, conform}
-use Rattle.coarsest.specs.Names.{Route, Leaf, rootsOf, find, splitIn, splitting, Evens}
+use Rattle.coarsest.specs.Names.{Route, Leaf, roots_of, find, split_in, splitting, Evens}
 use Rattle.coarsest.proofs.Roots.{roots_kept}
 use Rattle.coarsest.proofs.Find.{Named, named, tells, stands_of, find-rooted, is-root, root_is}
 use Rattle.coarsest.proofs.Kept.{evened-from}
@@ -20,11 +20,11 @@ use Rattle.hanging.specs.Strip.{RootOf, OneStrip, Even, Balanced, Conformed, Spl
 
 leaf-whole : (t : List Cell) (r : ℕ) (p : Route) (i : ℕ) → find t r p ≡ some i → (at t i).kids ≡ none → splitting t r p ≡ false
 unfolding splitting
-leaf-whole t r p i e k = ap (splitIn t) e ∙ ap (λ (o : Option ℕ). not (is_none o)) k
+leaf-whole t r p i e k = ap (split_in t) e ∙ ap (λ (o : Option ℕ). not (is_none o)) k
 
 -- a table that has the coarsest splitting is even
 module _ (d M : ℕ) (t u : List Cell) (evens : Evens d M t u) where
-  leaf-of : (i : ℕ) → (at u i).kids ≡ none → (n : Named M u evens.formed i) → Leaf (rootsOf t) (splitting u) n.root n.path (at u i).box
+  leaf-of : (i : ℕ) → (at u i).kids ≡ none → (n : Named M u evens.formed i) → Leaf (roots_of t) (splitting u) n.root n.path (at u i).box
   leaf-of i k n =
       record {
         root = (at u n.root).box;

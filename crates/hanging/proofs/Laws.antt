@@ -7,14 +7,14 @@ use lib.IntN.{ℤ}
 use lib.ListN.{length}
 use Rattle.cell.specs.Boxes.{Box}
 use Rattle.table.specs.Mesh.{Cell, at, table}
-use Rattle.table.specs.Formed.{Formed, wellFormed}
-use Rattle.table.specs.Refine.{isAccepted, refineSays, refineRow}
+use Rattle.table.specs.Formed.{Formed, well_formed}
+use Rattle.table.specs.Refine.{is_accepted, refine_says, refine_row}
 use Rattle.table.proofs.Cells.{length-table}
 use Rattle.table.proofs.Refining.{accepted-facts, accepted-table}
 use Rattle.table.proofs.Wellformed.{formed-facts}
 use Rattle.coarsest.specs.Passes.{balance, conform}
 use Rattle.coarsest.proofs.Laws.{balance-evens, conform-evens}
-use Rattle.net.specs.Net.{Poly, Piece, sameNode, leavesOf, pieces, cornersOf, nodesFrom, bare, weigh, network}
+use Rattle.net.specs.Net.{Poly, Piece, same_node, leaves_of, pieces, corners_of, nodes_from, bare, weigh, network}
 use Rattle.net.proofs.All.{All, all-by, all-weld, all_nil}
 use Rattle.hanging.specs.Strip.{LeafOf, OneStrip, Balanced}
 use Rattle.hanging.specs.Nodes.{End, Corner, OnSides, HangsNot}
@@ -23,12 +23,12 @@ use Rattle.hanging.proofs.Hanging.{NoneHangs, no-node-hangs}
 use Rattle.hanging.proofs.Evens.{strip-split, balance-balanced, conform-conformed, balance-strip, conform-strip}
 
 -- the cells of a well-formed row
-pub row-hangs-not : (row : List ℤ) (n M : ℕ) (ps : List Poly) (pre : List Piece) (q : Piece) (qs : List Piece) → wellFormed row n M ≡ true
+pub row-hangs-not : (row : List ℤ) (n M : ℕ) (ps : List Poly) (pre : List Piece) (q : Piece) (qs : List Piece) → well_formed row n M ≡ true
     → Balanced (table row n) → pieces (table row n) ps 0 ≡ pre ++ (q ∷ qs) → OneStrip (table row n) (length pre) → NoneHangs (network (table row n) ps) q
 row-hangs-not row n M ps pre q qs w balanced e strip = no-node-hangs (table row n) ps pre q qs e M (formed-facts row n M w).cells balanced strip
 
 -- an accepted refinement of a row keeps its polygons of one strip
-pub refine-strip : (row : List ℤ) (n M id k : ℕ) → isAccepted (refineSays row n M id) ≡ true → OneStrip (table row n) k → OneStrip (table (refineRow row n M id) (n + 4)) k
+pub refine-strip : (row : List ℤ) (n M id k : ℕ) → is_accepted (refine_says row n M id) ≡ true → OneStrip (table row n) k → OneStrip (table (refine_row row n M id) (n + 4)) k
 refine-strip row n M id k ok s =
     let inside : id < length (table row n) = rw length-table (accepted-facts row n M id ok).inside in
     subst (λ (u : List Cell). OneStrip u k) (sym (accepted-table row n M id ok)) (strip-split (table row n) id inside k s)
@@ -49,15 +49,15 @@ module _ (M : ℕ) (t : List Cell) (formed : Formed M t) where
 -- of a board of one polygon, no node of the net hangs
 module _ (M : ℕ) (t : List Cell) (p : Poly) (formed : Formed M t) (balanced : Balanced t) (strip : OneStrip t 0) where
   abbrev piece : Piece
-  piece = record { poly = p; leaves = leavesOf t 0 }
+  piece = record { poly = p; leaves = leaves_of t 0 }
 
   only : pieces t (p ∷ []) 0 ≡ [] ++ (piece ∷ [])
   unfolding pieces
   only = refl
 
-  pub one-polygon : All (λ (r : Box). All (HangsNot (network t (p ∷ [])) p r) (network t (p ∷ [])).nodes) (leavesOf t 0)
-  unfolding network weigh bare pieces nodesFrom
+  pub one-polygon : All (λ (r : Box). All (HangsNot (network t (p ∷ [])) p r) (network t (p ∷ [])).nodes) (leaves_of t 0)
+  unfolding network weigh bare pieces nodes_from
   one-polygon =
-      all-by (λ (r : Box). All (HangsNot (network t (p ∷ [])) p r) (cornersOf piece)) (λ (r : Box). All (HangsNot (network t (p ∷ [])) p r) (network t (p ∷ [])).nodes) (leavesOf t 0)
-      (λ r a. all-weld (HangsNot (network t (p ∷ [])) p r) sameNode [] (cornersOf piece) (all_nil (HangsNot (network t (p ∷ [])) p r)) a)
+      all-by (λ (r : Box). All (HangsNot (network t (p ∷ [])) p r) (corners_of piece)) (λ (r : Box). All (HangsNot (network t (p ∷ [])) p r) (network t (p ∷ [])).nodes) (leaves_of t 0)
+      (λ r a. all-weld (HangsNot (network t (p ∷ [])) p r) same_node [] (corners_of piece) (all_nil (HangsNot (network t (p ∷ [])) p r)) a)
       (no-node-hangs t (p ∷ []) [] piece [] only M formed balanced strip)

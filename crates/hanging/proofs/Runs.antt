@@ -5,10 +5,10 @@ use Prim.Native.Nat.{ℕ, ◌+◌, ◌*◌, ◌-◌, ◌/◌, ◌%◌, ◌≤◌
 use native.Mathlib.Omega.{arith}
 use native.Mathlib.Nat.{div-add-mod'}
 use Rattle.table.specs.Mesh.{Cell, at}
-use Rattle.hanging.specs.Strip.{RootOf, OneStrip, Grid, gridBox}
+use Rattle.hanging.specs.Strip.{RootOf, OneStrip, Grid, grid_box}
 
 -- a polygon's roots stand from the id `from` on: "row by row from the bottom, left to right", n to a row
-pub run-strip : (t : List Cell) (k from n : ℕ) (g : Grid) → ((r : ℕ) → RootOf t k r → (from ≤ r) × ((at t r).box ≡ gridBox g ((r - from) % n) ((r - from) / n))) → OneStrip t k
+pub run-strip : (t : List Cell) (k from n : ℕ) (g : Grid) → ((r : ℕ) → RootOf t k r → (from ≤ r) × ((at t r).box ≡ grid_box g ((r - from) % n) ((r - from) / n))) → OneStrip t k
 run-strip t k from n g f =
     record {
       grid = g;

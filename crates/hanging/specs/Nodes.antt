@@ -1,7 +1,7 @@
 -- Nodes on a leaf's sides, and what is said of one that does not hang. Definitions only.
 use Rattle.std.specs.Prelude.{ℕ, ◌≤◌, ◌≡◌}
 use Rattle.cell.specs.Boxes.{Box, mid}
-use Rattle.net.specs.Net.{Poly, Node, Net, nodeAt, swOf, seOf, neOf, nwOf}
+use Rattle.net.specs.Net.{Poly, Node, Net, node_at, sw_of, se_of, ne_of, nw_of}
 use Rattle.net.specs.Hang.{Joined}
 
 -- an end of the range from a to b
@@ -38,7 +38,7 @@ pub data Held (n : Net) (a m b x : Node) : Type 0 where
 
 -- the node x hangs on no side of the leaf r of the polygon p
 pub record HangsNot (n : Net) (p : Poly) (r : Box) (x : Node) : Type 0 where
-  pub south : x.y ≡ r.y0 → r.x0 ≤ x.x → x.x ≤ r.x1 → Held n (swOf p r) (nodeAt p (mid r.x0 r.x1) r.y0) (seOf p r) x
-  pub north : x.y ≡ r.y1 → r.x0 ≤ x.x → x.x ≤ r.x1 → Held n (nwOf p r) (nodeAt p (mid r.x0 r.x1) r.y1) (neOf p r) x
-  pub west : x.x ≡ r.x0 → r.y0 ≤ x.y → x.y ≤ r.y1 → Held n (swOf p r) (nodeAt p r.x0 (mid r.y0 r.y1)) (nwOf p r) x
-  pub east : x.x ≡ r.x1 → r.y0 ≤ x.y → x.y ≤ r.y1 → Held n (seOf p r) (nodeAt p r.x1 (mid r.y0 r.y1)) (neOf p r) x
+  pub south : x.y ≡ r.y0 → r.x0 ≤ x.x → x.x ≤ r.x1 → Held n (sw_of p r) (node_at p (mid r.x0 r.x1) r.y0) (se_of p r) x
+  pub north : x.y ≡ r.y1 → r.x0 ≤ x.x → x.x ≤ r.x1 → Held n (nw_of p r) (node_at p (mid r.x0 r.x1) r.y1) (ne_of p r) x
+  pub west : x.x ≡ r.x0 → r.y0 ≤ x.y → x.y ≤ r.y1 → Held n (sw_of p r) (node_at p r.x0 (mid r.y0 r.y1)) (nw_of p r) x
+  pub east : x.x ≡ r.x1 → r.y0 ≤ x.y → x.y ≤ r.y1 → Held n (se_of p r) (node_at p r.x1 (mid r.y0 r.y1)) (ne_of p r) x

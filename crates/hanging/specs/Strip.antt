@@ -1,7 +1,7 @@
 -- A polygon of one strip, and a balanced table. Definitions only.
 use Rattle.std.specs.Prelude.{ℕ, ◌+◌, ◌*◌, ◌<◌, ◌≤◌, ◌≡◌, true, List, length}
 use Rattle.std.proofs.Math.Option.{none}
-use Rattle.cell.specs.Boxes.{Box, sharesEdge}
+use Rattle.cell.specs.Boxes.{Box, shares_edge}
 use Rattle.table.specs.Mesh.{Cell, at, split}
 
 -- a root and a leaf of the polygon k, by id
@@ -22,8 +22,8 @@ pub record Grid : Type 0 where
   pub high : ℕ
 
 -- the cell in column i and row j
-abbrev pub gridBox : Grid → ℕ → ℕ → Box
-gridBox g i j =
+abbrev pub grid_box : Grid → ℕ → ℕ → Box
+grid_box g i j =
     record {
       x0 = g.west + g.wide * i;
       y0 = g.south + g.high * j;
@@ -36,14 +36,14 @@ pub record OneStrip (t : List Cell) (k : ℕ) : Type 0 where
   pub grid : Grid
   pub column : ℕ → ℕ
   pub row : ℕ → ℕ
-  pub placed : (r : ℕ) → RootOf t k r → (at t r).box ≡ gridBox grid (column r) (row r)
+  pub placed : (r : ℕ) → RootOf t k r → (at t r).box ≡ grid_box grid (column r) (row r)
   pub once : (r s : ℕ) → RootOf t k r → RootOf t k s → column r ≡ column s → row r ≡ row s → r ≡ s
 
 -- no leaf is finer by more than d levels than one that it shares an edge with
 abbrev pub Even : ℕ → List Cell → Type 0
 Even d t =
     (i j : ℕ) → i < length t → j < length t → (at t i).kids ≡ none → (at t j).kids ≡ none
-    → sharesEdge (at t i).box (at t j).box ≡ true → (at t i).level ≤ (at t j).level + d
+    → shares_edge (at t i).box (at t j).box ≡ true → (at t i).level ≤ (at t j).level + d
 
 -- "a balanced table", and a conformed one
 abbrev pub Balanced : List Cell → Type 0

@@ -10,25 +10,25 @@ use lib.Dec.{eqb}
 use lib.ListN.{length, drop, length-drop}
 use lib.Seq.{get_or-drop}
 use borrow.Author.Tests.{ltb-true, lt-ltb, eqb-true, eq-eqb, ne_eqb, not-true}
-use Rattle.rows.specs.Order.{key, or_else, lastBelow, last_of}
+use Rattle.rows.specs.Order.{key, or_else, last_below, last_of}
 use Rattle.rows.proofs.Equal.{last-below}
-use Rattle.net.specs.Net.{find, has, Node, samePlace, nth, nowhere, is_last}
+use Rattle.net.specs.Net.{find, has, Node, same_place, nth, nowhere, is_last}
 use Rattle.net.proofs.Find.{test, find-hit, find-at-most}
 use Rattle.net.proofs.Keys.{bool-ext, both, both_of}
 
 -- where x stands below n, it stands at the last place, and nowhere behind it
-last-there : (x : ℕ) (l : List ℕ) (n r : ℕ) → r < n → key l r ≡ x → (key l (lastBelow x l n) ≡ x) × (lastBelow x l n < n) × (r ≤ lastBelow x l n)
-unfolding lastBelow
+last-there : (x : ℕ) (l : List ℕ) (n r : ℕ) → r < n → key l r ≡ x → (key l (last_below x l n) ≡ x) × (last_below x l n < n) × (r ≤ last_below x l n)
+unfolding last_below
 last-there x l zero r h e = absurd (omega arith)
 last-there x l (suc n) r h e = by_cases (ℕ_discrete x (key l n)) here (λ q. before q (λ p. last-there x l n r p e))
   where
-    here : x ≡ key l n → (key l (lastBelow x l (suc n)) ≡ x) × (lastBelow x l (suc n) < suc n) × (r ≤ lastBelow x l (suc n))
-    here q = let z : lastBelow x l (suc n) ≡ n = ap (λ (t : Bool). or_else t n (lastBelow x l n)) (eq-eqb x (key l n) q) in (ap (key l) z ∙ sym q, omega arith, omega arith)
+    here : x ≡ key l n → (key l (last_below x l (suc n)) ≡ x) × (last_below x l (suc n) < suc n) × (r ≤ last_below x l (suc n))
+    here q = let z : last_below x l (suc n) ≡ n = ap (λ (t : Bool). or_else t n (last_below x l n)) (eq-eqb x (key l n) q) in (ap (key l) z ∙ sym q, omega arith, omega arith)
 
-    before : (x ≡ key l n → ⊥) → (r < n → (key l (lastBelow x l n) ≡ x) × (lastBelow x l n < n) × (r ≤ lastBelow x l n))
-        → (key l (lastBelow x l (suc n)) ≡ x) × (lastBelow x l (suc n) < suc n) × (r ≤ lastBelow x l (suc n))
+    before : (x ≡ key l n → ⊥) → (r < n → (key l (last_below x l n) ≡ x) × (last_below x l n < n) × (r ≤ last_below x l n))
+        → (key l (last_below x l (suc n)) ≡ x) × (last_below x l (suc n) < suc n) × (r ≤ last_below x l (suc n))
     before q ih =
-        let z : lastBelow x l (suc n) ≡ lastBelow x l n = ap (λ (t : Bool). or_else t n (lastBelow x l n)) (ne_eqb x (key l n) q) in
+        let z : last_below x l (suc n) ≡ last_below x l n = ap (λ (t : Bool). or_else t n (last_below x l n)) (ne_eqb x (key l n) q) in
         let o = ih (by_cases (ℕ_discrete r n) (λ (p : r ≡ n). absurd (q (sym e ∙ ap (key l) p))) (λ p. omega arith)) in
         let u = o.1 in
         let v = o.2 in
@@ -36,35 +36,35 @@ last-there x l (suc n) r h e = by_cases (ℕ_discrete x (key l n)) here (λ q. b
 
 -- a later node at the place
 module _ (n : List Node) (m : Node) (i : ℕ) where
-  later-yes : (j : ℕ) → i < j → j < length n → samePlace (nth n j) m ≡ true → has samePlace (drop (suc i) n) m ≡ true
+  later-yes : (j : ℕ) → i < j → j < length n → same_place (nth n j) m ≡ true → has same_place (drop (suc i) n) m ≡ true
   later-yes j h g e =
       let p : suc i + (j - suc i) ≡ j = omega arith in
-      let f = find-at-most samePlace (drop (suc i) n) m nowhere (j - suc i) (ap (λ (z : Node). samePlace z m) (get_or-drop (suc i) n (j - suc i) nowhere ∙ ap (nth n) p) ∙ e) in
-      lt-ltb (find samePlace (drop (suc i) n) m) (length (drop (suc i) n)) (omega (arith, length-drop (suc i) n))
+      let f = find-at-most same_place (drop (suc i) n) m nowhere (j - suc i) (ap (λ (z : Node). same_place z m) (get_or-drop (suc i) n (j - suc i) nowhere ∙ ap (nth n) p) ∙ e) in
+      lt-ltb (find same_place (drop (suc i) n) m) (length (drop (suc i) n)) (omega (arith, length-drop (suc i) n))
 
-  later-no : has samePlace (drop (suc i) n) m ≡ true → (j : ℕ) × ((i < j) × (j < length n) × (samePlace (nth n j) m ≡ true))
+  later-no : has same_place (drop (suc i) n) m ≡ true → (j : ℕ) × ((i < j) × (j < length n) × (same_place (nth n j) m ≡ true))
   later-no e =
-      let k = find samePlace (drop (suc i) n) m in
+      let k = find same_place (drop (suc i) n) m in
       let h = ltb-true k (length (drop (suc i) n)) e in (
         suc i + k,
         (
           omega arith,
           omega (arith, length-drop (suc i) n),
-          ap (λ (z : Node). samePlace z m) (sym (get_or-drop (suc i) n k nowhere)) ∙ find-hit samePlace (drop (suc i) n) m nowhere h,
+          ap (λ (z : Node). same_place z m) (sym (get_or-drop (suc i) n k nowhere)) ∙ find-hit same_place (drop (suc i) n) m nowhere h,
         ),
       )
 
 -- the nodes are the last of the items, from a on; item q is at the place m, and so are those with its key
 module _ (n : List Node) (m : Node) (ks : List ℕ) (a q : ℕ) (long : length ks ≡ a + length n) (inside : q < length ks)
-    (agree : (k : ℕ) → k < length n → samePlace (nth n k) m ≡ eqb (key ks (a + k)) (key ks q)) where
-  same-yes : (k : ℕ) → k < length n → key ks (a + k) ≡ key ks q → samePlace (nth n k) m ≡ true
+    (agree : (k : ℕ) → k < length n → same_place (nth n k) m ≡ eqb (key ks (a + k)) (key ks q)) where
+  same-yes : (k : ℕ) → k < length n → key ks (a + k) ≡ key ks q → same_place (nth n k) m ≡ true
   same-yes k h e = agree k h ∙ eq-eqb (key ks (a + k)) (key ks q) e
 
-  same_key : (k : ℕ) → k < length n → samePlace (nth n k) m ≡ true → key ks (a + k) ≡ key ks q
+  same_key : (k : ℕ) → k < length n → same_place (nth n k) m ≡ true → key ks (a + k) ≡ key ks q
   same_key k h e = eqb-true (key ks (a + k)) (key ks q) (sym (agree k h) ∙ e)
 
   L : ℕ
-  L = lastBelow (key ks q) ks (length ks)
+  L = last_below (key ks q) ks (length ks)
 
   there : (r : ℕ) → r < length ks → key ks r ≡ key ks q → (key ks L ≡ key ks q) × (L < length ks) × (r ≤ L)
   unfolding L
@@ -73,14 +73,14 @@ module _ (n : List Node) (m : Node) (ks : List ℕ) (a q : ℕ) (long : length k
   forth : (i : ℕ) → i < length n → is_last n m i ≡ true → eqb (a + i) L ≡ true
   unfolding L
   forth i h e =
-      let t = both (samePlace (nth n i) m) (not (has samePlace (drop (suc i) n) m)) e in
-      eq-eqb (a + i) (lastBelow (key ks q) ks (length ks))
+      let t = both (same_place (nth n i) m) (not (has same_place (drop (suc i) n) m)) e in
+      eq-eqb (a + i) (last_below (key ks q) ks (length ks))
       (sym (last-below (key ks q) ks (length ks) (a + i) (omega arith) (same_key i h t.0)
       (λ j u v z.
       let p : a + (j - a) ≡ j = omega arith in
-      true≢false (sym (later-yes n m i (j - a) (omega arith) (omega arith) (same-yes (j - a) (omega arith) (ap (key ks) p ∙ z))) ∙ not-true (has samePlace (drop (suc i) n) m) t.1))))
+      true≢false (sym (later-yes n m i (j - a) (omega arith) (omega arith) (same-yes (j - a) (omega arith) (ap (key ks) p ∙ z))) ∙ not-true (has same_place (drop (suc i) n) m) t.1))))
 
-  none-later : (i : ℕ) → a + i ≡ L → has samePlace (drop (suc i) n) m ≡ true → ⊥
+  none-later : (i : ℕ) → a + i ≡ L → has same_place (drop (suc i) n) m ≡ true → ⊥
   none-later i e t =
       let r = later-no n m i t in
       let u = r.1.0 in
@@ -91,8 +91,8 @@ module _ (n : List Node) (m : Node) (ks : List ℕ) (a q : ℕ) (long : length k
   back : (i : ℕ) → i < length n → eqb (a + i) L ≡ true → is_last n m i ≡ true
   back i h e =
       let p = eqb-true (a + i) L e in
-      both_of (samePlace (nth n i) m) (not (has samePlace (drop (suc i) n) m)) (same-yes i h (ap (key ks) p ∙ (there q inside refl).0))
-      (⊎_elim (λ t. absurd (none-later i p t)) (λ t. ap not t) (test (has samePlace (drop (suc i) n) m)))
+      both_of (same_place (nth n i) m) (not (has same_place (drop (suc i) n) m)) (same-yes i h (ap (key ks) p ∙ (there q inside refl).0))
+      (⊎_elim (λ t. absurd (none-later i p t)) (λ t. ap not t) (test (has same_place (drop (suc i) n) m)))
 
   pub last-node : (i : ℕ) → i < length n → is_last n m i ≡ eqb (a + i) (last_of ks q)
   unfolding last_of L

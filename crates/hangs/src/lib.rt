@@ -8,8 +8,8 @@ ghost use Rattle.rows.specs.Order.{first_of, last_of};
 ghost use Rattle.rows.specs.Parts.{part, put, tab};
 ghost use Rattle.net.specs.Net.{size_of};
 ghost use Rattle.places.specs.Places.{wide};
-ghost use Rattle.node_rows.specs.Rows.{Noded, Cornering, Gapped, Extended, way_of, patchesIn};
-ghost use Rattle.hangs.specs.Items.{cornerOf, boxIn, itemIn, middle_of, keyX, keysX, placeKeys, Answered, Raised};
+ghost use Rattle.node_rows.specs.Rows.{Noded, Cornering, Gapped, Extended, way_of, patches_in};
+ghost use Rattle.hangs.specs.Items.{corner_of, box_in, item_in, middle_of, key_x, keys_x, place_keys, Answered, Raised};
 
 use refusals::limits;
 
@@ -17,11 +17,11 @@ use refusals::limits;
 const WIDE: u64 = 274877906944;
 
 // Corner s of item i. A node counts as a cell of no size: each of its corners is the node itself.
-#[tactic(auto, using(crate::proofs::Items::corner_low), unfolding(crate::specs::Items::cornerOf))]
+#[tactic(auto, using(crate::proofs::Items::corner_low), unfolding(crate::specs::Items::corner_of))]
 fn corner_of(corners: &[u64], n: usize, l: usize, i: usize, s: usize) -> usize
     requires cornering { Cornering corners.now n l }
     requires i_bound { (i < 4 * l + n) × (s < 4) }
-    ensures { (result ≡ cornerOf corners.now l i s) × (result < n) }
+    ensures { (result ≡ corner_of corners.now l i s) × (result < n) }
 {
     if i < 4 * l {
         corners[4 * (i / 4) + s] as usize
@@ -50,7 +50,7 @@ fn x_of(nodes: &[i64], n: usize, corners: &[u64], l: usize, i: usize) -> u64
     requires noded { Noded nodes.now n l }
     requires cornering { Cornering corners.now n l }
     requires i_bound { i < 4 * l + n }
-    ensures { (result ≡ (itemIn nodes.now corners.now l i).x) × (result < wide) }
+    ensures { (result ≡ (item_in nodes.now corners.now l i).x) × (result < wide) }
 {
     let a = node_rows::x_at(nodes, corner_of(corners, n, l, i, 0));
     let b = node_rows::x_at(nodes, corner_of(corners, n, l, i, 2));
@@ -63,7 +63,7 @@ fn y_of(nodes: &[i64], n: usize, corners: &[u64], l: usize, i: usize) -> u64
     requires noded { Noded nodes.now n l }
     requires cornering { Cornering corners.now n l }
     requires i_bound { i < 4 * l + n }
-    ensures { (result ≡ (itemIn nodes.now corners.now l i).y) × (result < wide) }
+    ensures { (result ≡ (item_in nodes.now corners.now l i).y) × (result < wide) }
 {
     let a = node_rows::y_at(nodes, corner_of(corners, n, l, i, 0));
     let b = node_rows::y_at(nodes, corner_of(corners, n, l, i, 2));
@@ -75,7 +75,7 @@ fn keys_x(nodes: &[i64], n: usize, corners: &[u64], work: &mut [u64], l: usize)
     requires noded { Noded nodes.now n l }
     requires cornering { Cornering corners.now n l }
     requires n_in_bounds { 3 * (4 * l + n) ≤ length work.old }
-    ensures { work.new ≡ put work.old 0 (tab (keyX nodes.now corners.now l) (4 * l + n)) }
+    ensures { work.new ≡ put work.old 0 (tab (key_x nodes.now corners.now l) (4 * l + n)) }
 {
     let m = 4 * l + n;
     for i in 0..m {
@@ -89,8 +89,8 @@ fn keys_y(nodes: &[i64], n: usize, corners: &[u64], work: &mut [u64], l: usize)
     requires noded { Noded nodes.now n l }
     requires cornering { Cornering corners.now n l }
     requires n_in_bounds { 3 * (4 * l + n) ≤ length work.old }
-    requires n_value { part work.old (2 * (4 * l + n)) (4 * l + n) ≡ tab (first_of (keysX nodes.now corners.now l (4 * l + n))) (4 * l + n) }
-    ensures { work.new ≡ put work.old 0 (placeKeys nodes.now corners.now l (4 * l + n)) }
+    requires n_value { part work.old (2 * (4 * l + n)) (4 * l + n) ≡ tab (first_of (keys_x nodes.now corners.now l (4 * l + n))) (4 * l + n) }
+    ensures { work.new ≡ put work.old 0 (place_keys nodes.now corners.now l (4 * l + n)) }
 {
     let m = 4 * l + n;
     let from = 2 * m;
@@ -106,7 +106,7 @@ fn sort_x(nodes: &[i64], n: usize, corners: &[u64], work: &mut [u64], l: usize)
     requires noded { Noded nodes.now n l }
     requires cornering { Cornering corners.now n l }
     requires n_in_bounds { 3 * (4 * l + n) ≤ length work.old }
-    ensures { Answered work.old work.new (4 * l + n) (first_of (keysX nodes.now corners.now l (4 * l + n))) }
+    ensures { Answered work.old work.new (4 * l + n) (first_of (keys_x nodes.now corners.now l (4 * l + n))) }
 {
     let m = 4 * l + n;
     let e = 3 * m;
@@ -119,8 +119,8 @@ fn sort_y(nodes: &[i64], n: usize, corners: &[u64], work: &mut [u64], l: usize)
     requires noded { Noded nodes.now n l }
     requires cornering { Cornering corners.now n l }
     requires n_in_bounds { 3 * (4 * l + n) ≤ length work.old }
-    requires n_value { part work.old (2 * (4 * l + n)) (4 * l + n) ≡ tab (first_of (keysX nodes.now corners.now l (4 * l + n))) (4 * l + n) }
-    ensures { Answered work.old work.new (4 * l + n) (last_of (placeKeys nodes.now corners.now l (4 * l + n))) }
+    requires n_value { part work.old (2 * (4 * l + n)) (4 * l + n) ≡ tab (first_of (keys_x nodes.now corners.now l (4 * l + n))) (4 * l + n) }
+    ensures { Answered work.old work.new (4 * l + n) (last_of (place_keys nodes.now corners.now l (4 * l + n))) }
 {
     let m = 4 * l + n;
     let e = 3 * m;
@@ -134,7 +134,7 @@ fn size_of(nodes: &[i64], n: usize, corners: &[u64], l: usize, i: usize) -> u64
     requires noded { Noded nodes.now n l }
     requires cornering { Cornering corners.now n l }
     requires i_bound { i < 4 * l + n }
-    ensures { result ≡ size_of (way_of (i % 4)) (boxIn nodes.now corners.now l i) }
+    ensures { result ≡ size_of (way_of (i % 4)) (box_in nodes.now corners.now l i) }
 {
     let a = corner_of(corners, n, l, i, 0);
     let b = corner_of(corners, n, l, i, 2);
@@ -151,7 +151,7 @@ fn raise_sides(nodes: &[i64], n: usize, corners: &[u64], work: &mut [u64], l: us
     requires noded { Noded nodes.now n l }
     requires cornering { Cornering corners.now n l }
     requires l_in_bounds { 64 * l ≤ length work.old }
-    requires n_value { part work.old (2 * (4 * l + n)) (4 * l + n) ≡ tab (last_of (placeKeys nodes.now corners.now l (4 * l + n))) (4 * l + n) }
+    requires n_value { part work.old (2 * (4 * l + n)) (4 * l + n) ≡ tab (last_of (place_keys nodes.now corners.now l (4 * l + n))) (4 * l + n) }
     ensures { (ss : List Float) → Raised nodes.now corners.now ss work.old work.new n l (4 * l) }
 {
     let m = 4 * l;
@@ -171,7 +171,7 @@ pub fn raise_extents(nodes: &[i64], n: usize, corners: &[u64], work: &mut [u64],
     requires noded { Noded nodes.now n l }
     requires cornering { Cornering corners.now n l }
     requires gapped { Gapped nodes.now work.old n l }
-    ensures extended { (ss : List Float) → Extended nodes.now (patchesIn corners.now ss l) work.new n l }
+    ensures extended { (ss : List Float) → Extended nodes.now (patches_in corners.now ss l) work.new n l }
     ensures work_len_unchanged { length work.new ≡ length work.old }
 {
     sort_x(nodes, n, corners, work, l);

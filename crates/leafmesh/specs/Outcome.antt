@@ -7,15 +7,15 @@ use Rattle.contact.specs.declared.Rect.{Rect}
 use Rattle.leafmesh.specs.declared.Outcome.{Outcome}
 
 -- an Outcome has one value: the first where an answer has more, 0 where it has none
-abbrev pub outcomeOf : Said → Outcome
-outcomeOf (accepted vs) = record { number = 0; place = 0; value = get_or vs 0 0 }
-outcomeOf (refused n p) = record { number = n; place = p; value = 0 }
+abbrev pub outcome_of : Said → Outcome
+outcome_of (accepted vs) = record { number = 0; place = 0; value = get_or vs 0 0 }
+outcome_of (refused n p) = record { number = n; place = p; value = 0 }
 
-abbrev pub rectOf : ℤ → ℤ → ℤ → ℤ → Rect
-rectOf x0 y0 x1 y1 = record { x0 = x0; y0 = y0; x1 = x1; y1 = y1 }
+abbrev pub rect_of : ℤ → ℤ → ℤ → ℤ → Rect
+rect_of x0 y0 x1 y1 = record { x0 = x0; y0 = y0; x1 = x1; y1 = y1 }
 
-abbrev pub cutSettings : ℕ → ℕ → ℕ → Cutting.Settings
-cutSettings level cap target = record { max_level = level; cap = cap; target = target }
+abbrev pub cut_settings : ℕ → ℕ → ℕ → Cutting.Settings
+cut_settings level cap target = record { max_level = level; cap = cap; target = target }
 
-abbrev pub boardSettings : ℕ → ℕ → ℕ → Recorded.Settings
-boardSettings level cap target = record { level = level; cap = cap; target = target }
+abbrev pub board_settings : ℕ → ℕ → ℕ → Recorded.Settings
+board_settings level cap target = record { level = level; cap = cap; target = target }

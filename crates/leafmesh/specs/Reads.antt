@@ -4,8 +4,8 @@ use Rattle.refusals.specs.Said.{Said, accepted, refused}
 use Rattle.leafmesh.specs.declared.boards.ReadOutcome.{ReadOutcome}
 
 -- the settings, then the counts
-abbrev readWith : ℕ → ℕ → List ℕ → ReadOutcome
-readWith n p vs =
+abbrev read_with : ℕ → ℕ → List ℕ → ReadOutcome
+read_with n p vs =
     record {
       number = n;
       place = p;
@@ -18,6 +18,6 @@ readWith n p vs =
       splits = get_or vs 6 0;
     }
 
-abbrev pub readOutcomeOf : Said → ReadOutcome
-readOutcomeOf (accepted vs) = readWith 0 0 vs
-readOutcomeOf (refused n p) = readWith n p []
+abbrev pub read_outcome_of : Said → ReadOutcome
+read_outcome_of (accepted vs) = read_with 0 0 vs
+read_outcome_of (refused n p) = read_with n p []

@@ -1,14 +1,14 @@
 // Rings, boards and board records.
 ghost use Rattle.std.specs.Prelude.{◌≡◌, length};
 ghost use Rattle.refusals.specs.Said.{refusal};
-ghost use Rattle.strips.specs.Said.{stripsSays, stripsLeave};
+ghost use Rattle.strips.specs.Said.{strips_says, strips_leave};
 ghost use Rattle.build.specs.Board.{board};
-ghost use Rattle.build.specs.Says.{buildSays, buildLeaves};
+ghost use Rattle.build.specs.Says.{build_says, build_leaves};
 ghost use Rattle.board.specs.Rows.{rows_of};
-ghost use Rattle.board.specs.Reading.{readSaid, readSays, readLeaves};
-ghost use Rattle.writing.specs.Written.{writeSays, writeLeaves};
-ghost use Rattle.leafmesh.specs.Outcome.{outcomeOf, cutSettings, boardSettings};
-ghost use Rattle.leafmesh.specs.Reads.{readOutcomeOf};
+ghost use Rattle.board.specs.Reading.{read_said, read_says, read_leaves};
+ghost use Rattle.writing.specs.Written.{write_says, write_leaves};
+ghost use Rattle.leafmesh.specs.Outcome.{outcome_of, cut_settings, board_settings};
+ghost use Rattle.leafmesh.specs.Reads.{read_outcome_of};
 
 use crate::{Outcome, of_count};
 use record::check::Read;
@@ -30,7 +30,7 @@ pub struct ReadOutcome {
 }
 
 fn unread(why: Refusal) -> ReadOutcome
-    ensures { result ≡ readOutcomeOf (refusal why) }
+    ensures { result ≡ read_outcome_of (refusal why) }
 {
     let code = refusals::code_of(why);
     ReadOutcome {
@@ -47,7 +47,7 @@ fn unread(why: Refusal) -> ReadOutcome
 }
 
 fn of_read(answer: Result<Read, Refusal>) -> ReadOutcome
-    ensures { result ≡ readOutcomeOf (readSaid answer) }
+    ensures { result ≡ read_outcome_of (read_said answer) }
 {
     match answer {
         Ok(read) => ReadOutcome {
@@ -68,8 +68,8 @@ fn of_read(answer: Result<Read, Refusal>) -> ReadOutcome
 // The strips of a ring: value is how many.
 #[unsafe(no_mangle)]
 pub extern "C" fn leafmesh_strips(points: &[[i64; 2]], out: &mut [[i64; 4]]) -> Outcome
-    ensures value { result ≡ outcomeOf (stripsSays points.now (length out.old)) }
-    ensures out_after { out.new ≡ stripsLeave points.now out.old }
+    ensures value { result ≡ outcome_of (strips_says points.now (length out.old)) }
+    ensures out_after { out.new ≡ strips_leave points.now out.old }
 {
     of_count(strips::strips(points, out))
 }
@@ -89,12 +89,12 @@ pub extern "C" fn leafmesh_build(
     table: &mut [i64],
 ) -> Outcome
     ensures value { result
-        ≡ outcomeOf (buildSays (board
-        (cutSettings max_level cap target) list.now layers.now counts.now points.now) components.now sheets.now
+        ≡ outcome_of (build_says (board
+        (cut_settings max_level cap target) list.now layers.now counts.now points.now) components.now sheets.now
         (length table.old)) }
     ensures table_after { table.new
-        ≡ buildLeaves (board
-        (cutSettings max_level cap target) list.now layers.now counts.now points.now) components.now sheets.now
+        ≡ build_leaves (board
+        (cut_settings max_level cap target) list.now layers.now counts.now points.now) components.now sheets.now
         table.old }
 {
     let s = build::Settings {
@@ -116,9 +116,9 @@ pub extern "C" fn leafmesh_read(
     splits: &mut [u64],
 ) -> ReadOutcome
     ensures value { result
-        ≡ readOutcomeOf (readSays bytes.now (rows_of layers.old polygons.old sheets.old points.old splits.old)) }
+        ≡ read_outcome_of (read_says bytes.now (rows_of layers.old polygons.old sheets.old points.old splits.old)) }
     ensures splits_after { rows_of layers.new polygons.new sheets.new points.new splits.new
-        ≡ readLeaves bytes.now (rows_of layers.old polygons.old sheets.old points.old splits.old) }
+        ≡ read_leaves bytes.now (rows_of layers.old polygons.old sheets.old points.old splits.old) }
 {
     of_read(board::read(bytes, layers, polygons, sheets, points, splits))
 }
@@ -137,9 +137,9 @@ pub extern "C" fn leafmesh_write(
     out: &mut [u8],
 ) -> Outcome
     ensures value { result
-        ≡ outcomeOf (writeSays (rows_of layers.now polygons.now sheets.now points.now splits.now) (length out.old)) }
+        ≡ outcome_of (write_says (rows_of layers.now polygons.now sheets.now points.now splits.now) (length out.old)) }
     ensures out_after { out.new
-        ≡ writeLeaves (boardSettings level cap target)
+        ≡ write_leaves (board_settings level cap target)
         (rows_of layers.now polygons.now sheets.now points.now splits.now) out.old }
 {
     let s = record::Settings { level, cap, target };

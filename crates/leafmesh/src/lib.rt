@@ -5,13 +5,13 @@
 
 ghost use Rattle.std.specs.Prelude.{◌≡◌, [], ◌∷◌};
 ghost use Rattle.refusals.specs.Said.{accepted, refusal, said, bit};
-ghost use Rattle.contact.specs.Contact.{contactSaid, contactSays};
-ghost use Rattle.table.specs.Formed.{wellFormed};
-ghost use Rattle.table.specs.Leaves.{leafIds, orderIds, leafCountSays, listSays, listRow};
-ghost use Rattle.table.specs.Refine.{refinedSaid, refineSays, refineRow};
+ghost use Rattle.contact.specs.Contact.{contact_said, contact_says};
+ghost use Rattle.table.specs.Formed.{well_formed};
+ghost use Rattle.table.specs.Leaves.{leaf_ids, order_ids, leaf_count_says, list_says, list_row};
+ghost use Rattle.table.specs.Refine.{refined_said, refine_says, refine_row};
 ghost use Rattle.coarsest.specs.Passes.{balancing, conforming};
-ghost use Rattle.even.specs.Even.{eveningSaid, evenSays, evenRow};
-ghost use Rattle.leafmesh.specs.Outcome.{outcomeOf, rectOf};
+ghost use Rattle.even.specs.Even.{evening_said, even_says, even_row};
+ghost use Rattle.leafmesh.specs.Outcome.{outcome_of, rect_of};
 
 pub mod boards;
 pub mod nets;
@@ -32,7 +32,7 @@ pub struct Outcome {
 }
 
 pub fn accept(value: u64) -> Outcome
-    ensures { result ≡ outcomeOf (accepted (value ∷ [])) }
+    ensures { result ≡ outcome_of (accepted (value ∷ [])) }
 {
     Outcome {
         number: 0,
@@ -42,7 +42,7 @@ pub fn accept(value: u64) -> Outcome
 }
 
 pub fn refuse(why: Refusal) -> Outcome
-    ensures { result ≡ outcomeOf (refusal why) }
+    ensures { result ≡ outcome_of (refusal why) }
 {
     let code = refusals::code_of(why);
     Outcome {
@@ -54,7 +54,7 @@ pub fn refuse(why: Refusal) -> Outcome
 
 // A call that answers with one number.
 pub fn of_count(answer: Result<usize, Refusal>) -> Outcome
-    ensures { result ≡ outcomeOf (said (λ n. n ∷ []) answer) }
+    ensures { result ≡ outcome_of (said (λ n. n ∷ []) answer) }
 {
     match answer {
         Ok(n) => accept(n as u64),
@@ -63,7 +63,7 @@ pub fn of_count(answer: Result<usize, Refusal>) -> Outcome
 }
 
 fn of_contact(answer: Result<bool, Refusal>) -> Outcome
-    ensures { result ≡ outcomeOf (contactSaid answer) }
+    ensures { result ≡ outcome_of (contact_said answer) }
 {
     match answer {
         Ok(shared) => accept(u64::from(shared)),
@@ -72,7 +72,7 @@ fn of_contact(answer: Result<bool, Refusal>) -> Outcome
 }
 
 fn of_refined(answer: Result<Head, Refusal>) -> Outcome
-    ensures { result ≡ outcomeOf (refinedSaid answer) }
+    ensures { result ≡ outcome_of (refined_said answer) }
 {
     match answer {
         Ok(head) => accept(head.count as u64),
@@ -81,7 +81,7 @@ fn of_refined(answer: Result<Head, Refusal>) -> Outcome
 }
 
 fn of_evening(answer: Result<Evening, Refusal>) -> Outcome
-    ensures { result ≡ outcomeOf (eveningSaid answer) }
+    ensures { result ≡ outcome_of (evening_said answer) }
 {
     match answer {
         Ok(evening) => accept(evening.splits as u64),
@@ -101,7 +101,7 @@ pub extern "C" fn leafmesh_contact(
     bx1: i64,
     by1: i64,
 ) -> Outcome
-    ensures { result ≡ outcomeOf (contactSays (rectOf ax0 ay0 ax1 ay1) (rectOf bx0 by0 bx1 by1)) }
+    ensures { result ≡ outcome_of (contact_says (rect_of ax0 ay0 ax1 ay1) (rect_of bx0 by0 bx1 by1)) }
 {
     let a = Rect {
         x0: ax0,
@@ -121,7 +121,7 @@ pub extern "C" fn leafmesh_contact(
 // How many leaves the table has.
 #[unsafe(no_mangle)]
 pub extern "C" fn leafmesh_leaf_count(table: &[i64], count: usize, max_level: u64) -> Outcome
-    ensures { result ≡ outcomeOf (leafCountSays table.now count max_level) }
+    ensures { result ≡ outcome_of (leaf_count_says table.now count max_level) }
 {
     of_count(table::leaves::leaf_count(table, Head { count, max_level }))
 }
@@ -135,8 +135,8 @@ pub extern "C" fn leafmesh_leaves(
     out: &mut [u64],
 ) -> Outcome
     ensures value { result
-        ≡ outcomeOf (listSays (wellFormed table.now count max_level) (leafIds table.now count) out.old) }
-    ensures out_after { out.new ≡ listRow (wellFormed table.now count max_level) (leafIds table.now count) out.old }
+        ≡ outcome_of (list_says (well_formed table.now count max_level) (leaf_ids table.now count) out.old) }
+    ensures out_after { out.new ≡ list_row (well_formed table.now count max_level) (leaf_ids table.now count) out.old }
 {
     of_count(table::leaves::leaves(table, Head { count, max_level }, out))
 }
@@ -150,8 +150,8 @@ pub extern "C" fn leafmesh_leaf_order(
     out: &mut [u64],
 ) -> Outcome
     ensures value { result
-        ≡ outcomeOf (listSays (wellFormed table.now count max_level) (orderIds table.now count) out.old) }
-    ensures out_after { out.new ≡ listRow (wellFormed table.now count max_level) (orderIds table.now count) out.old }
+        ≡ outcome_of (list_says (well_formed table.now count max_level) (order_ids table.now count) out.old) }
+    ensures out_after { out.new ≡ list_row (well_formed table.now count max_level) (order_ids table.now count) out.old }
 {
     of_count(table::leaves::leaf_order(table, Head { count, max_level }, out))
 }
@@ -164,8 +164,8 @@ pub extern "C" fn leafmesh_refine(
     max_level: u64,
     id: usize,
 ) -> Outcome
-    ensures value { result ≡ outcomeOf (refineSays table.old count max_level id) }
-    ensures table_after { table.new ≡ refineRow table.old count max_level id }
+    ensures value { result ≡ outcome_of (refine_says table.old count max_level id) }
+    ensures table_after { table.new ≡ refine_row table.old count max_level id }
 {
     of_refined(table::refine::refine(table, Head { count, max_level }, id))
 }
@@ -173,8 +173,8 @@ pub extern "C" fn leafmesh_refine(
 // Balances the table: value is the number of splits, each four cells more.
 #[unsafe(no_mangle)]
 pub extern "C" fn leafmesh_balance(table: &mut [i64], count: usize, max_level: u64) -> Outcome
-    ensures value { result ≡ outcomeOf (evenSays balancing 1 table.old count max_level) }
-    ensures table_after { table.new ≡ evenRow balancing 1 table.old count max_level }
+    ensures value { result ≡ outcome_of (even_says balancing 1 table.old count max_level) }
+    ensures table_after { table.new ≡ even_row balancing 1 table.old count max_level }
 {
     of_evening(even::balance(table, Head { count, max_level }))
 }
@@ -182,8 +182,8 @@ pub extern "C" fn leafmesh_balance(table: &mut [i64], count: usize, max_level: u
 // The same until no two neighbours differ in level.
 #[unsafe(no_mangle)]
 pub extern "C" fn leafmesh_conform(table: &mut [i64], count: usize, max_level: u64) -> Outcome
-    ensures value { result ≡ outcomeOf (evenSays conforming 0 table.old count max_level) }
-    ensures table_after { table.new ≡ evenRow conforming 0 table.old count max_level }
+    ensures value { result ≡ outcome_of (even_says conforming 0 table.old count max_level) }
+    ensures table_after { table.new ≡ even_row conforming 0 table.old count max_level }
 {
     of_evening(even::conform(table, Head { count, max_level }))
 }

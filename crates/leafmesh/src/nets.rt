@@ -1,14 +1,14 @@
 // The net of a table, the power of its cells, and its two checks.
 ghost use Rattle.std.specs.Prelude.{◌≡◌, ◌&&◌, ◌/◌, length};
 ghost use Rattle.refusals.specs.Said.{refusal};
-ghost use Rattle.table.specs.Formed.{wellFormed};
-ghost use Rattle.sound_net.specs.Nets.{netOf, nodeCount, soundNet};
-ghost use Rattle.network.specs.Says.{polygons, rows, nettedSaid, networkSays, networkLeaves};
+ghost use Rattle.table.specs.Formed.{well_formed};
+ghost use Rattle.sound_net.specs.Nets.{net_of, node_count, sound_net};
+ghost use Rattle.network.specs.Says.{polygons, rows, netted_said, network_says, network_leaves};
 ghost use Rattle.conforming.specs.Checks as Checks;
-ghost use Rattle.checks.specs.Rooms.{workRow};
-ghost use Rattle.power.specs.Powers.{powerSaid, powerSays, powerRow};
-ghost use Rattle.leafmesh.specs.Outcome.{outcomeOf};
-ghost use Rattle.leafmesh.specs.Nets.{netOutcomeOf, checkOutcomeOf};
+ghost use Rattle.checks.specs.Rooms.{work_row};
+ghost use Rattle.power.specs.Powers.{power_said, power_says, power_row};
+ghost use Rattle.leafmesh.specs.Outcome.{outcome_of};
+ghost use Rattle.leafmesh.specs.Nets.{net_outcome_of, check_outcome_of};
 
 use crate::{Outcome, accept, refuse};
 use conforming::Fault;
@@ -40,7 +40,7 @@ pub struct CheckOutcome {
 }
 
 fn unmade(why: Refusal) -> NetOutcome
-    ensures { result ≡ netOutcomeOf (refusal why) }
+    ensures { result ≡ net_outcome_of (refusal why) }
 {
     let code = refusals::code_of(why);
     NetOutcome {
@@ -53,7 +53,7 @@ fn unmade(why: Refusal) -> NetOutcome
 }
 
 fn of_netted(answer: Result<Counts, Refusal>) -> NetOutcome
-    ensures { result ≡ netOutcomeOf (nettedSaid answer) }
+    ensures { result ≡ net_outcome_of (netted_said answer) }
 {
     match answer {
         Ok(c) => NetOutcome {
@@ -68,7 +68,7 @@ fn of_netted(answer: Result<Counts, Refusal>) -> NetOutcome
 }
 
 fn unchecked(why: Refusal) -> CheckOutcome
-    ensures { result ≡ checkOutcomeOf (refusal why) }
+    ensures { result ≡ check_outcome_of (refusal why) }
 {
     let code = refusals::code_of(why);
     CheckOutcome {
@@ -82,7 +82,7 @@ fn unchecked(why: Refusal) -> CheckOutcome
 }
 
 fn of_checked(answer: Result<Fault, Refusal>) -> CheckOutcome
-    ensures { result ≡ checkOutcomeOf (Checks.checkedSaid answer) }
+    ensures { result ≡ check_outcome_of (Checks.checked_said answer) }
 {
     match answer {
         Ok(Fault::Clear) => CheckOutcome {
@@ -106,7 +106,7 @@ fn of_checked(answer: Result<Fault, Refusal>) -> CheckOutcome
 }
 
 fn of_power(answer: Result<(), Refusal>) -> Outcome
-    ensures { result ≡ outcomeOf (powerSaid answer) }
+    ensures { result ≡ outcome_of (power_said answer) }
 {
     match answer {
         Ok(()) => accept(0),
@@ -126,10 +126,10 @@ pub extern "C" fn leafmesh_power(
     answers: &mut [f64],
 ) -> Outcome
     ensures value { result
-        ≡ outcomeOf (powerSays
-        (netOf nodes.now ends.now conductances.now corners.now sheets.now) potentials.now answers.old) }
+        ≡ outcome_of (power_says
+        (net_of nodes.now ends.now conductances.now corners.now sheets.now) potentials.now answers.old) }
     ensures answers_after { answers.new
-        ≡ powerRow (netOf nodes.now ends.now conductances.now corners.now sheets.now) potentials.now answers.old }
+        ≡ power_row (net_of nodes.now ends.now conductances.now corners.now sheets.now) potentials.now answers.old }
 {
     of_power(power::cell_power(
         nodes,
@@ -159,10 +159,10 @@ pub extern "C" fn leafmesh_network(
     work: &mut [u64],
 ) -> NetOutcome
     ensures value { result
-        ≡ netOutcomeOf (networkSays table.now count max_level (polygons layers.now components.now sheets.now)
+        ≡ net_outcome_of (network_says table.now count max_level (polygons layers.now components.now sheets.now)
         (rows nodes.old ends.old conductances.old corners.old cells.old work.old)) }
     ensures work_after { rows nodes.new ends.new conductances.new corners.new cells.new work.new
-        ≡ networkLeaves table.now count max_level (polygons layers.now components.now sheets.now)
+        ≡ network_leaves table.now count max_level (polygons layers.now components.now sheets.now)
         (rows nodes.old ends.old conductances.old corners.old cells.old work.old) }
 {
     of_netted(network::network(
@@ -194,11 +194,11 @@ pub extern "C" fn leafmesh_check_network_conforming(
     work: &mut [u64],
 ) -> CheckOutcome
     ensures value { result
-        ≡ checkOutcomeOf (Checks.conformingSays table.now count max_level
-        (netOf nodes.now ends.now conductances.now corners.now sheets.now)) }
+        ≡ check_outcome_of (Checks.conforming_says table.now count max_level
+        (net_of nodes.now ends.now conductances.now corners.now sheets.now)) }
     ensures work_after { work.new
-        ≡ workRow (nodeCount nodes.now) (length ends.now / 2) (wellFormed table.now count max_level && soundNet
-        (netOf nodes.now ends.now conductances.now corners.now sheets.now)) work.old }
+        ≡ work_row (node_count nodes.now) (length ends.now / 2) (well_formed table.now count max_level && sound_net
+        (net_of nodes.now ends.now conductances.now corners.now sheets.now)) work.old }
 {
     of_checked(checks::check_network_conforming(
         table,
@@ -228,11 +228,11 @@ pub extern "C" fn leafmesh_check_by_layer(
     work: &mut [u64],
 ) -> CheckOutcome
     ensures value { result
-        ≡ checkOutcomeOf (Checks.layersSays table.now count max_level
-        (netOf nodes.now ends.now conductances.now corners.now sheets.now) layers.now components.now) }
+        ≡ check_outcome_of (Checks.layers_says table.now count max_level
+        (net_of nodes.now ends.now conductances.now corners.now sheets.now) layers.now components.now) }
     ensures work_after { work.new
-        ≡ workRow (nodeCount nodes.now) (length ends.now / 2) (wellFormed table.now count max_level && soundNet
-        (netOf nodes.now ends.now conductances.now corners.now sheets.now) && Checks.polygonsFit table.now count
+        ≡ work_row (node_count nodes.now) (length ends.now / 2) (well_formed table.now count max_level && sound_net
+        (net_of nodes.now ends.now conductances.now corners.now sheets.now) && Checks.polygons_fit table.now count
         layers.now components.now) work.old }
 {
     of_checked(checks::check_by_layer(

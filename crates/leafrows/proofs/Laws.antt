@@ -12,12 +12,12 @@ use lib.Ieee.{Float, nan}
 use lib.Ieee.Positive.{positive}
 use lib.ListN.{length, get_or, take, length-map}
 use borrow.Author.Tests.{ltb-true}
-use Rattle.refusals.specs.Limits.{coordinate, maxSlots, maxPolygons}
-use Rattle.cell.specs.Cells.{boxOf}
+use Rattle.refusals.specs.Limits.{coordinate, max_slots, max_polygons}
+use Rattle.cell.specs.Cells.{box_of}
 use Rattle.table.specs.Slots.{cell_at}
 use Rattle.table.specs.Mesh.{Cell, table}
-use Rattle.table.specs.Formed.{wellFormed}
-use Rattle.table.specs.Leaves.{leafAt, leafIds, orderIds}
+use Rattle.table.specs.Formed.{well_formed}
+use Rattle.table.specs.Leaves.{leaf_at, leaf_ids, order_ids}
 use Rattle.table.proofs.All.{all-at}
 use Rattle.table.proofs.Stores.{read-corners}
 use Rattle.table.proofs.Shape.{formed-shape, formed-poly}
@@ -26,8 +26,8 @@ use Rattle.table.proofs.Order.{order-length}
 use Rattle.rows.specs.Parts.{part, put}
 use Rattle.rows.specs.Contract.{Small}
 use Rattle.rows.proofs.Parts.{part-all, part-put}
-use Rattle.net.specs.Net.{Poly, Piece, pieces, network, weigh, bare, leafCount, leafSum}
-use Rattle.net.specs.Flat.{Leaf, leavesFrom}
+use Rattle.net.specs.Net.{Poly, Piece, pieces, network, weigh, bare, leaf_count, leaf_sum}
+use Rattle.net.specs.Flat.{Leaf, leaves_from}
 use Rattle.net.specs.Flat as Flat
 use Rattle.net.proofs.All.{All, all-each}
 use Rattle.net.proofs.All as Each
@@ -35,12 +35,12 @@ use Rattle.net.proofs.Board.{each-length, each_at}
 use Rattle.net.proofs.Flat.{flat-sum}
 use Rattle.net.proofs.Sound.{Positive}
 use Rattle.net.proofs.Nan.{Sized, Fine, Within}
-use Rattle.places.specs.Places.{wide, boxAt, Laid, Holds}
+use Rattle.places.specs.Places.{wide, box_at, Laid, Holds}
 use Rattle.bare.specs.Slots.{Upright}
 use Rattle.bare.proofs.Bridge.{Board}
-use Rattle.leafrows.specs.Rows.{boxNums, polyRow, boxRow, polyAt, polysOf, polysBelow, Given, Filled}
+use Rattle.leafrows.specs.Rows.{box_nums, poly_row, box_row, poly_at, polys_of, polys_below, Given, Filled}
 use Rattle.leafrows.proofs.Ids.{leaf-id}
-use Rattle.leafrows.proofs.Leaves.{leafBy, net-leaves, count-leaves}
+use Rattle.leafrows.proofs.Leaves.{leaf_by, net-leaves, count-leaves}
 use Rattle.leafrows.proofs.Sides.{cell-positive}
 use Rattle.leafrows.proofs.Pieces.{all-table, all-tab, all-pieces, fine-pieces, Low, nodes-within}
 
@@ -51,67 +51,67 @@ map_at f (x ∷ l) (suc v) a b h = map_at f l v a b (omega arith)
 
 -- ---- how many leaves there are
 
-module _ (t : List ℤ) (n M : ℕ) (formed : wellFormed t n M ≡ true) where
-  pub leaf-total : length (leafIds t n) ≡ length (orderIds t n)
-  unfolding orderIds
-  leaf-total = sym (order-length t n maxPolygons (formed-poly t n M formed))
+module _ (t : List ℤ) (n M : ℕ) (formed : well_formed t n M ≡ true) where
+  pub leaf-total : length (leaf_ids t n) ≡ length (order_ids t n)
+  unfolding order_ids
+  leaf-total = sym (order-length t n max_polygons (formed-poly t n M formed))
 
-  pub leaf-count : leafCount (table t n) ≡ length (orderIds t n)
+  pub leaf-count : leaf_count (table t n) ≡ length (order_ids t n)
   leaf-count = count-leaves t n ∙ leaf-total
 
-  pub leaf-few : length (orderIds t n) ≤ maxSlots
-  unfolding leafIds
-  leaf-few = let s = formed-shape t n M formed in omega (arith, leaf-total, ids-few (leafAt t) n, s.slots, s.count)
+  pub leaf-few : length (order_ids t n) ≤ max_slots
+  unfolding leaf_ids
+  leaf-few = let s = formed-shape t n M formed in omega (arith, leaf-total, ids-few (leaf_at t) n, s.slots, s.count)
 
 -- ---- the numbers of the rows
 
 module _ (t : List ℤ) (n : ℕ) where
   abbrev ids : List ℕ
-  ids = orderIds t n
+  ids = order_ids t n
 
   -- the cell of leaf v
   abbrev cell_of : ℕ → ℕ
   cell_of v = get_or ids v 0
 
-  polys-long : length (polyRow t n) ≡ length ids
-  unfolding polyRow
+  polys-long : length (poly_row t n) ≡ length ids
+  unfolding poly_row
   polys-long = length-map ids (λ (i : ℕ). (cell_at t i).poly)
 
-  boxes-long : length (boxRow t n) ≡ 4 * length ids
-  unfolding boxRow
-  boxes-long = each-length (λ (i : ℕ). boxNums (cell_at t i)) (λ i. refl) ids
+  boxes-long : length (box_row t n) ≡ 4 * length ids
+  unfolding box_row
+  boxes-long = each-length (λ (i : ℕ). box_nums (cell_at t i)) (λ i. refl) ids
 
-  poly-at : (v : ℕ) → v < length ids → get_or (polyRow t n) v 0 ≡ (cell_at t (cell_of v)).poly
-  unfolding polyRow
+  poly-at : (v : ℕ) → v < length ids → get_or (poly_row t n) v 0 ≡ (cell_at t (cell_of v)).poly
+  unfolding poly_row
   poly-at v h = map_at (λ (i : ℕ). (cell_at t i).poly) ids v 0 0 h
 
-  num-at : (v s : ℕ) → v < length ids → s < 4 → get_or (boxRow t n) (4 * v + s) 0 ≡ get_or (boxNums (cell_at t (cell_of v))) s 0
-  unfolding boxRow
-  num-at v s h k = each_at (λ (i : ℕ). boxNums (cell_at t i)) (λ i. refl) ids v s 0 0 h k
+  num-at : (v s : ℕ) → v < length ids → s < 4 → get_or (box_row t n) (4 * v + s) 0 ≡ get_or (box_nums (cell_at t (cell_of v))) s 0
+  unfolding box_row
+  num-at v s h k = each_at (λ (i : ℕ). box_nums (cell_at t i)) (λ i. refl) ids v s 0 0 h k
 
-  first-at : (v : ℕ) → v < length ids → get_or (boxRow t n) (4 * v) 0 ≡ (cell_at t (cell_of v)).x0
-  first-at v h = ap (λ (k : ℕ). get_or (boxRow t n) k 0) (sym (add-zero (4 * v))) ∙ num-at v 0 h (omega arith)
+  first-at : (v : ℕ) → v < length ids → get_or (box_row t n) (4 * v) 0 ≡ (cell_at t (cell_of v)).x0
+  first-at v h = ap (λ (k : ℕ). get_or (box_row t n) k 0) (sym (add-zero (4 * v))) ∙ num-at v 0 h (omega arith)
 
-  box-at : (v : ℕ) → v < length ids → boxAt (boxRow t n) v ≡ boxOf (cell_at t (cell_of v))
+  box-at : (v : ℕ) → v < length ids → box_at (box_row t n) v ≡ box_of (cell_at t (cell_of v))
   box-at v h = λ i. record { x0 = first-at v h i; y0 = num-at v 1 h (omega arith) i; x1 = num-at v 2 h (omega arith) i; y1 = num-at v 3 h (omega arith) i }
 
-  boxes-low : All (λ (x : ℕ). x < wide) (boxRow t n)
-  unfolding boxRow All
-  boxes-low = all-each (λ (x : ℕ). x < wide) (λ (i : ℕ). boxNums (cell_at t i)) ids (λ i. (let c = read-corners t i in (omega arith, (omega arith, (omega arith, (omega arith, tt))))))
+  boxes-low : All (λ (x : ℕ). x < wide) (box_row t n)
+  unfolding box_row All
+  boxes-low = all-each (λ (x : ℕ). x < wide) (λ (i : ℕ). box_nums (cell_at t i)) ids (λ i. (let c = read-corners t i in (omega arith, (omega arith, (omega arith, (omega arith, tt))))))
 
 -- the rows after the call
-pub filled : (t : List ℤ) (n l : ℕ) (b₀ w₀ b w : List ℕ) → l ≡ length (orderIds t n) → 4 * l ≤ length b₀ → l ≤ length w₀
-    → b ≡ put b₀ 0 (boxRow t n) → w ≡ put w₀ 0 (polyRow t n) → Filled t n l (part w 0 l) (take (4 * l) b)
+pub filled : (t : List ℤ) (n l : ℕ) (b₀ w₀ b w : List ℕ) → l ≡ length (order_ids t n) → 4 * l ≤ length b₀ → l ≤ length w₀
+    → b ≡ put b₀ 0 (box_row t n) → w ≡ put w₀ 0 (poly_row t n) → Filled t n l (part w 0 l) (take (4 * l) b)
 filled t n l b₀ w₀ b w e rb rw eb ew =
     let m = boxes-long t n in
     let k = polys-long t n in
     record {
       total = e;
       polygons = ap (λ (z : List ℕ). part z 0 l) ew
-          ∙ (ap (part (put w₀ 0 (polyRow t n)) 0) (let q : l ≡ length (polyRow t n) = omega arith in q) ∙ part-put w₀ 0 (polyRow t n) (omega arith));
+          ∙ (ap (part (put w₀ 0 (poly_row t n)) 0) (let q : l ≡ length (poly_row t n) = omega arith in q) ∙ part-put w₀ 0 (poly_row t n) (omega arith));
       boxes = sym (part-all b (4 * l))
           ∙ (ap (λ (z : List ℕ). part z 0 (4 * l)) eb
-          ∙ (ap (part (put b₀ 0 (boxRow t n)) 0) (let q : 4 * l ≡ length (boxRow t n) = omega arith in q) ∙ part-put b₀ 0 (boxRow t n) (omega arith)));
+          ∙ (ap (part (put b₀ 0 (box_row t n)) 0) (let q : 4 * l ≡ length (box_row t n) = omega arith in q) ∙ part-put b₀ 0 (box_row t n) (omega arith)));
     }
 
 -- ---- what the next steps ask of the rows
@@ -121,22 +121,22 @@ module _ (t : List ℤ) (n l : ℕ) (polys bs : List ℕ) (R : Filled t n l poly
   boxes-size = let e = R.total in ap length R.boxes ∙ (boxes-long t n ∙ omega arith)
 
   boxes-small : Small wide bs
-  boxes-small = subst (Small wide) (sym R.boxes) (λ i h. Each.all-at (λ (x : ℕ). x < wide) 0 (boxRow t n) i (boxes-low t n) h)
+  boxes-small = subst (Small wide) (sym R.boxes) (λ i h. Each.all-at (λ (x : ℕ). x < wide) 0 (box_row t n) i (boxes-low t n) h)
 
-  leaf-in : (v : ℕ) → v < l → v < length (orderIds t n)
+  leaf-in : (v : ℕ) → v < l → v < length (order_ids t n)
   leaf-in v h = let e = R.total in omega arith
 
-  module _ (M : ℕ) (formed : wellFormed t n M ≡ true) where
-    pub few-leaves : l ≤ maxSlots
+  module _ (M : ℕ) (formed : well_formed t n M ≡ true) where
+    pub few-leaves : l ≤ max_slots
     few-leaves = let e = R.total in let f = leaf-few t n M formed in omega arith
 
     pub laid : (w : List ℕ) → 26 * l ≤ length w → Laid bs w l
     laid w h = record { boxes = boxes-size; low = boxes-small; few = few-leaves; room = h }
 
-    box-positive : (v : ℕ) → v < l → Positive (boxAt bs v)
+    box-positive : (v : ℕ) → v < l → Positive (box_at bs v)
     box-positive v h =
-        subst Positive (sym (ap (λ (z : List ℕ). boxAt z v) R.boxes ∙ box-at t n v (leaf-in v h)))
-        (cell-positive t n M formed (get_or (orderIds t n) v 0) (leaf-id t n v (leaf-in v h)))
+        subst Positive (sym (ap (λ (z : List ℕ). box_at z v) R.boxes ∙ box-at t n v (leaf-in v h)))
+        (cell-positive t n M formed (get_or (order_ids t n) v 0) (leaf-id t n v (leaf-in v h)))
 
     pub upright : Upright bs l
     upright = record { long = boxes-size; low = boxes-small; across = λ v h. (box-positive v h).0; up = λ v h. (box-positive v h).1 }
@@ -144,29 +144,29 @@ module _ (t : List ℤ) (n l : ℕ) (polys bs : List ℕ) (R : Filled t n l poly
 -- ---- the board
 
 module _ (t : List ℤ) (n M : ℕ) (layers components : List ℕ) (sheets : List Float) (G : Given t n M layers components sheets) where
-  abbrev polyFor : ℕ → Poly
-  polyFor k = polyAt layers components sheets k
+  abbrev poly_for : ℕ → Poly
+  poly_for k = poly_at layers components sheets k
 
   abbrev qs : List Piece
-  qs = pieces (table t n) (polysOf layers components sheets) 0
+  qs = pieces (table t n) (polys_of layers components sheets) 0
 
   low : (i : ℕ) → i < n → (cell_at t i).poly < length layers
-  unfolding polysBelow
+  unfolding polys_below
   low i h = ltb-true (cell_at t i).poly (length layers) (all-at (λ i. ltb (cell_at t i).poly (length layers)) n G.below i h)
 
-  leaves-are : leavesFrom qs 0 ≡ map (leafBy t polyFor) (orderIds t n)
-  unfolding polysOf
-  leaves-are = net-leaves t polyFor n (length layers) G.few low
+  leaves-are : leaves_from qs 0 ≡ map (leaf_by t poly_for) (order_ids t n)
+  unfolding polys_of
+  leaves-are = net-leaves t poly_for n (length layers) G.few low
 
   module _ (l : ℕ) (polys bs : List ℕ) (R : Filled t n l polys bs) where
-    poly-is : (v : ℕ) → v < l → (cell_at t (get_or (orderIds t n) v 0)).poly ≡ get_or polys v 0
+    poly-is : (v : ℕ) → v < l → (cell_at t (get_or (order_ids t n) v 0)).poly ≡ get_or polys v 0
     poly-is v h = sym (ap (λ (z : List ℕ). get_or z v 0) R.polygons ∙ poly-at t n v (leaf-in t n l polys bs R v h))
 
-    leaf-is : (v : ℕ) → v < l → Flat.leafAt (leavesFrom qs 0) v ≡ leafBy t polyFor (get_or (orderIds t n) v 0)
-    leaf-is v h = ap (λ (z : List Leaf). Flat.leafAt z v) leaves-are ∙ map_at (leafBy t polyFor) (orderIds t n) v 0 Flat.noLeaf (leaf-in t n l polys bs R v h)
+    leaf-is : (v : ℕ) → v < l → Flat.leaf_at (leaves_from qs 0) v ≡ leaf_by t poly_for (get_or (order_ids t n) v 0)
+    leaf-is v h = ap (λ (z : List Leaf). Flat.leaf_at z v) leaves-are ∙ map_at (leaf_by t poly_for) (order_ids t n) v 0 Flat.no_leaf (leaf-in t n l polys bs R v h)
 
     inside : (v : ℕ) → v < l → get_or polys v 0 < length layers
-    inside v h = subst (λ (k : ℕ). k < length layers) (poly-is v h) (low (get_or (orderIds t n) v 0) (leaf-id t n v (leaf-in t n l polys bs R v h)))
+    inside v h = subst (λ (k : ℕ). k < length layers) (poly-is v h) (low (get_or (order_ids t n) v 0) (leaf-id t n v (leaf-in t n l polys bs R v h)))
 
     polys-size : length polys ≡ l
     polys-size = let e = R.total in ap length R.polygons ∙ (polys-long t n ∙ omega arith)
@@ -178,20 +178,20 @@ module _ (t : List ℤ) (n M : ℕ) (layers components : List ℕ) (sheets : Lis
     pub small-sheets : Small (length sheets) polys
     small-sheets v h = let e = G.resistances in let s = small v h in omega arith
 
-    pub small-most : Small maxPolygons polys
+    pub small-most : Small max_polygons polys
     small-most v h = let e = G.few in let s = small v h in omega arith
 
-    long : length (leavesFrom qs 0) ≡ l
-    long = ap length leaves-are ∙ (length-map (orderIds t n) (leafBy t polyFor) ∙ sym R.total)
+    long : length (leaves_from qs 0) ≡ l
+    long = ap length leaves-are ∙ (length-map (order_ids t n) (leaf_by t poly_for) ∙ sym R.total)
 
-    holds : Holds layers components polys bs l (leavesFrom qs 0)
+    holds : Holds layers components polys bs l (leaves_from qs 0)
     holds =
         record {
           long = long;
           piece = λ v h. ap (λ (x : Leaf). x.piece) (leaf-is v h) ∙ poly-is v h;
           layer = λ v h. ap (λ (x : Leaf). x.poly.layer) (leaf-is v h) ∙ ap (λ (k : ℕ). get_or layers k 0) (poly-is v h);
           component = λ v h. ap (λ (x : Leaf). x.poly.component) (leaf-is v h) ∙ ap (λ (k : ℕ). get_or components k 0) (poly-is v h);
-          box = λ v h. ap (λ (x : Leaf). x.box) (leaf-is v h) ∙ sym (ap (λ (z : List ℕ). boxAt z v) R.boxes ∙ box-at t n v (leaf-in t n l polys bs R v h));
+          box = λ v h. ap (λ (x : Leaf). x.box) (leaf-is v h) ∙ sym (ap (λ (z : List ℕ). box_at z v) R.boxes ∙ box-at t n v (leaf-in t n l polys bs R v h));
         }
 
     pub board : Board layers components sheets polys bs l qs
@@ -205,16 +205,16 @@ module _ (t : List ℤ) (n M : ℕ) (layers components : List ℕ) (sheets : Lis
           inside = inside;
         }
 
-    pub leaf-sum : leafSum qs ≡ l
+    pub leaf-sum : leaf_sum qs ≡ l
     leaf-sum = flat-sum qs 0 ∙ long
 
 -- ---- what the net's laws ask of the pieces
 
-module _ (t : List ℤ) (n M : ℕ) (formed : wellFormed t n M ≡ true) where
-  cell-low : (i : ℕ) → Low (coordinate + coordinate) (boxOf (cell_at t i))
+module _ (t : List ℤ) (n M : ℕ) (formed : well_formed t n M ≡ true) where
+  cell-low : (i : ℕ) → Low (coordinate + coordinate) (box_of (cell_at t i))
   cell-low i = let c = read-corners t i in ((omega arith, omega arith), (omega arith, omega arith))
 
-  cell-sized : (i : ℕ) → i < n → Sized (boxOf (cell_at t i))
+  cell-sized : (i : ℕ) → i < n → Sized (box_of (cell_at t i))
   cell-sized i h =
       let c = read-corners t i in
       let p = cell-positive t n M formed i h in
@@ -231,8 +231,8 @@ module _ (t : List ℤ) (n M : ℕ) (formed : wellFormed t n M ≡ true) where
     unfolding network weigh bare
     low-nodes = nodes-within (coordinate + coordinate) (pieces (table t n) ps 0) (all-pieces (Low (coordinate + coordinate)) (table t n) ps 0 (all-table (λ (c : Cell). Low (coordinate + coordinate) c.box) t n (λ i h. cell-low i)))
 
-  pub fine-leaves : (layers components : List ℕ) (sheets : List Float) → ((k : ℕ) → k < length layers → T (positive (get_or sheets k nan))) → All Fine (pieces (table t n) (polysOf layers components sheets) 0)
-  unfolding polysOf
+  pub fine-leaves : (layers components : List ℕ) (sheets : List Float) → ((k : ℕ) → k < length layers → T (positive (get_or sheets k nan))) → All Fine (pieces (table t n) (polys_of layers components sheets) 0)
+  unfolding polys_of
   fine-leaves layers components sheets s =
-      fine-pieces (table t n) (polysOf layers components sheets) 0 (all-table (λ (c : Cell). Sized c.box) t n cell-sized)
-      (all-tab (λ (p : Poly). T (positive p.sheet)) (polyAt layers components sheets) (length layers) s)
+      fine-pieces (table t n) (polys_of layers components sheets) 0 (all-table (λ (c : Cell). Sized c.box) t n cell-sized)
+      (all-tab (λ (p : Poly). T (positive p.sheet)) (poly_at layers components sheets) (length layers) s)

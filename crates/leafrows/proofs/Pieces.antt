@@ -9,18 +9,18 @@ use lib.IntN.{ℤ}
 use lib.Ieee.Positive.{positive}
 use Rattle.cell.specs.Boxes.{Box}
 use Rattle.table.specs.Slots.{cell_at}
-use Rattle.table.specs.Mesh.{Cell, is_none, meshCell, table}
+use Rattle.table.specs.Mesh.{Cell, is_none, mesh_cell, table}
 use Rattle.rows.specs.Parts.{tab}
-use Rattle.net.specs.Net.{Poly, Piece, sameNode, cornersAt, cornersOf, leavesOf, pieces, nodesFrom}
+use Rattle.net.specs.Net.{Poly, Piece, same_node, corners_at, corners_of, leaves_of, pieces, nodes_from}
 use Rattle.net.proofs.All.{All, all_append, all_nil, all_one, all-weld, all-each-by}
-use Rattle.net.proofs.Pieces.{allCorners, nodes-weld}
+use Rattle.net.proofs.Pieces.{all_corners, nodes-weld}
 use Rattle.net.proofs.Nan.{Sized, Fine, Within}
 
 module _ (Q : Cell → Type 0) (t : List ℤ) where
-  pub all-table : (n : ℕ) → ((i : ℕ) → i < n → Q (meshCell (cell_at t i))) → All Q (table t n)
+  pub all-table : (n : ℕ) → ((i : ℕ) → i < n → Q (mesh_cell (cell_at t i))) → All Q (table t n)
   unfolding table
   all-table zero h = all_nil Q
-  all-table (suc n) h = all_append Q (table t n) (meshCell (cell_at t n) ∷ []) (all-table n (λ i l. h i (omega arith))) (all_one Q (meshCell (cell_at t n)) (h n (omega arith)))
+  all-table (suc n) h = all_append Q (table t n) (mesh_cell (cell_at t n) ∷ []) (all-table n (λ i l. h i (omega arith))) (all_one Q (mesh_cell (cell_at t n)) (h n (omega arith)))
 
 pub all-tab : {A : Type 0} (Q : A → Type 0) (f : ℕ → A) (n : ℕ) → ((i : ℕ) → i < n → Q (f i)) → All Q (tab f n)
 unfolding tab
@@ -31,12 +31,12 @@ module _ (P : Box → Type 0) where
   abbrev Of : Cell → Type 0
   Of c = P c.box
 
-  all-leaves : (cs : List Cell) (k : ℕ) → All Of cs → All P (leavesOf cs k)
-  unfolding All leavesOf
+  all-leaves : (cs : List Cell) (k : ℕ) → All Of cs → All P (leaves_of cs k)
+  unfolding All leaves_of
   all-leaves [] k h = tt
   all-leaves (c ∷ cs) k h = by (is_none c.kids && eqb c.polygon k) (all-leaves cs k h.1)
     where
-      by : (b : Bool) → All P (leavesOf cs k) → All P (elim b as (λ (z : Bool). List Box) [ true ↦ c.box ∷ leavesOf cs k | false ↦ leavesOf cs k ])
+      by : (b : Bool) → All P (leaves_of cs k) → All P (elim b as (λ (z : Bool). List Box) [ true ↦ c.box ∷ leaves_of cs k | false ↦ leaves_of cs k ])
       by true r = (h.0, r)
       by false r = r
 
@@ -54,15 +54,15 @@ fine-pieces cs (p ∷ ps) k h s = (record { sheet = s.0; sized = all-leaves Size
 abbrev pub Low : ℕ → Box → Type 0
 Low m r = ((r.x0 ≤ m) × (r.x1 ≤ m)) × ((r.y0 ≤ m) × (r.y1 ≤ m))
 
-corners-within : (m : ℕ) (p : Poly) (r : Box) → Low m r → All (Within m) (cornersAt p r)
+corners-within : (m : ℕ) (p : Poly) (r : Box) → Low m r → All (Within m) (corners_at p r)
 unfolding All
 corners-within m p r h = ((h.0.0, h.1.0), ((h.0.1, h.1.0), ((h.0.1, h.1.1), ((h.0.0, h.1.1), tt))))
 
-pub nodes-within : (m : ℕ) (qs : List Piece) → All (λ (q : Piece). All (Low m) q.leaves) qs → All (Within m) (nodesFrom [] qs)
+pub nodes-within : (m : ℕ) (qs : List Piece) → All (λ (q : Piece). All (Low m) q.leaves) qs → All (Within m) (nodes_from [] qs)
 nodes-within m qs h =
     subst (All (Within m)) (sym (nodes-weld [] qs))
-    (all-weld (Within m) sameNode [] (allCorners qs) (all_nil (Within m))
-    (all-each-by (λ (q : Piece). All (Low m) q.leaves) (Within m) cornersOf qs (λ q l. own q l) h))
+    (all-weld (Within m) same_node [] (all_corners qs) (all_nil (Within m))
+    (all-each-by (λ (q : Piece). All (Low m) q.leaves) (Within m) corners_of qs (λ q l. own q l) h))
   where
-    own : (q : Piece) → All (Low m) q.leaves → All (Within m) (cornersOf q)
-    own q l = unfold cornersOf in all-each-by (Low m) (Within m) (cornersAt q.poly) q.leaves (λ r k. corners-within m q.poly r k) l
+    own : (q : Piece) → All (Low m) q.leaves → All (Within m) (corners_of q)
+    own q l = unfold corners_of in all-each-by (Low m) (Within m) (corners_at q.poly) q.leaves (λ r k. corners-within m q.poly r k) l

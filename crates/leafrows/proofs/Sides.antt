@@ -9,10 +9,10 @@ use native.Mathlib.Nat.{two-pow-succ, mul-add, suc-mul, one-le-pow}
 use lib.IntN.{ℤ}
 use lib.ListN.{length}
 use Rattle.cell.specs.Boxes.{Box, Quad, sw, se, nw, ne, num, mid, quadrant}
-use Rattle.cell.specs.Cells.{boxOf}
+use Rattle.cell.specs.Cells.{box_of}
 use Rattle.table.specs.Slots.{cell_at}
 use Rattle.table.specs.Mesh.{Cell, at, table}
-use Rattle.table.specs.Formed.{Born, Split, Formed, wellFormed}
+use Rattle.table.specs.Formed.{Born, Split, Formed, well_formed}
 use Rattle.table.proofs.Cells.{length-table, at_table}
 use Rattle.table.proofs.Meshes.{kids-in}
 use Rattle.table.proofs.Wellformed.{formed-facts}
@@ -86,7 +86,7 @@ module _ (M : ℕ) (t : List Cell) (F : Formed M t) where
   positive : (i : ℕ) → i < length t → Positive (at t i).box
   positive i h = (let c = cut (suc i) i (omega arith) h in (side-positive c.depth (at t i).box.x0 (at t i).box.x1 c.sides.wide, side-positive c.depth (at t i).box.y0 (at t i).box.y1 c.sides.high))
 
-pub cell-positive : (t : List ℤ) (n M : ℕ) → wellFormed t n M ≡ true → (i : ℕ) → i < n → Positive (boxOf (cell_at t i))
+pub cell-positive : (t : List ℤ) (n M : ℕ) → well_formed t n M ≡ true → (i : ℕ) → i < n → Positive (box_of (cell_at t i))
 cell-positive t n M e i h =
     subst (λ (c : Cell). Positive c.box) (at_table t n i h)
     (positive M (table t n) (formed-facts t n M e).cells i (rw length-table h))

@@ -4,8 +4,8 @@
 ghost use Rattle.std.specs.Prelude.{◌≡◌, ◌+◌, ◌*◌, ◌<◌, ◌≤◌, length, get_or, set};
 ghost use Rattle.rows.specs.Parts.{put};
 ghost use Rattle.table.specs.Slots.{cell_at};
-ghost use Rattle.table.specs.Leaves.{orderIds};
-ghost use Rattle.leafrows.specs.Rows.{boxNums, polyRow, boxRow};
+ghost use Rattle.table.specs.Leaves.{order_ids};
+ghost use Rattle.leafrows.specs.Rows.{box_nums, poly_row, box_row};
 
 use cell::Cell;
 use table::leaves::append_order;
@@ -15,7 +15,7 @@ use table::slots::cell_at;
 #[tactic(auto, using(rows::proofs::Parts::put_four))]
 fn put_box(boxes: &mut [u64], at: usize, c: Cell)
     requires { at + 4 ≤ length boxes.old }
-    ensures { boxes.new ≡ put boxes.old at (boxNums c) }
+    ensures { boxes.new ≡ put boxes.old at (box_nums c) }
 {
     boxes[at] = c.x0;
     boxes[at + 1] = c.y0;
@@ -27,7 +27,7 @@ fn put_box(boxes: &mut [u64], at: usize, c: Cell)
 fn put_leaf(t: &[i64], v: usize, boxes: &mut [u64], work: &mut [u64])
     requires v_in_bounds { (v < length work.old) × (4 * v + 4 ≤ length boxes.old) }
     requires v_in_bounds_2 { get_or work.old v 0 * 8 + 8 ≤ length t.now }
-    ensures boxes_after { boxes.new ≡ put boxes.old (4 * v) (boxNums (cell_at t.now (get_or work.old v 0))) }
+    ensures boxes_after { boxes.new ≡ put boxes.old (4 * v) (box_nums (cell_at t.now (get_or work.old v 0))) }
     ensures work_after { work.new ≡ set work.old v (cell_at t.now (get_or work.old v 0)).poly }
 {
     let i = work[v] as usize;
@@ -39,10 +39,10 @@ fn put_leaf(t: &[i64], v: usize, boxes: &mut [u64], work: &mut [u64])
 // The leaves by polygon, then id: the polygon of each in front of the work row, its box in the row of boxes. Internal:
 // the slots are in the row, there are l leaves, and the rows have room for them.
 pub fn fill_leaves(t: &[i64], n: usize, l: usize, boxes: &mut [u64], work: &mut [u64])
-    requires n_in_bounds { (n * 8 ≤ length t.now) × (l ≡ length (orderIds t.now n)) }
+    requires n_in_bounds { (n * 8 ≤ length t.now) × (l ≡ length (order_ids t.now n)) }
     requires l_in_bounds { (4 * l ≤ length boxes.old) × (l ≤ length work.old) }
-    ensures boxes_after { boxes.new ≡ put boxes.old 0 (boxRow t.now n) }
-    ensures work_after { work.new ≡ put work.old 0 (polyRow t.now n) }
+    ensures boxes_after { boxes.new ≡ put boxes.old 0 (box_row t.now n) }
+    ensures work_after { work.new ≡ put work.old 0 (poly_row t.now n) }
 {
     append_order(t, n, work);
     for v in 0..l {

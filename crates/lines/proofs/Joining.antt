@@ -11,7 +11,7 @@ use borrow.Rule.Slice.PartMut.{put_mid}
 use lib.Seq.{drop-drop, sets, sets-eq, length-sets, take-suc}
 use Rattle.io.specs.Counts.{IsPrefixLen}
 use Rattle.io.proofs.Counting.{prefix_len_of_le}
-use Rattle.lines.specs.Text.{newline, space, decimal, signed, numbers, line, edgeWord, named, written, Puts}
+use Rattle.lines.specs.Text.{newline, space, decimal, signed, numbers, line, edge_word, named, written, Puts}
 use Rattle.std.proofs.lemmas.List.{drop_more}
 use Rattle.lines.specs.Lines.{in_turn, item}
 
@@ -71,13 +71,13 @@ lined {a} {x = x} at w word n zs p q r =
 
 -- the same with a conductance behind the numbers
 pub edged : {a b c d : ℕ} {w x y z : List ℕ} (at : ℕ) (v : List ℕ) (from to : ℕ) (hex : List ℕ)
-    → Puts at (named edgeWord from) v a w → Puts a (space ∷ decimal to) w b x → Puts b (space ∷ hex) x c y → Puts c (newline ∷ []) y d z
-    → Puts at (edgeWord ++ (numbers (pos from ∷ pos to ∷ []) ++ (space ∷ hex ++ (newline ∷ [])))) v d z
+    → Puts at (named edge_word from) v a w → Puts a (space ∷ decimal to) w b x → Puts b (space ∷ hex) x c y → Puts c (newline ∷ []) y d z
+    → Puts at (edge_word ++ (numbers (pos from ∷ pos to ∷ []) ++ (space ∷ hex ++ (newline ∷ [])))) v d z
 unfolding numbers signed
 edged {a} {b} {w = w} {x = x} at v from to hex p q r l =
     let t = space ∷ hex ++ (newline ∷ []) in
     let u = (space ∷ decimal to) ++ t in
-    join at v (named edgeWord from) u (edgeWord ++ (numbers (pos from ∷ pos to ∷ []) ++ t)) (simp (append_assoc, append-nil)) p
+    join at v (named edge_word from) u (edge_word ++ (numbers (pos from ∷ pos to ∷ []) ++ t)) (simp (append_assoc, append-nil)) p
     (join a w (space ∷ decimal to) t u refl q (join b x (space ∷ hex) (newline ∷ []) t refl r l))
 
 -- ---- line behind line

@@ -1,4 +1,4 @@
--- Laws that the proofs of the functions cite, and document 01's worked lines.
+-- Laws that the proofs of the functions cite, and the rules' worked lines.
 pub mod Numerals
 pub mod Joining
 pub mod Worked

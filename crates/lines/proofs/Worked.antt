@@ -1,11 +1,11 @@
--- Document 01's lines for the worked board, and a refusal. Assumes nothing.
+-- The rules' lines for the worked board, and a refusal. Assumes nothing.
 use Prim.Native.Nat.{ℕ}
 use mathlib.Core.Path.{◌≡◌, refl}
 use mathlib.Core.List.{List, [], ◌∷◌}
 use mathlib.Core.Bool.{false}
 use lib.IntN.{pos, negsuc}
 use lib.Ieee.{Float, fin, to_bits}
-use Rattle.lines.specs.Text.{tens, decimal, signed, hexOf, numbers, totalsText, leafText, nodeText, edgeText, refusedText}
+use Rattle.lines.specs.Text.{tens, decimal, signed, hex_of, numbers, totals_text, leaf_text, node_text, edge_text, refused_text}
 
 pub half : Float
 half = fin false 1 (negsuc 0)
@@ -45,26 +45,26 @@ printed =
     ∷
     []
 
-pub worked : (totalsText 1 1 4 4 0
-    ∷ leafText 0 (pos 0) (pos 0) (pos 0) (pos 0) (pos 4) (pos 4)
-    ∷ nodeText 0 (pos 1) (pos 0) (pos 0) (pos 0)
-    ∷ nodeText 1 (pos 1) (pos 0) (pos 4) (pos 0)
-    ∷ nodeText 2 (pos 1) (pos 0) (pos 4) (pos 4)
-    ∷ nodeText 3 (pos 1) (pos 0) (pos 0) (pos 4)
-    ∷ edgeText 0 1 half
-    ∷ edgeText 3 2 half
-    ∷ edgeText 0 3 half
-    ∷ edgeText 1 2 half
+pub worked : (totals_text 1 1 4 4 0
+    ∷ leaf_text 0 (pos 0) (pos 0) (pos 0) (pos 0) (pos 4) (pos 4)
+    ∷ node_text 0 (pos 1) (pos 0) (pos 0) (pos 0)
+    ∷ node_text 1 (pos 1) (pos 0) (pos 4) (pos 0)
+    ∷ node_text 2 (pos 1) (pos 0) (pos 4) (pos 4)
+    ∷ node_text 3 (pos 1) (pos 0) (pos 0) (pos 4)
+    ∷ edge_text 0 1 half
+    ∷ edge_text 3 2 half
+    ∷ edge_text 0 3 half
+    ∷ edge_text 1 2 half
     ∷ []) ≡ printed
-unfolding printed half tens decimal signed hexOf numbers to_bits
+unfolding printed half tens decimal signed hex_of numbers to_bits
 worked = refl
 
 -- refused 3 28
-pub worked-refusal : refusedText 3 28 ≡ (114 ∷ 101 ∷ 102 ∷ 117 ∷ 115 ∷ 101 ∷ 100 ∷ 32 ∷ 51 ∷ 32 ∷ 50 ∷ 56 ∷ 10 ∷ [])
+pub worked-refusal : refused_text 3 28 ≡ (114 ∷ 101 ∷ 102 ∷ 117 ∷ 115 ∷ 101 ∷ 100 ∷ 32 ∷ 51 ∷ 32 ∷ 50 ∷ 56 ∷ 10 ∷ [])
 unfolding tens decimal signed numbers
 worked-refusal = refl
 
 -- node 10 65535 4294967295 -68719476736 90
-pub worked-minus : nodeText 10 (pos 65535) (pos 4294967295) (negsuc 68719476735) (pos 90) ≡ (110 ∷ 111 ∷ 100 ∷ 101 ∷ 32 ∷ 49 ∷ 48 ∷ 32 ∷ 54 ∷ 53 ∷ 53 ∷ 51 ∷ 53 ∷ 32 ∷ 52 ∷ 50 ∷ 57 ∷ 52 ∷ 57 ∷ 54 ∷ 55 ∷ 50 ∷ 57 ∷ 53 ∷ 32 ∷ 45 ∷ 54 ∷ 56 ∷ 55 ∷ 49 ∷ 57 ∷ 52 ∷ 55 ∷ 54 ∷ 55 ∷ 51 ∷ 54 ∷ 32 ∷ 57 ∷ 48 ∷ 10 ∷ [])
+pub worked-minus : node_text 10 (pos 65535) (pos 4294967295) (negsuc 68719476735) (pos 90) ≡ (110 ∷ 111 ∷ 100 ∷ 101 ∷ 32 ∷ 49 ∷ 48 ∷ 32 ∷ 54 ∷ 53 ∷ 53 ∷ 51 ∷ 53 ∷ 32 ∷ 52 ∷ 50 ∷ 57 ∷ 52 ∷ 57 ∷ 54 ∷ 55 ∷ 50 ∷ 57 ∷ 53 ∷ 32 ∷ 45 ∷ 54 ∷ 56 ∷ 55 ∷ 49 ∷ 57 ∷ 52 ∷ 55 ∷ 54 ∷ 55 ∷ 51 ∷ 54 ∷ 32 ∷ 57 ∷ 48 ∷ 10 ∷ [])
 unfolding tens decimal signed numbers
 worked-minus = refl

@@ -1,4 +1,4 @@
--- Document 01's lines of `leafnet`, as ASCII codes.
+-- The rules' lines of `leafnet`, as ASCII codes.
 use Rattle.std.specs.Prelude.{ℕ, zero, suc, ◌+◌, ◌/◌, ◌%◌, ◌≡◌, Bool, true, false, List, [], ◌∷◌, ◌++◌, length, drop, ltb, ℤ, pos, negsuc, Float}
 use Rattle.std.proofs.lemmas.List.Edits.{sets}
 use Rattle.std.specs.Float.{binary64}
@@ -6,20 +6,20 @@ use Rattle.std.specs.Float.Ieee.{to_bits}
 use Rattle.io.specs.Digits.{last_digits}
 
 -- no line of its kind is longer: a number has at most 20 digits, and a signed one its minus
-abbrev pub totalsMost : ℕ
-totalsMost = 137
+abbrev pub totals_most : ℕ
+totals_most = 137
 
-abbrev pub leafMost : ℕ
-leafMost = 158
+abbrev pub leaf_most : ℕ
+leaf_most = 158
 
-abbrev pub nodeMost : ℕ
-nodeMost = 114
+abbrev pub node_most : ℕ
+node_most = 114
 
-abbrev pub edgeMost : ℕ
-edgeMost = 64
+abbrev pub edge_most : ℕ
+edge_most = 64
 
-abbrev pub refusedMost : ℕ
-refusedMost = 50
+abbrev pub refused_most : ℕ
+refused_most = 50
 
 -- a text at the start of a row: behind it the row is as it was
 unfoldable pub written : List ℕ → List ℕ → List ℕ
@@ -53,8 +53,8 @@ signed (pos n) = decimal n
 signed (negsuc n) = minus ∷ decimal (suc n)
 
 -- 64 bits as 16 digits in base 16, in lower case
-unfoldable pub hexOf : ℕ → List ℕ
-hexOf n = last_digits 16 16 n
+unfoldable pub hex_of : ℕ → List ℕ
+hex_of n = last_digits 16 16 n
 
 -- each number with a space in front
 unfoldable pub numbers : List ℤ → List ℕ
@@ -66,67 +66,67 @@ abbrev pub line : List ℕ → List ℤ → List ℕ
 line word zs = word ++ (numbers zs ++ (newline ∷ []))
 
 -- c e l l s
-abbrev pub cellsWord : List ℕ
-cellsWord = 99 ∷ 101 ∷ 108 ∷ 108 ∷ 115 ∷ []
+abbrev pub cells_word : List ℕ
+cells_word = 99 ∷ 101 ∷ 108 ∷ 108 ∷ 115 ∷ []
 
 -- l e a v e s
-abbrev pub leavesWord : List ℕ
-leavesWord = 108 ∷ 101 ∷ 97 ∷ 118 ∷ 101 ∷ 115 ∷ []
+abbrev pub leaves_word : List ℕ
+leaves_word = 108 ∷ 101 ∷ 97 ∷ 118 ∷ 101 ∷ 115 ∷ []
 
 -- n o d e s
-abbrev pub nodesWord : List ℕ
-nodesWord = 110 ∷ 111 ∷ 100 ∷ 101 ∷ 115 ∷ []
+abbrev pub nodes_word : List ℕ
+nodes_word = 110 ∷ 111 ∷ 100 ∷ 101 ∷ 115 ∷ []
 
 -- e d g e s
-abbrev pub edgesWord : List ℕ
-edgesWord = 101 ∷ 100 ∷ 103 ∷ 101 ∷ 115 ∷ []
+abbrev pub edges_word : List ℕ
+edges_word = 101 ∷ 100 ∷ 103 ∷ 101 ∷ 115 ∷ []
 
 -- s p l i t s
-abbrev pub splitsWord : List ℕ
-splitsWord = 115 ∷ 112 ∷ 108 ∷ 105 ∷ 116 ∷ 115 ∷ []
+abbrev pub splits_word : List ℕ
+splits_word = 115 ∷ 112 ∷ 108 ∷ 105 ∷ 116 ∷ 115 ∷ []
 
 -- l e a f
-abbrev pub leafWord : List ℕ
-leafWord = 108 ∷ 101 ∷ 97 ∷ 102 ∷ []
+abbrev pub leaf_word : List ℕ
+leaf_word = 108 ∷ 101 ∷ 97 ∷ 102 ∷ []
 
 -- n o d e
-abbrev pub nodeWord : List ℕ
-nodeWord = 110 ∷ 111 ∷ 100 ∷ 101 ∷ []
+abbrev pub node_word : List ℕ
+node_word = 110 ∷ 111 ∷ 100 ∷ 101 ∷ []
 
 -- e d g e
-abbrev pub edgeWord : List ℕ
-edgeWord = 101 ∷ 100 ∷ 103 ∷ 101 ∷ []
+abbrev pub edge_word : List ℕ
+edge_word = 101 ∷ 100 ∷ 103 ∷ 101 ∷ []
 
 -- r e f u s e d
-abbrev pub refusedWord : List ℕ
-refusedWord = 114 ∷ 101 ∷ 102 ∷ 117 ∷ 115 ∷ 101 ∷ 100 ∷ []
+abbrev pub refused_word : List ℕ
+refused_word = 114 ∷ 101 ∷ 102 ∷ 117 ∷ 115 ∷ 101 ∷ 100 ∷ []
 
 -- a word and its number
 abbrev pub named : List ℕ → ℕ → List ℕ
 named word n = word ++ (space ∷ decimal n)
 
-abbrev pub totalsText : ℕ → ℕ → ℕ → ℕ → ℕ → List ℕ
-totalsText cells leaves nodes edges splits =
-    named cellsWord cells
-    ++ (space ∷ named leavesWord leaves
-    ++ (space ∷ named nodesWord nodes
-    ++ (space ∷ named edgesWord edges
-    ++ (space ∷ named splitsWord splits
+abbrev pub totals_text : ℕ → ℕ → ℕ → ℕ → ℕ → List ℕ
+totals_text cells leaves nodes edges splits =
+    named cells_word cells
+    ++ (space ∷ named leaves_word leaves
+    ++ (space ∷ named nodes_word nodes
+    ++ (space ∷ named edges_word edges
+    ++ (space ∷ named splits_word splits
     ++ (newline ∷ [])))))
 
 -- id polygon level x0 y0 x1 y1
-abbrev pub leafText : ℕ → ℤ → ℤ → ℤ → ℤ → ℤ → ℤ → List ℕ
-leafText id polygon level x0 y0 x1 y1 = line leafWord (pos id ∷ polygon ∷ level ∷ x0 ∷ y0 ∷ x1 ∷ y1 ∷ [])
+abbrev pub leaf_text : ℕ → ℤ → ℤ → ℤ → ℤ → ℤ → ℤ → List ℕ
+leaf_text id polygon level x0 y0 x1 y1 = line leaf_word (pos id ∷ polygon ∷ level ∷ x0 ∷ y0 ∷ x1 ∷ y1 ∷ [])
 
 -- number layer component x y
-abbrev pub nodeText : ℕ → ℤ → ℤ → ℤ → ℤ → List ℕ
-nodeText number layer component x y = line nodeWord (pos number ∷ layer ∷ component ∷ x ∷ y ∷ [])
+abbrev pub node_text : ℕ → ℤ → ℤ → ℤ → ℤ → List ℕ
+node_text number layer component x y = line node_word (pos number ∷ layer ∷ component ∷ x ∷ y ∷ [])
 
 -- the two ends, and the conductance's binary64 bits
-abbrev pub edgeText : ℕ → ℕ → Float → List ℕ
-edgeText from to g =
-    edgeWord ++ (numbers (pos from ∷ pos to ∷ []) ++ (space ∷ hexOf (to_bits binary64 g) ++ (newline ∷ [])))
+abbrev pub edge_text : ℕ → ℕ → Float → List ℕ
+edge_text from to g =
+    edge_word ++ (numbers (pos from ∷ pos to ∷ []) ++ (space ∷ hex_of (to_bits binary64 g) ++ (newline ∷ [])))
 
 -- number place
-abbrev pub refusedText : ℕ → ℕ → List ℕ
-refusedText number place = line refusedWord (pos number ∷ pos place ∷ [])
+abbrev pub refused_text : ℕ → ℕ → List ℕ
+refused_text number place = line refused_word (pos number ∷ pos place ∷ [])

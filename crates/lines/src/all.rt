@@ -1,15 +1,15 @@
 // All lines of a kind, one behind another. Internal, as the lines are.
 ghost use Rattle.std.specs.Prelude.{◌+◌, ◌*◌, ◌≤◌, length};
-ghost use Rattle.lines.specs.Text.{Puts, leafMost, nodeMost, edgeMost};
-ghost use Rattle.lines.specs.Lines.{Slotted, leafLines, nodeLines, edgeLines};
+ghost use Rattle.lines.specs.Text.{Puts, leaf_most, node_most, edge_most};
+ghost use Rattle.lines.specs.Lines.{Slotted, leaf_lines, node_lines, edge_lines};
 
 use crate::{edge_line, leaf_line, node_line};
 
 // The cells of the first n ids of the order.
 pub fn leaf_lines(out: &mut [u8], at: usize, table: &[i64], order: &[u64], n: usize) -> usize
-    requires { (at + leafMost * n ≤ length out.old) × Slotted table.now order.now n }
-    ensures upper_bound { result ≤ at + leafMost * n }
-    ensures puts { Puts at (leafLines table.now order.now n)
+    requires { (at + leaf_most * n ≤ length out.old) × Slotted table.now order.now n }
+    ensures upper_bound { result ≤ at + leaf_most * n }
+    ensures puts { Puts at (leaf_lines table.now order.now n)
         out.old result out.new }
 {
     let mut end = at;
@@ -20,9 +20,9 @@ pub fn leaf_lines(out: &mut [u8], at: usize, table: &[i64], order: &[u64], n: us
 }
 
 pub fn node_lines(out: &mut [u8], at: usize, nodes: &[i64], n: usize) -> usize
-    requires { (at + nodeMost * n ≤ length out.old) × (4 * n ≤ length nodes.now) }
-    ensures upper_bound { result ≤ at + nodeMost * n }
-    ensures puts { Puts at (nodeLines nodes.now n) out.old result out.new }
+    requires { (at + node_most * n ≤ length out.old) × (4 * n ≤ length nodes.now) }
+    ensures upper_bound { result ≤ at + node_most * n }
+    ensures puts { Puts at (node_lines nodes.now n) out.old result out.new }
 {
     let mut end = at;
     for i in 0..n {
@@ -33,9 +33,9 @@ pub fn node_lines(out: &mut [u8], at: usize, nodes: &[i64], n: usize) -> usize
 
 // The edges, with their conductances.
 pub fn edge_lines(out: &mut [u8], at: usize, ends: &[u64], gs: &[f64], n: usize) -> usize
-    requires { (at + edgeMost * n ≤ length out.old) × (2 * n ≤ length ends.now) × (n ≤ length gs.now) }
-    ensures upper_bound { result ≤ at + edgeMost * n }
-    ensures puts { Puts at (edgeLines ends.now gs.now n)
+    requires { (at + edge_most * n ≤ length out.old) × (2 * n ≤ length ends.now) × (n ≤ length gs.now) }
+    ensures upper_bound { result ≤ at + edge_most * n }
+    ensures puts { Puts at (edge_lines ends.now gs.now n)
         out.old result out.new }
 {
     let mut end = at;

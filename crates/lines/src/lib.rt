@@ -3,9 +3,9 @@
 #![tactic(auto)]
 
 ghost use Rattle.std.specs.Prelude.{◌+◌, ◌*◌, ◌<◌, ◌≤◌, length};
-ghost use Rattle.lines.specs.Text.{Puts, totalsText, refusedText};
-ghost use Rattle.lines.specs.Text.{totalsMost, leafMost, nodeMost, edgeMost, refusedMost};
-ghost use Rattle.lines.specs.Lines.{leafLine, nodeLine, edgeLine};
+ghost use Rattle.lines.specs.Text.{Puts, totals_text, refused_text};
+ghost use Rattle.lines.specs.Text.{totals_most, leaf_most, node_most, edge_most, refused_most};
+ghost use Rattle.lines.specs.Lines.{leaf_line, node_line, edge_line};
 
 pub mod all;
 mod put;
@@ -18,9 +18,9 @@ pub fn totals_line(
     edges: usize,
     splits: usize,
 ) -> usize
-    requires { totalsMost ≤ length out.old }
-    ensures upper_bound { result ≤ totalsMost }
-    ensures puts { Puts 0 (totalsText cells leaves nodes edges splits) out.old result out.new }
+    requires { totals_most ≤ length out.old }
+    ensures upper_bound { result ≤ totals_most }
+    ensures puts { Puts 0 (totals_text cells leaves nodes edges splits) out.old result out.new }
 {
     let a = put::named(out, 0, b"cells", cells as u64);
     let b = put::named(out, a, b" leaves", leaves as u64);
@@ -32,9 +32,9 @@ pub fn totals_line(
 
 // The cell in slot `id` of a table.
 pub fn leaf_line(out: &mut [u8], at: usize, t: &[i64], id: u64) -> usize
-    requires { (at + leafMost ≤ length out.old) × (id * 8 + 8 ≤ length t.now) }
-    ensures upper_bound { result ≤ at + leafMost }
-    ensures puts { Puts at (leafLine t.now id) out.old result out.new }
+    requires { (at + leaf_most ≤ length out.old) × (id * 8 + 8 ≤ length t.now) }
+    ensures upper_bound { result ≤ at + leaf_most }
+    ensures puts { Puts at (leaf_line t.now id) out.old result out.new }
 {
     let s = id as usize * 8;
     let polygon = t[s + 7];
@@ -47,9 +47,9 @@ pub fn leaf_line(out: &mut [u8], at: usize, t: &[i64], id: u64) -> usize
 
 // Node i of a net.
 pub fn node_line(out: &mut [u8], at: usize, nodes: &[i64], i: usize) -> usize
-    requires { (at + nodeMost ≤ length out.old) × (4 * i + 4 ≤ length nodes.now) }
-    ensures upper_bound { result ≤ at + nodeMost }
-    ensures puts { Puts at (nodeLine nodes.now i) out.old result out.new }
+    requires { (at + node_most ≤ length out.old) × (4 * i + 4 ≤ length nodes.now) }
+    ensures upper_bound { result ≤ at + node_most }
+    ensures puts { Puts at (node_line nodes.now i) out.old result out.new }
 {
     let s = 4 * i;
     let a = put::named(out, at, b"node", i as u64);
@@ -59,9 +59,9 @@ pub fn node_line(out: &mut [u8], at: usize, nodes: &[i64], i: usize) -> usize
 
 // Edge j of a net, with its conductance.
 pub fn edge_line(out: &mut [u8], at: usize, ends: &[u64], gs: &[f64], j: usize) -> usize
-    requires { (at + edgeMost ≤ length out.old) × (2 * j + 2 ≤ length ends.now) × (j < length gs.now) }
-    ensures upper_bound { result ≤ at + edgeMost }
-    ensures puts { Puts at (edgeLine ends.now gs.now j)
+    requires { (at + edge_most ≤ length out.old) × (2 * j + 2 ≤ length ends.now) × (j < length gs.now) }
+    ensures upper_bound { result ≤ at + edge_most }
+    ensures puts { Puts at (edge_line ends.now gs.now j)
         out.old result out.new }
 {
     let s = 2 * j;
@@ -75,9 +75,9 @@ pub fn edge_line(out: &mut [u8], at: usize, ends: &[u64], gs: &[f64], j: usize) 
 }
 
 pub fn refused_line(out: &mut [u8], number: u64, place: usize) -> usize
-    requires { refusedMost ≤ length out.old }
-    ensures upper_bound { result ≤ refusedMost }
-    ensures puts { Puts 0 (refusedText number place) out.old result out.new }
+    requires { refused_most ≤ length out.old }
+    ensures upper_bound { result ≤ refused_most }
+    ensures puts { Puts 0 (refused_text number place) out.old result out.new }
 {
     let a = put::named(out, 0, b"refused", number);
     let b = put::natural(out, a, place as u64);

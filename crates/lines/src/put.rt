@@ -2,7 +2,7 @@
 ghost use Rattle.std.specs.Prelude.{◌≡◌, ◌∷◌, ◌+◌, ◌*◌, ◌≤◌, length};
 ghost use Rattle.std.specs.Float.{binary64};
 ghost use Rattle.std.specs.Float.Ieee.{to_bits};
-ghost use Rattle.lines.specs.Text.{space, decimal, hexOf, Puts};
+ghost use Rattle.lines.specs.Text.{space, decimal, hex_of, Puts};
 ghost use Rattle.lines.specs.Text.{signed as Text·signed, numbers as Text·numbers, named as Text·named};
 
 pub fn append(out: &mut [u8], at: usize, text: &[u8]) -> usize
@@ -75,7 +75,7 @@ pub fn numbers(out: &mut [u8], at: usize, row: &[i64]) -> usize
 pub fn hex(out: &mut [u8], at: usize, n: u64) -> usize
     requires { at + 17 ≤ length out.old }
     ensures upper_bound { result ≤ at + 17 }
-    ensures puts { Puts at (space ∷ hexOf n) out.old result out.new }
+    ensures puts { Puts at (space ∷ hex_of n) out.old result out.new }
 {
     let mut text = [0u8; 16];
     let k = io::hex(n, 16, &mut text);

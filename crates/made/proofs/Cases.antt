@@ -4,19 +4,19 @@ use mathlib.Core.Path.{◌≡◌, refl}
 use mathlib.Core.List.{List, [], ◌∷◌}
 use Prim.Native.Nat.{ℕ}
 use lib.IntN.{ℤ, pos}
-use Rattle.cell.specs.Cells.{noCell}
+use Rattle.cell.specs.Cells.{no_cell}
 use Rattle.cell.specs.Ticks.{off, on}
 use Rattle.table.specs.Mesh.{table}
 use Rattle.table.specs.Slots.{counted, cell_at}
-use Rattle.table.specs.Leaves.{leafAt}
-use Rattle.sound_net.specs.Nets.{eqZ}
-use Rattle.conforming.specs.Nodes.{here, lastBelow, anyBelow, joins}
-use Rattle.conforming.specs.Checks.{fault, chain, sidesFault, leafFault, cellFault, firstFault, layerFault}
-use Rattle.net.specs.Net.{find, weld, each, Poly, leavesOf, pieces, cornersOf, nodesFrom, sidesAt, edgesOf, edgesFrom, patchesFrom, weighed, bare, weigh, network, One}
-use Rattle.made.specs.Made.{layersOf, componentsOf, nodeRow, endRow}
+use Rattle.table.specs.Leaves.{leaf_at}
+use Rattle.sound_net.specs.Nets.{eq_z}
+use Rattle.conforming.specs.Nodes.{here, last_below, any_below, joins}
+use Rattle.conforming.specs.Checks.{fault, chain, sides_fault, leaf_fault, cell_fault, first_fault, layer_fault}
+use Rattle.net.specs.Net.{find, weld, each, Poly, leaves_of, pieces, corners_of, nodes_from, sides_at, edges_of, edges_from, patches_from, weighed, bare, weigh, network, One}
+use Rattle.made.specs.Made.{layers_of, components_of, node_row, end_row}
 
 abbrev root : ℕ → ℕ → ℕ → List ℤ → List ℤ
-root x0 x1 k rest = pos x0 ∷ pos 0 ∷ pos x1 ∷ pos 4 ∷ pos 0 ∷ pos noCell ∷ pos noCell ∷ pos k ∷ rest
+root x0 x1 k rest = pos x0 ∷ pos 0 ∷ pos x1 ∷ pos 4 ∷ pos 0 ∷ pos no_cell ∷ pos no_cell ∷ pos k ∷ rest
 
 abbrev overlapping : List ℤ
 overlapping = root 0 4 0 (root 2 6 1 [])
@@ -25,12 +25,12 @@ abbrev poly : ℕ → Poly
 poly component = record { layer = 1; component = component; sheet = One }
 
 abbrev answer : List Poly → List ℕ
-answer ps = layerFault overlapping 2 (nodeRow (network (table overlapping 2) ps)) (endRow (network (table overlapping 2) ps)) (layersOf ps) (componentsOf ps)
+answer ps = layer_fault overlapping 2 (node_row (network (table overlapping 2) ps)) (end_row (network (table overlapping 2) ps)) (layers_of ps) (components_of ps)
 
 pub alike : answer (poly 0 ∷ poly 0 ∷ []) ≡ 4 ∷ 0 ∷ 1 ∷ []
-unfolding layerFault firstFault cellFault leafFault sidesFault chain fault leafAt cell_at counted off on here lastBelow anyBelow joins eqZ table find weld each leavesOf pieces cornersOf nodesFrom sidesAt edgesOf edgesFrom patchesFrom weighed bare weigh network
+unfolding layer_fault first_fault cell_fault leaf_fault sides_fault chain fault leaf_at cell_at counted off on here last_below any_below joins eq_z table find weld each leaves_of pieces corners_of nodes_from sides_at edges_of edges_from patches_from weighed bare weigh network
 alike = refl
 
 pub different : answer (poly 0 ∷ poly 1 ∷ []) ≡ []
-unfolding layerFault firstFault cellFault leafFault sidesFault chain fault leafAt cell_at counted off on here lastBelow anyBelow joins eqZ table find weld each leavesOf pieces cornersOf nodesFrom sidesAt edgesOf edgesFrom patchesFrom weighed bare weigh network
+unfolding layer_fault first_fault cell_fault leaf_fault sides_fault chain fault leaf_at cell_at counted off on here last_below any_below joins eq_z table find weld each leaves_of pieces corners_of nodes_from sides_at edges_of edges_from patches_from weighed bare weigh network
 different = refl

@@ -10,17 +10,17 @@ use borrow.Author.Tests.{lt-ltb}
 use Rattle.std.specs.Prelude.{Option, None, Some}
 use Rattle.cell.specs.declared.Cell.{Cell}
 use Rattle.cell.specs.Boxes.{mid}
-use Rattle.cell.specs.Cells.{boxOf}
+use Rattle.cell.specs.Cells.{box_of}
 use Rattle.cell.specs.Ticks.{on}
 use Rattle.conforming.specs.declared.Whose.{Whose}
-use Rattle.conforming.specs.Nodes.{joined, nodeAt as nodeFound}
-use Rattle.conforming.specs.Checks.{fault, chain, or_else, sidesFault, leafFault, firstFault}
-use Rattle.net.specs.Net.{find, each, Poly, Node, Edge, sameNode, same_pair, nth, number, nodeAt, swOf, neOf, nwOf, join, One}
+use Rattle.conforming.specs.Nodes.{joined, node_at as node_found}
+use Rattle.conforming.specs.Checks.{fault, chain, or_else, sides_fault, leaf_fault, first_fault}
+use Rattle.net.specs.Net.{find, each, Poly, Node, Edge, same_node, same_pair, nth, number, node_at, sw_of, ne_of, nw_of, join, One}
 use Rattle.net.specs.Hang.{Joined, Halved, HalvedSides}
 use Rattle.net.proofs.Find.{find-same}
 use Rattle.net.proofs.Keys.{both_of}
 use Rattle.net.proofs.All.{In}
-use Rattle.places.specs.Places.{nodeNums, endNums}
+use Rattle.places.specs.Places.{node_nums, end_nums}
 use Rattle.made.proofs.Places.{top, Tells, found, joined_of}
 use Rattle.made.proofs.Pieces.{BoxWithin}
 
@@ -43,8 +43,8 @@ none_of {a} {b} e f = ap (λ (z : List ℕ). or_else z b) e ∙ f
 -- ---- all nodes ns, and the nodes so far, by which the edges of the polygon p are made
 module _ (ns so : List Node) (es : List Edge) (p : Poly) (w : Whose) (tells : Tells ns w p)
     (once : (i : ℕ) → i < length ns → number ns (nth ns i) ≡ i)
-    (kept : (x y : ℕ) → In sameNode ns (nodeAt p x y) → In sameNode so (nodeAt p x y) × (number ns (nodeAt p x y) ≡ number so (nodeAt p x y))) where
-  numbered : (x y i : ℕ) → x ≤ top → y ≤ top → nodeFound (each nodeNums ns) w (on x) (on y) ≡ Some i → In sameNode so (nodeAt p x y) × (number so (nodeAt p x y) ≡ i)
+    (kept : (x y : ℕ) → In same_node ns (node_at p x y) → In same_node so (node_at p x y) × (number ns (node_at p x y) ≡ number so (node_at p x y))) where
+  numbered : (x y i : ℕ) → x ≤ top → y ≤ top → node_found (each node_nums ns) w (on x) (on y) ≡ Some i → In same_node so (node_at p x y) × (number so (node_at p x y) ≡ i)
   numbered x y i h k e =
       let f = found ns w p tells once x y i h k e in
       let l = f.0 in
@@ -52,16 +52,16 @@ module _ (ns so : List Node) (es : List Edge) (p : Poly) (w : Whose) (tells : Te
       let r = kept x y (omega arith) in
       (r.0, sym r.1 ∙ n)
 
-  edge-clear : (ax ay bx by mx my : ℕ) → ax ≤ top → ay ≤ top → bx ≤ top → by ≤ top → mx ≤ top → my ≤ top → Halved so es (nodeAt p ax ay) (nodeAt p mx my) (nodeAt p bx by)
-      → chain (each nodeNums ns) (each endNums es) w (on ax) (on ay) (on bx) (on by) (on mx) (on my) ≡ []
+  edge-clear : (ax ay bx by mx my : ℕ) → ax ≤ top → ay ≤ top → bx ≤ top → by ≤ top → mx ≤ top → my ≤ top → Halved so es (node_at p ax ay) (node_at p mx my) (node_at p bx by)
+      → chain (each node_nums ns) (each end_nums es) w (on ax) (on ay) (on bx) (on by) (on mx) (on my) ≡ []
   unfolding chain fault
   edge-clear ax ay bx by mx my hax hay hbx hby hmx hmy halved = go (at mx my) (at ax ay) (at bx by) refl refl refl
     where
       at : ℕ → ℕ → Option ℕ
-      at x y = nodeFound (each nodeNums ns) w (on x) (on y)
+      at x y = node_found (each node_nums ns) w (on x) (on y)
 
-      go : (o q r : Option ℕ) → nodeFound (each nodeNums ns) w (on mx) (on my) ≡ o → nodeFound (each nodeNums ns) w (on ax) (on ay) ≡ q
-          → nodeFound (each nodeNums ns) w (on bx) (on by) ≡ r → fault (each endNums es) o q r ≡ []
+      go : (o q r : Option ℕ) → node_found (each node_nums ns) w (on mx) (on my) ≡ o → node_found (each node_nums ns) w (on ax) (on ay) ≡ q
+          → node_found (each node_nums ns) w (on bx) (on by) ≡ r → fault (each end_nums es) o q r ≡ []
       go None q r e f g = refl
       go (Some m) None r e f g = refl
       go (Some m) (Some a) None e f g = refl
@@ -69,13 +69,13 @@ module _ (ns so : List Node) (es : List Edge) (p : Poly) (w : Whose) (tells : Te
           let u = numbered mx my m hmx hmy e in
           let v = numbered ax ay a hax hay f in
           let z = numbered bx by b hbx hby g in
-          let s = halved (lt-ltb (find sameNode so (nodeAt p mx my)) (length so) u.0) in
-          let first : joined (each endNums es) a m ≡ true = rw (← v.1, ← u.1) (joined_of es (join so (nodeAt p ax ay) (nodeAt p mx my) One) (s.0 One)) in
-          let second : joined (each endNums es) m b ≡ true = rw (← u.1, ← z.1) (joined_of es (join so (nodeAt p mx my) (nodeAt p bx by) One) (s.1 One)) in
-          ap (λ z. cond z [] (m ∷ a ∷ b ∷ [])) (both_of (joined (each endNums es) a m) (joined (each endNums es) m b) first second)
+          let s = halved (lt-ltb (find same_node so (node_at p mx my)) (length so) u.0) in
+          let first : joined (each end_nums es) a m ≡ true = rw (← v.1, ← u.1) (joined_of es (join so (node_at p ax ay) (node_at p mx my) One) (s.0 One)) in
+          let second : joined (each end_nums es) m b ≡ true = rw (← u.1, ← z.1) (joined_of es (join so (node_at p mx my) (node_at p bx by) One) (s.1 One)) in
+          ap (λ z. cond z [] (m ∷ a ∷ b ∷ [])) (both_of (joined (each end_nums es) a m) (joined (each end_nums es) m b) first second)
 
-  pub leaf-clear : (c : Cell) → BoxWithin top (boxOf c) → HalvedSides so es p (boxOf c) → leafFault (each nodeNums ns) (each endNums es) w c ≡ []
-  unfolding leafFault sidesFault
+  pub leaf-clear : (c : Cell) → BoxWithin top (box_of c) → HalvedSides so es p (box_of c) → leaf_fault (each node_nums ns) (each end_nums es) w c ≡ []
+  unfolding leaf_fault sides_fault
   leaf-clear c l h =
       let a = l.0 in
       let b = l.1 in
@@ -83,19 +83,19 @@ module _ (ns so : List Node) (es : List Edge) (p : Poly) (w : Whose) (tells : Te
       let e = l.3 in
       let x : mid c.x0 c.x1 ≤ top = omega arith in
       let y : mid c.y0 c.y1 ≤ top = omega arith in
-      let r = boxOf c in
+      let r = box_of c in
       none_of
       (edge-clear c.x0 c.y0 c.x1 c.y0 (mid c.x0 c.x1) c.y0 a b d b x b h.south)
       (none_of
       (edge-clear c.x1 c.y0 c.x1 c.y1 c.x1 (mid c.y0 c.y1) d b d e d y h.east)
       (none_of
       (edge-clear c.x1 c.y1 c.x0 c.y1 (mid c.x0 c.x1) c.y1 d e a e x e
-      (halved-back so es (nwOf p r) (nodeAt p (mid c.x0 c.x1) c.y1) (neOf p r) h.north))
+      (halved-back so es (nw_of p r) (node_at p (mid c.x0 c.x1) c.y1) (ne_of p r) h.north))
       (edge-clear c.x0 c.y1 c.x0 c.y0 c.x0 (mid c.y0 c.y1) a e a b a y
-      (halved-back so es (swOf p r) (nodeAt p c.x0 (mid c.y0 c.y1)) (nwOf p r) h.west))))
+      (halved-back so es (sw_of p r) (node_at p c.x0 (mid c.y0 c.y1)) (nw_of p r) h.west))))
 
 -- no fault below n, no first one
-pub first-clear : (f : ℕ → List ℕ) (n : ℕ) → ((i : ℕ) → i < n → f i ≡ []) → firstFault f n ≡ []
-unfolding firstFault
+pub first-clear : (f : ℕ → List ℕ) (n : ℕ) → ((i : ℕ) → i < n → f i ≡ []) → first_fault f n ≡ []
+unfolding first_fault
 first-clear f zero h = refl
 first-clear f (suc n) h = none_of (first-clear f n (λ i l. h i (omega arith))) (h n (omega arith))

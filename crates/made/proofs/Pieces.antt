@@ -12,36 +12,36 @@ use lib.ListN.{length, take, drop, length-append, length-drop}
 use lib.Seq.{get_or-drop}
 use borrow.Author.Tests.{eq-eqb, eqb-true}
 use Rattle.cell.specs.Boxes.{Box}
-use Rattle.cell.specs.Cells.{boxOf}
+use Rattle.cell.specs.Cells.{box_of}
 use Rattle.cell.proofs.Offsets.{off-le}
 use Rattle.table.specs.Slots.{cell_at}
 use Rattle.table.specs.Mesh.{Cell, at, is_none, table}
 use Rattle.table.proofs.Cells.{length-table, at_table}
-use Rattle.net.specs.Net.{find, has, weld, each, Poly, Node, Piece, sameNode, leavesOf, pieces, nodeAt, cornersAt, cornersOf, nodesFrom, number, bare, weigh, network}
+use Rattle.net.specs.Net.{find, has, weld, each, Poly, Node, Piece, same_node, leaves_of, pieces, node_at, corners_at, corners_of, nodes_from, number, bare, weigh, network}
 use Rattle.net.specs.Hang.{so_far}
 use Rattle.net.proofs.Find.{order, test, find-nil, find-no, find-left, find-right}
 use Rattle.net.proofs.Keys.{both, both_of}
 use Rattle.net.proofs.Weld.{weld-nil, weld-old, weld-new}
 use Rattle.net.proofs.All.{All, all-by, all_nil, all-weld, all-each, all-each-by, In, weld-more}
-use Rattle.net.proofs.Pieces.{allCorners, nodes-weld}
+use Rattle.net.proofs.Pieces.{all_corners, nodes-weld}
 use Rattle.net.proofs.Nan.{Within}
-use Rattle.made.specs.Made.{polyAt, Apart, AllApart}
+use Rattle.made.specs.Made.{poly_at, Apart, AllApart}
 use Rattle.made.proofs.Places.{top}
 
 -- ---- the leaves of a polygon
 
-leaves-yes : (c : Cell) (cs : List Cell) (k : ℕ) → (is_none c.kids && eqb c.polygon k) ≡ true → leavesOf (c ∷ cs) k ≡ c.box ∷ leavesOf cs k
-unfolding leavesOf
-leaves-yes c cs k e = rw (e, leavesOf)
+leaves-yes : (c : Cell) (cs : List Cell) (k : ℕ) → (is_none c.kids && eqb c.polygon k) ≡ true → leaves_of (c ∷ cs) k ≡ c.box ∷ leaves_of cs k
+unfolding leaves_of
+leaves-yes c cs k e = rw (e, leaves_of)
 
-leaves-no : (c : Cell) (cs : List Cell) (k : ℕ) → (is_none c.kids && eqb c.polygon k) ≡ false → leavesOf (c ∷ cs) k ≡ leavesOf cs k
-unfolding leavesOf
-leaves-no c cs k e = rw (e, leavesOf)
+leaves-no : (c : Cell) (cs : List Cell) (k : ℕ) → (is_none c.kids && eqb c.polygon k) ≡ false → leaves_of (c ∷ cs) k ≡ leaves_of cs k
+unfolding leaves_of
+leaves-no c cs k e = rw (e, leaves_of)
 
 module _ (P : Box → Type 0) (k : ℕ) where
   -- what holds of every cell's box, and what of one leaf's
-  pub leaves_all : (cs : List Cell) → ((i : ℕ) → i < length cs → P (at cs i).box) → All P (leavesOf cs k)
-  unfolding All leavesOf
+  pub leaves_all : (cs : List Cell) → ((i : ℕ) → i < length cs → P (at cs i).box) → All P (leaves_of cs k)
+  unfolding All leaves_of
   leaves_all [] h = tt
   leaves_all (c ∷ cs) h =
       let rest = leaves_all cs (λ i l. h (suc i) (omega arith)) in
@@ -50,7 +50,7 @@ module _ (P : Box → Type 0) (k : ℕ) where
       (λ e. subst (All P) (sym (leaves-no c cs k e)) rest)
       (test (is_none c.kids && eqb c.polygon k))
 
-  pub leaf-in : (cs : List Cell) → All P (leavesOf cs k) → (i : ℕ) → i < length cs → (at cs i).kids ≡ none → (at cs i).polygon ≡ k → P (at cs i).box
+  pub leaf-in : (cs : List Cell) → All P (leaves_of cs k) → (i : ℕ) → i < length cs → (at cs i).kids ≡ none → (at cs i).polygon ≡ k → P (at cs i).box
   unfolding All
   leaf-in [] a i h e f = absurd (omega arith)
   leaf-in (c ∷ cs) a zero h e f =
@@ -66,11 +66,11 @@ module _ (P : Box → Type 0) (k : ℕ) where
 -- ---- the pieces
 
 abbrev pub piece_of : List Cell → Poly → ℕ → Piece
-piece_of cs p k = record { poly = p; leaves = leavesOf cs k }
+piece_of cs p k = record { poly = p; leaves = leaves_of cs k }
 
 -- the polygon k, those before it and those behind it
 pub pieces-split : (cs : List Cell) (ps : List Poly) (j k : ℕ) → k < length ps
-    → pieces cs ps j ≡ pieces cs (take k ps) j ++ (piece_of cs (polyAt ps k) (j + k) ∷ pieces cs (drop (suc k) ps) (suc (j + k)))
+    → pieces cs ps j ≡ pieces cs (take k ps) j ++ (piece_of cs (poly_at ps k) (j + k) ∷ pieces cs (drop (suc k) ps) (suc (j + k)))
 unfolding pieces
 pieces-split cs [] j k h = absurd (omega arith)
 pieces-split cs (p ∷ ps) j zero h = ap (λ (z : ℕ). piece_of cs p z ∷ pieces cs ps (suc z)) (plus j)
@@ -80,12 +80,12 @@ pieces-split cs (p ∷ ps) j zero h = ap (λ (z : ℕ). piece_of cs p z ∷ piec
 pieces-split cs (p ∷ ps) j (suc k) h =
     ap {B = List Piece} (λ l. piece_of cs p j ∷ l)
     (pieces-split cs ps (suc j) k (omega arith)
-    ∙ ap (λ (z : ℕ). pieces cs (take k ps) (suc j) ++ (piece_of cs (polyAt ps k) z ∷ pieces cs (drop (suc k) ps) (suc z))) (over j k))
+    ∙ ap (λ (z : ℕ). pieces cs (take k ps) (suc j) ++ (piece_of cs (poly_at ps k) z ∷ pieces cs (drop (suc k) ps) (suc z))) (over j k))
   where
     over : (j k : ℕ) → suc j + k ≡ j + suc k
     over j k = omega arith
 
-pub pieces-polys : (Q : Poly → Type 0) (cs : List Cell) (ps : List Poly) (j : ℕ) → ((i : ℕ) → i < length ps → Q (polyAt ps i)) → All (λ (q : Piece). Q q.poly) (pieces cs ps j)
+pub pieces-polys : (Q : Poly → Type 0) (cs : List Cell) (ps : List Poly) (j : ℕ) → ((i : ℕ) → i < length ps → Q (poly_at ps i)) → All (λ (q : Piece). Q q.poly) (pieces cs ps j)
 unfolding All pieces
 pieces-polys Q cs [] j h = tt
 pieces-polys Q cs (p ∷ ps) j h = (h 0 (omega arith), pieces-polys Q cs ps (suc j) (λ i l. h (suc i) (omega arith)))
@@ -98,111 +98,111 @@ pieces-leaves P cs (p ∷ ps) j h = (leaves_all P j cs h, pieces-leaves P cs ps 
 -- ---- the nodes
 
 -- what holds of the corners of every piece holds of every node
-pub nodes-all : (Q : Node → Type 0) (qs : List Piece) → All (λ (q : Piece). All Q (cornersOf q)) qs → All Q (nodesFrom [] qs)
+pub nodes-all : (Q : Node → Type 0) (qs : List Piece) → All (λ (q : Piece). All Q (corners_of q)) qs → All Q (nodes_from [] qs)
 nodes-all Q qs h =
     subst (All Q) (sym (nodes-weld [] qs))
-    (all-weld Q sameNode [] (allCorners qs) (all_nil Q) (all-each-by (λ (q : Piece). All Q (cornersOf q)) Q cornersOf qs (λ q c. c) h))
+    (all-weld Q same_node [] (all_corners qs) (all_nil Q) (all-each-by (λ (q : Piece). All Q (corners_of q)) Q corners_of qs (λ q c. c) h))
 
 -- a node's layer and component are a polygon's
-pub nodes-polys : (Q : ℕ → ℕ → Type 0) (qs : List Piece) → All (λ (q : Piece). Q q.poly.layer q.poly.component) qs → All (λ (m : Node). Q m.layer m.component) (nodesFrom [] qs)
-unfolding cornersOf
+pub nodes-polys : (Q : ℕ → ℕ → Type 0) (qs : List Piece) → All (λ (q : Piece). Q q.poly.layer q.poly.component) qs → All (λ (m : Node). Q m.layer m.component) (nodes_from [] qs)
+unfolding corners_of
 nodes-polys Q qs h =
     nodes-all (λ (m : Node). Q m.layer m.component) qs
-    (all-by (λ (q : Piece). Q q.poly.layer q.poly.component) (λ (q : Piece). All (λ (m : Node). Q m.layer m.component) (each (cornersAt q.poly) q.leaves)) qs
-    (λ q i. all-each (λ (m : Node). Q m.layer m.component) (cornersAt q.poly) q.leaves (λ r. corners q.poly r i)) h)
+    (all-by (λ (q : Piece). Q q.poly.layer q.poly.component) (λ (q : Piece). All (λ (m : Node). Q m.layer m.component) (each (corners_at q.poly) q.leaves)) qs
+    (λ q i. all-each (λ (m : Node). Q m.layer m.component) (corners_at q.poly) q.leaves (λ r. corners q.poly r i)) h)
   where
-    corners : (p : Poly) (r : Box) → Q p.layer p.component → All (λ (m : Node). Q m.layer m.component) (cornersAt p r)
+    corners : (p : Poly) (r : Box) → Q p.layer p.component → All (λ (m : Node). Q m.layer m.component) (corners_at p r)
     corners p r i = unfold All in (i, (i, (i, (i, tt))))
 
 -- a box whose coordinates are at most M, and the nodes at its corners
 abbrev pub BoxWithin : ℕ → Box → Type 0
 BoxWithin M r = (r.x0 ≤ M) × (r.y0 ≤ M) × (r.x1 ≤ M) × (r.y1 ≤ M)
 
-pub nodes-within : (M : ℕ) (qs : List Piece) → All (λ (q : Piece). All (BoxWithin M) q.leaves) qs → All (Within M) (nodesFrom [] qs)
-unfolding cornersOf
+pub nodes-within : (M : ℕ) (qs : List Piece) → All (λ (q : Piece). All (BoxWithin M) q.leaves) qs → All (Within M) (nodes_from [] qs)
+unfolding corners_of
 nodes-within M qs h =
     nodes-all (Within M) qs
-    (all-by (λ (q : Piece). All (BoxWithin M) q.leaves) (λ (q : Piece). All (Within M) (each (cornersAt q.poly) q.leaves)) qs
-    (λ q l. all-each-by (BoxWithin M) (Within M) (cornersAt q.poly) q.leaves (λ r b. corners q.poly r b) l) h)
+    (all-by (λ (q : Piece). All (BoxWithin M) q.leaves) (λ (q : Piece). All (Within M) (each (corners_at q.poly) q.leaves)) qs
+    (λ q l. all-each-by (BoxWithin M) (Within M) (corners_at q.poly) q.leaves (λ r b. corners q.poly r b) l) h)
   where
-    corners : (p : Poly) (r : Box) → BoxWithin M r → All (Within M) (cornersAt p r)
+    corners : (p : Poly) (r : Box) → BoxWithin M r → All (Within M) (corners_at p r)
     corners p r b = unfold All in ((b.0, b.1), ((b.2, b.1), ((b.2, b.3), ((b.0, b.3), tt))))
 
 -- a node is not of another polygon
-other : (p q : Poly) (x y : ℕ) (m : Node) → Apart p q → m.layer ≡ q.layer → m.component ≡ q.component → sameNode m (nodeAt p x y) ≡ false
+other : (p q : Poly) (x y : ℕ) (m : Node) → Apart p q → m.layer ≡ q.layer → m.component ≡ q.component → same_node m (node_at p x y) ≡ false
 other p q x y m a e f =
     ⊎_elim
     (λ t. (let u = both (eqb m.layer p.layer) _ t in
     let w = both (eqb m.component p.component) _ u.1 in
     absurd (a (sym (eqb-true m.layer p.layer u.0) ∙ e) (sym (eqb-true m.component p.component w.0) ∙ f))))
     (λ t. t)
-    (test (sameNode m (nodeAt p x y)))
+    (test (same_node m (node_at p x y)))
 
-others : (p : Poly) (x y : ℕ) (qs : List Piece) → All (λ (q : Piece). Apart p q.poly) qs → All (λ (m : Node). sameNode m (nodeAt p x y) ≡ false) (allCorners qs)
-unfolding cornersOf
+others : (p : Poly) (x y : ℕ) (qs : List Piece) → All (λ (q : Piece). Apart p q.poly) qs → All (λ (m : Node). same_node m (node_at p x y) ≡ false) (all_corners qs)
+unfolding corners_of
 others p x y qs h =
-    all-each-by (λ (q : Piece). Apart p q.poly) (λ (m : Node). sameNode m (nodeAt p x y) ≡ false) (λ (q : Piece). each (cornersAt q.poly) q.leaves) qs
-    (λ q a. all-each (λ (m : Node). sameNode m (nodeAt p x y) ≡ false) (cornersAt q.poly) q.leaves (λ r. corners q r a)) h
+    all-each-by (λ (q : Piece). Apart p q.poly) (λ (m : Node). same_node m (node_at p x y) ≡ false) (λ (q : Piece). each (corners_at q.poly) q.leaves) qs
+    (λ q a. all-each (λ (m : Node). same_node m (node_at p x y) ≡ false) (corners_at q.poly) q.leaves (λ r. corners q r a)) h
   where
-    corners : (q : Piece) (r : Box) → Apart p q.poly → All (λ (m : Node). sameNode m (nodeAt p x y) ≡ false) (cornersAt q.poly r)
+    corners : (q : Piece) (r : Box) → Apart p q.poly → All (λ (m : Node). same_node m (node_at p x y) ≡ false) (corners_at q.poly r)
     corners q r a = unfold All in (other p q.poly x y _ a refl refl, (other p q.poly x y _ a refl refl, (other p q.poly x y _ a refl refl, (other p q.poly x y _ a refl refl, tt))))
 
 -- what is welded behind a list and is not the same as x adds no x
-weld-without : (x : Node) (l xs : List Node) → All (λ (a : Node). sameNode a x ≡ false) xs → In sameNode (weld sameNode l xs) x → In sameNode l x
+weld-without : (x : Node) (l xs : List Node) → All (λ (a : Node). same_node a x ≡ false) xs → In same_node (weld same_node l xs) x → In same_node l x
 unfolding All
-weld-without x l [] p h = subst (λ (z : List Node). In sameNode z x) (weld-nil sameNode l) h
+weld-without x l [] p h = subst (λ (z : List Node). In same_node z x) (weld-nil same_node l) h
 weld-without x l (a ∷ xs) p h =
     ⊎_elim
-    (λ e. weld-without x l xs p.1 (subst (λ (z : List Node). In sameNode z x) (weld-old sameNode l a xs e) h))
-    (λ e. before (weld-without x (l ++ (a ∷ [])) xs p.1 (subst (λ (z : List Node). In sameNode z x) (weld-new sameNode l a xs e) h)))
-    (test (has sameNode l a))
+    (λ e. weld-without x l xs p.1 (subst (λ (z : List Node). In same_node z x) (weld-old same_node l a xs e) h))
+    (λ e. before (weld-without x (l ++ (a ∷ [])) xs p.1 (subst (λ (z : List Node). In same_node z x) (weld-new same_node l a xs e) h)))
+    (test (has same_node l a))
   where
-    before : In sameNode (l ++ (a ∷ [])) x → In sameNode l x
+    before : In same_node (l ++ (a ∷ [])) x → In same_node l x
     before k =
         let n = length-append l (a ∷ []) in
         ⊎_elim
-        (λ (q : find sameNode l x < length l). q)
-        (λ (q : length l ≤ find sameNode l x). absurd (omega (arith, find-right sameNode l (a ∷ []) x q, find-no sameNode a [] x p.0, find-nil sameNode x)))
-        (order (find sameNode l x) (length l))
+        (λ (q : find same_node l x < length l). q)
+        (λ (q : length l ≤ find same_node l x). absurd (omega (arith, find-right same_node l (a ∷ []) x q, find-no same_node a [] x p.0, find-nil same_node x)))
+        (order (find same_node l x) (length l))
 
 -- the nodes of all pieces, from the nodes so far
-nodes-on : (n : List Node) (pre : List Piece) (q : Piece) (qs : List Piece) → nodesFrom n (pre ++ (q ∷ qs)) ≡ weld sameNode (weld sameNode (nodesFrom n pre) (cornersOf q)) (allCorners qs)
-unfolding nodesFrom
-nodes-on n [] q qs = nodes-weld (weld sameNode n (cornersOf q)) qs
-nodes-on n (p ∷ pre) q qs = nodes-on (weld sameNode n (cornersOf p)) pre q qs
+nodes-on : (n : List Node) (pre : List Piece) (q : Piece) (qs : List Piece) → nodes_from n (pre ++ (q ∷ qs)) ≡ weld same_node (weld same_node (nodes_from n pre) (corners_of q)) (all_corners qs)
+unfolding nodes_from
+nodes-on n [] q qs = nodes-weld (weld same_node n (corners_of q)) qs
+nodes-on n (p ∷ pre) q qs = nodes-on (weld same_node n (corners_of p)) pre q qs
 
 -- the nodes so far have all nodes of a polygon that differs from those behind it, and under the same numbers
 pub kept : (pre : List Piece) (q : Piece) (qs : List Piece) → All (λ (r : Piece). Apart q.poly r.poly) qs → (x y : ℕ)
-    → In sameNode (nodesFrom [] (pre ++ (q ∷ qs))) (nodeAt q.poly x y)
-    → In sameNode (so_far pre q) (nodeAt q.poly x y) × (number (nodesFrom [] (pre ++ (q ∷ qs))) (nodeAt q.poly x y) ≡ number (so_far pre q) (nodeAt q.poly x y))
-kept pre q qs h x y i = (before, ap (λ (z : List Node). number z m) (all-nodes ∙ more.1) ∙ find-left sameNode (so_far pre q) more.0 m before)
+    → In same_node (nodes_from [] (pre ++ (q ∷ qs))) (node_at q.poly x y)
+    → In same_node (so_far pre q) (node_at q.poly x y) × (number (nodes_from [] (pre ++ (q ∷ qs))) (node_at q.poly x y) ≡ number (so_far pre q) (node_at q.poly x y))
+kept pre q qs h x y i = (before, ap (λ (z : List Node). number z m) (all-nodes ∙ more.1) ∙ find-left same_node (so_far pre q) more.0 m before)
   where
     m : Node
-    m = nodeAt q.poly x y
+    m = node_at q.poly x y
 
-    all-nodes : nodesFrom [] (pre ++ (q ∷ qs)) ≡ weld sameNode (so_far pre q) (allCorners qs)
+    all-nodes : nodes_from [] (pre ++ (q ∷ qs)) ≡ weld same_node (so_far pre q) (all_corners qs)
     all-nodes = nodes-on [] pre q qs
 
-    before : In sameNode (so_far pre q) (nodeAt q.poly x y)
-    before = weld-without m (so_far pre q) (allCorners qs) (others q.poly x y qs h) (subst (λ (z : List Node). In sameNode z m) all-nodes i)
+    before : In same_node (so_far pre q) (node_at q.poly x y)
+    before = weld-without m (so_far pre q) (all_corners qs) (others q.poly x y qs h) (subst (λ (z : List Node). In same_node z m) all-nodes i)
 
-    more : (l : List Node) × (weld sameNode (so_far pre q) (allCorners qs) ≡ so_far pre q ++ l)
-    more = weld-more sameNode (so_far pre q) (allCorners qs)
+    more : (l : List Node) × (weld same_node (so_far pre q) (all_corners qs) ≡ so_far pre q ++ l)
+    more = weld-more same_node (so_far pre q) (all_corners qs)
 
 -- the polygons behind the polygon k differ from it
-pub behind : (cs : List Cell) (ps : List Poly) (j k : ℕ) → AllApart ps → k < length ps → All (λ (q : Piece). Apart (polyAt ps k) q.poly) (pieces cs (drop (suc k) ps) j)
+pub behind : (cs : List Cell) (ps : List Poly) (j k : ℕ) → AllApart ps → k < length ps → All (λ (q : Piece). Apart (poly_at ps k) q.poly) (pieces cs (drop (suc k) ps) j)
 behind cs ps j k a h =
-    pieces-polys (Apart (polyAt ps k)) cs (drop (suc k) ps) j
-    (λ i l. subst (Apart (polyAt ps k)) (sym (get_or-drop (suc k) ps i _)) (a k (suc k + i) (omega arith) (omega (arith, length-drop (suc k) ps))))
+    pieces-polys (Apart (poly_at ps k)) cs (drop (suc k) ps) j
+    (λ i l. subst (Apart (poly_at ps k)) (sym (get_or-drop (suc k) ps i _)) (a k (suc k + i) (omega arith) (omega (arith, length-drop (suc k) ps))))
 
 -- ---- the net of a row
 
-pub nodes-are : (cs : List Cell) (ps : List Poly) → (network cs ps).nodes ≡ nodesFrom [] (pieces cs ps 0)
+pub nodes-are : (cs : List Cell) (ps : List Poly) → (network cs ps).nodes ≡ nodes_from [] (pieces cs ps 0)
 unfolding network weigh bare
 nodes-are cs ps = refl
 
 -- the coordinates of a cell, and so those of the nodes
-pub cell-within : (t : List ℤ) (i : ℕ) → BoxWithin top (boxOf (cell_at t i))
+pub cell-within : (t : List ℤ) (i : ℕ) → BoxWithin top (box_of (cell_at t i))
 unfolding cell_at
 cell-within t i = (off-le _, off-le _, off-le _, off-le _)
 

@@ -7,9 +7,9 @@ use lib.IntN.{pos}
 use lib.ListN.{length, get_or, length-append, get_or-append}
 use lib.Seq.{get_or-append-add}
 use Rattle.cell.specs.Ticks.{on}
-use Rattle.sound_net.specs.Nets.{nodeCount, layerAt, componentAt, xAt, yAt, fromAt, to_at, swAt, seAt, neAt, nwAt}
+use Rattle.sound_net.specs.Nets.{node_count, layer_at, component_at, x_at, y_at, from_at, to_at, sw_at, se_at, ne_at, nw_at}
 use Rattle.net.specs.Net.{each, Node, Edge, Patch, nth, nowhere}
-use Rattle.places.specs.Places.{nodeNums, cornerNums, endNums}
+use Rattle.places.specs.Places.{node_nums, corner_nums, end_nums}
 
 -- lists of k to an element
 module _ {A B : Type 0} (f : A → List B) (k : ℕ) (size : (a : A) → length (f a) ≡ k) where
@@ -40,51 +40,51 @@ module _ {A B : Type 0} (f : A → List B) (k : ℕ) (size : (a : A) → length 
 
 -- ---- nodes
 module _ (ns : List Node) where
-  pub nodes-long : length (each nodeNums ns) ≡ length ns * 4
-  nodes-long = each_long nodeNums 4 (λ m. refl) ns
+  pub nodes-long : length (each node_nums ns) ≡ length ns * 4
+  nodes-long = each_long node_nums 4 (λ m. refl) ns
 
-  pub nodes-count : nodeCount (each nodeNums ns) ≡ length ns
+  pub nodes-count : node_count (each node_nums ns) ≡ length ns
   nodes-count = omega (arith, nodes-long)
 
   module _ (i : ℕ) (h : i < length ns) where
-    pub layer-at : layerAt (each nodeNums ns) i ≡ pos (nth ns i).layer
-    layer-at = each_first nodeNums 4 (λ m. refl) ns i nowhere (pos 0) h (omega arith)
+    pub layer-at : layer_at (each node_nums ns) i ≡ pos (nth ns i).layer
+    layer-at = each_first node_nums 4 (λ m. refl) ns i nowhere (pos 0) h (omega arith)
 
-    pub component-at : componentAt (each nodeNums ns) i ≡ pos (nth ns i).component
-    component-at = each_at nodeNums 4 (λ m. refl) ns i 1 nowhere (pos 0) h (omega arith)
+    pub component-at : component_at (each node_nums ns) i ≡ pos (nth ns i).component
+    component-at = each_at node_nums 4 (λ m. refl) ns i 1 nowhere (pos 0) h (omega arith)
 
-    pub x-at : xAt (each nodeNums ns) i ≡ on (nth ns i).x
-    x-at = each_at nodeNums 4 (λ m. refl) ns i 2 nowhere (pos 0) h (omega arith)
+    pub x-at : x_at (each node_nums ns) i ≡ on (nth ns i).x
+    x-at = each_at node_nums 4 (λ m. refl) ns i 2 nowhere (pos 0) h (omega arith)
 
-    pub y-at : yAt (each nodeNums ns) i ≡ on (nth ns i).y
-    y-at = each_at nodeNums 4 (λ m. refl) ns i 3 nowhere (pos 0) h (omega arith)
+    pub y-at : y_at (each node_nums ns) i ≡ on (nth ns i).y
+    y-at = each_at node_nums 4 (λ m. refl) ns i 3 nowhere (pos 0) h (omega arith)
 
 -- ---- edges
 module _ (es : List Edge) where
-  pub ends-long : length (each endNums es) ≡ length es * 2
-  ends-long = each_long endNums 2 (λ e. refl) es
+  pub ends-long : length (each end_nums es) ≡ length es * 2
+  ends-long = each_long end_nums 2 (λ e. refl) es
 
   module _ (d : Edge) (i : ℕ) (h : i < length es) where
-    pub from_at : fromAt (each endNums es) i ≡ (get_or es i d).a
-    from_at = each_first endNums 2 (λ e. refl) es i d 0 h (omega arith)
+    pub from_at : from_at (each end_nums es) i ≡ (get_or es i d).a
+    from_at = each_first end_nums 2 (λ e. refl) es i d 0 h (omega arith)
 
-    pub to-at : to_at (each endNums es) i ≡ (get_or es i d).b
-    to-at = each_at endNums 2 (λ e. refl) es i 1 d 0 h (omega arith)
+    pub to-at : to_at (each end_nums es) i ≡ (get_or es i d).b
+    to-at = each_at end_nums 2 (λ e. refl) es i 1 d 0 h (omega arith)
 
 -- ---- cells
 module _ (cs : List Patch) where
-  pub corners-long : length (each cornerNums cs) ≡ length cs * 4
-  corners-long = each_long cornerNums 4 (λ c. refl) cs
+  pub corners-long : length (each corner_nums cs) ≡ length cs * 4
+  corners-long = each_long corner_nums 4 (λ c. refl) cs
 
   module _ (d : Patch) (i : ℕ) (h : i < length cs) where
-    pub sw-at : swAt (each cornerNums cs) i ≡ (get_or cs i d).sw
-    sw-at = each_first cornerNums 4 (λ c. refl) cs i d 0 h (omega arith)
+    pub sw-at : sw_at (each corner_nums cs) i ≡ (get_or cs i d).sw
+    sw-at = each_first corner_nums 4 (λ c. refl) cs i d 0 h (omega arith)
 
-    pub se-at : seAt (each cornerNums cs) i ≡ (get_or cs i d).se
-    se-at = each_at cornerNums 4 (λ c. refl) cs i 1 d 0 h (omega arith)
+    pub se-at : se_at (each corner_nums cs) i ≡ (get_or cs i d).se
+    se-at = each_at corner_nums 4 (λ c. refl) cs i 1 d 0 h (omega arith)
 
-    pub ne-at : neAt (each cornerNums cs) i ≡ (get_or cs i d).ne
-    ne-at = each_at cornerNums 4 (λ c. refl) cs i 2 d 0 h (omega arith)
+    pub ne-at : ne_at (each corner_nums cs) i ≡ (get_or cs i d).ne
+    ne-at = each_at corner_nums 4 (λ c. refl) cs i 2 d 0 h (omega arith)
 
-    pub nw-at : nwAt (each cornerNums cs) i ≡ (get_or cs i d).nw
-    nw-at = each_at cornerNums 4 (λ c. refl) cs i 3 d 0 h (omega arith)
+    pub nw-at : nw_at (each corner_nums cs) i ≡ (get_or cs i d).nw
+    nw-at = each_at corner_nums 4 (λ c. refl) cs i 3 d 0 h (omega arith)

@@ -15,9 +15,9 @@ use Rattle.refusals.specs.Limits.{coordinate}
 use Rattle.cell.specs.Ticks.{on, in_range}
 use Rattle.cell.proofs.Offsets.{below?}
 use Rattle.table.specs.Mesh.{table}
-use Rattle.table.specs.Formed.{wellFormed}
+use Rattle.table.specs.Formed.{well_formed}
 use Rattle.table.proofs.Wellformed.{formed-facts}
-use Rattle.sound_net.specs.Nets.{nodeCount, unsigned, soundNet}
+use Rattle.sound_net.specs.Nets.{node_count, unsigned, sound_net}
 use Rattle.sound_net.specs.Facts.{SoundNode, SoundEdge, Rectangle, SoundCell, SoundNet}
 use Rattle.sound_net.proofs.Tests.{yes, same}
 use Rattle.sound_net.proofs.Sound.{net-sound}
@@ -27,8 +27,8 @@ use Rattle.net.proofs.Nan.{Within}
 use Rattle.net.proofs.Sound.{Positive}
 use Rattle.net.proofs.Laws.{ends, cells}
 use Rattle.hanging.proofs.Placed.{cell-positive}
-use Rattle.places.specs.Places.{nodeNums, cornerNums, endNums}
-use Rattle.made.specs.Made.{polyAt, InRange, rows_of}
+use Rattle.places.specs.Places.{node_nums, corner_nums, end_nums}
+use Rattle.made.specs.Made.{poly_at, InRange, rows_of}
 use Rattle.made.proofs.Rows.{nodes-long, nodes-count, layer-at, component-at, x-at, y-at, ends-long, from_at, to-at, corners-long, sw-at, se-at, ne-at, nw-at}
 use Rattle.made.proofs.Places.{top}
 use Rattle.made.proofs.Pieces.{pieces-polys, pieces-leaves, nodes-polys, nodes-are, low}
@@ -82,7 +82,7 @@ NodeIn m = (m.layer < 2 ^ 16) × (m.component < 2 ^ 32)
 unsigned_is : (k n : ℕ) → n < 2 ^ k → T (unsigned k (pos n))
 unsigned_is k n h = and_i (leb 0 n) (ltb n (2 ^ k)) (yes (le-leb 0 n (omega arith))) (lt→ltb n (2 ^ k) h)
 
-node_row : (ns : List Node) → All NodeIn ns → All (Within top) ns → (i : ℕ) → i < length ns → SoundNode (each nodeNums ns) i
+node_row : (ns : List Node) → All NodeIn ns → All (Within top) ns → (i : ℕ) → i < length ns → SoundNode (each node_nums ns) i
 node_row ns a w i h =
     let m = all-at NodeIn nowhere ns i a h in
     let l = all-at (Within top) nowhere ns i w h in
@@ -95,7 +95,7 @@ node_row ns a w i h =
 
 -- ---- edges
 
-edge_row : (ns : List Node) (es : List Edge) → All (Ends (length ns)) es → (i : ℕ) → i < length es → SoundEdge (nodeCount (each nodeNums ns)) (each endNums es) i
+edge_row : (ns : List Node) (es : List Edge) → All (Ends (length ns)) es → (i : ℕ) → i < length es → SoundEdge (node_count (each node_nums ns)) (each end_nums es) i
 edge_row ns es a i h =
     let d : Edge = record { a = 0; b = 0; g = One } in
     let e = all-at (Ends (length ns)) d es i a h in
@@ -105,7 +105,7 @@ edge_row ns es a i h =
 
 -- ---- cells
 
-rectangle-row : (ns : List Node) → All (Within top) ns → (c : Patch) → Cornered ns c → Rectangle (each nodeNums ns) c.sw c.se c.ne c.nw
+rectangle-row : (ns : List Node) → All (Within top) ns → (c : Patch) → Cornered ns c → Rectangle (each node_nums ns) c.sw c.se c.ne c.nw
 rectangle-row ns w c k =
     let east = all-at (Within top) nowhere ns c.se w k.se-in in
     let north = all-at (Within top) nowhere ns c.nw w k.nw-in in
@@ -118,7 +118,7 @@ rectangle-row ns w c k =
       west = x-at ns c.nw k.nw-in ∙ (ap on (sym k.west) ∙ sym (x-at ns c.sw k.sw-in));
     }
 
-cell_row : (ns : List Node) → All (Within top) ns → (cs : List Patch) → All (Cornered ns) cs → (i : ℕ) → i < length cs → SoundCell (each nodeNums ns) (each cornerNums cs) i
+cell_row : (ns : List Node) → All (Within top) ns → (cs : List Patch) → All (Cornered ns) cs → (i : ℕ) → i < length cs → SoundCell (each node_nums ns) (each corner_nums cs) i
 cell_row ns w cs a i h =
     let d : Patch = record { sw = 0; se = 0; ne = 0; nw = 0; sheet = One } in
     let k = all-at (Cornered ns) d cs i a h in
@@ -127,16 +127,16 @@ cell_row ns w cs a i h =
     let r = k.ne-in in
     let s = k.nw-in in
     record {
-      swKnown = omega (arith, sw-at cs d i h, nodes-count ns);
-      seKnown = omega (arith, se-at cs d i h, nodes-count ns);
-      neKnown = omega (arith, ne-at cs d i h, nodes-count ns);
-      nwKnown = omega (arith, nw-at cs d i h, nodes-count ns);
+      sw_known = omega (arith, sw-at cs d i h, nodes-count ns);
+      se_known = omega (arith, se-at cs d i h, nodes-count ns);
+      ne_known = omega (arith, ne-at cs d i h, nodes-count ns);
+      nw_known = omega (arith, nw-at cs d i h, nodes-count ns);
       box = rw (sw-at cs d i h, se-at cs d i h, ne-at cs d i h, nw-at cs d i h) (rectangle-row ns w (get_or cs i d) k);
     }
 
 -- ---- the net
 
-module _ (t : List ℤ) (n M : ℕ) (ps : List Poly) (formed : wellFormed t n M ≡ true) (range : (k : ℕ) → k < length ps → InRange (polyAt ps k)) where
+module _ (t : List ℤ) (n M : ℕ) (ps : List Poly) (formed : well_formed t n M ≡ true) (range : (k : ℕ) → k < length ps → InRange (poly_at ps k)) where
   sound-facts : SoundNet (rows_of (network (table t n) ps))
   sound-facts =
       let ns = (network (table t n) ps).nodes in
@@ -157,5 +157,5 @@ module _ (t : List ℤ) (n M : ℕ) (ps : List Poly) (formed : wellFormed t n M 
       }
 
   -- the net of a well-formed table passes the test of a net
-  pub made-sound : soundNet (rows_of (network (table t n) ps)) ≡ true
-  made-sound = same (soundNet (rows_of (network (table t n) ps))) true (λ x. tt) (λ x. net-sound (rows_of (network (table t n) ps)) sound-facts)
+  pub made-sound : sound_net (rows_of (network (table t n) ps)) ≡ true
+  made-sound = same (sound_net (rows_of (network (table t n) ps))) true (λ x. tt) (λ x. net-sound (rows_of (network (table t n) ps)) sound-facts)

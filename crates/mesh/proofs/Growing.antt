@@ -11,16 +11,16 @@ use Rattle.refusals.specs.Said.{Said, accepted, refused, refusal}
 use Rattle.refusals.specs.declared.Refusal.{Refusal}
 use Rattle.refusals.specs.declared.Refusal.TheVariants.{BadTable, NoRoom}
 use Rattle.refusals.proofs.Settled.{as-refused}
-use Rattle.strips.specs.Said.{ifAccepted}
+use Rattle.strips.specs.Said.{if_accepted}
 use Rattle.build.specs.declared.Settings.{Settings}
-use Rattle.build.specs.Says.{buildSays, buildLeaves}
+use Rattle.build.specs.Says.{build_says, build_leaves}
 use Rattle.build.proofs.Fitting.{refusal-keeps, refused-accepted}
 use Rattle.coarsest.specs.Passes.{balancing}
-use Rattle.table.specs.Formed.{wellFormed}
-use Rattle.table.specs.Refine.{isAccepted}
-use Rattle.even.specs.Even.{evenSays, evenRow, evenCells}
-use Rattle.mesh.specs.Refining.{refineAllSays, refineAllRow}
-use Rattle.mesh.specs.Growing.{also, value_at, Given, given, levelOf, rootsSay, rootsRow, splitSay, refinedRow, balanceSay, balancedRow, growSays, growLeaves}
+use Rattle.table.specs.Formed.{well_formed}
+use Rattle.table.specs.Refine.{is_accepted}
+use Rattle.even.specs.Even.{even_says, even_row, even_cells}
+use Rattle.mesh.specs.Refining.{refine_all_says, refine_all_row}
+use Rattle.mesh.specs.Growing.{also, value_at, Given, given, level_of, roots_say, roots_row, split_say, refined_row, balance_say, balanced_row, grow_says, grow_leaves}
 use Rattle.mesh.proofs.Refining.{all-level}
 
 pub also-refused : (x : Refusal) (next : Said) → also (refusal x) next ≡ refusal x
@@ -28,74 +28,74 @@ also-refused x next = let r = as-refused x in ap (λ (s : Said). also s next) r.
 
 module _ (g : Given) (t : List ℤ) (whole : length t ≡ g.size) where
   -- what build says and leaves in this table
-  roots-said : buildSays g.board g.components g.sheets (length t) ≡ rootsSay g
-  unfolding rootsSay
-  roots-said = ap (buildSays g.board g.components g.sheets) whole
+  roots-said : build_says g.board g.components g.sheets (length t) ≡ roots_say g
+  unfolding roots_say
+  roots-said = ap (build_says g.board g.components g.sheets) whole
 
-  roots-left : buildLeaves g.board g.components g.sheets t ≡ ifAccepted (rootsSay g) (rootsRow g) t
-  unfolding rootsSay rootsRow buildLeaves
+  roots-left : build_leaves g.board g.components g.sheets t ≡ if_accepted (roots_say g) (roots_row g) t
+  unfolding roots_say roots_row build_leaves
   roots-left = rw whole refl
 
   -- build refuses
-  pub roots-refused : (x : Refusal) (u : List ℤ) → refusal x ≡ buildSays g.board g.components g.sheets (length t) → u ≡ buildLeaves g.board g.components g.sheets t
-      → (refusal x ≡ growSays g) × (u ≡ growLeaves g t)
-  unfolding growSays growLeaves
+  pub roots-refused : (x : Refusal) (u : List ℤ) → refusal x ≡ build_says g.board g.components g.sheets (length t) → u ≡ build_leaves g.board g.components g.sheets t
+      → (refusal x ≡ grow_says g) × (u ≡ grow_leaves g t)
+  unfolding grow_says grow_leaves
   roots-refused x u e p =
       let f = e ∙ roots-said in (
-        sym (also-refused x _) ∙ ap (λ (s : Said). also s (also (splitSay g) (balanceSay g))) f,
+        sym (also-refused x _) ∙ ap (λ (s : Said). also s (also (split_say g) (balance_say g))) f,
         p ∙ roots-left ∙ rw (← f) (refusal-keeps x _ t ∙ sym (refusal-keeps x _ t)),
       )
 
   -- build is accepted, with n roots
-  module _ (n : ℕ) (u : List ℤ) (e : accepted (n ∷ []) ≡ buildSays g.board g.components g.sheets (length t))
-      (p : u ≡ buildLeaves g.board g.components g.sheets t) where
-    rooted : accepted (n ∷ []) ≡ rootsSay g
+  module _ (n : ℕ) (u : List ℤ) (e : accepted (n ∷ []) ≡ build_says g.board g.components g.sheets (length t))
+      (p : u ≡ build_leaves g.board g.components g.sheets t) where
+    rooted : accepted (n ∷ []) ≡ roots_say g
     rooted = e ∙ roots-said
 
-    roots-row : u ≡ rootsRow g
+    roots-row : u ≡ roots_row g
     roots-row = p ∙ roots-left ∙ rw (← rooted) refl
 
-    split-said : refineAllSays u n (levelOf g) g.splits ≡ splitSay g
-    unfolding splitSay
+    split-said : refine_all_says u n (level_of g) g.splits ≡ split_say g
+    unfolding split_say
     split-said = rw (roots-row, ← rooted) refl
 
-    split-row : refineAllRow u n (levelOf g) g.splits ≡ refinedRow g
-    unfolding refinedRow
+    split-row : refine_all_row u n (level_of g) g.splits ≡ refined_row g
+    unfolding refined_row
     split-row = rw (roots-row, ← rooted) refl
 
     -- a split refuses
-    pub split-refused : (x : Refusal) (v : List ℤ) → refusal x ≡ refineAllSays u n (levelOf g) g.splits → v ≡ refineAllRow u n (levelOf g) g.splits
-        → (refusal x ≡ growSays g) × (v ≡ growLeaves g t)
-    unfolding growSays growLeaves
+    pub split-refused : (x : Refusal) (v : List ℤ) → refusal x ≡ refine_all_says u n (level_of g) g.splits → v ≡ refine_all_row u n (level_of g) g.splits
+        → (refusal x ≡ grow_says g) × (v ≡ grow_leaves g t)
+    unfolding grow_says grow_leaves
     split-refused x v f q =
         let k = f ∙ split-said in (
-          sym (also-refused x _) ∙ ap (λ (s : Said). also s (balanceSay g)) k ∙ ap (λ (s : Said). also s (also (splitSay g) (balanceSay g))) rooted,
-          q ∙ split-row ∙ sym (refusal-keeps x (balancedRow g) (refinedRow g)) ∙ ap (λ (s : Said). ifAccepted s (balancedRow g) (refinedRow g)) k
-              ∙ ap (λ (s : Said). ifAccepted s (ifAccepted (splitSay g) (balancedRow g) (refinedRow g)) t) rooted,
+          sym (also-refused x _) ∙ ap (λ (s : Said). also s (balance_say g)) k ∙ ap (λ (s : Said). also s (also (split_say g) (balance_say g))) rooted,
+          q ∙ split-row ∙ sym (refusal-keeps x (balanced_row g) (refined_row g)) ∙ ap (λ (s : Said). if_accepted s (balanced_row g) (refined_row g)) k
+              ∙ ap (λ (s : Said). if_accepted s (if_accepted (split_say g) (balanced_row g) (refined_row g)) t) rooted,
         )
 
     -- no split refuses: what is said and left is balance's
-    module _ (k m : ℕ) (v : List ℤ) (f : accepted (k ∷ m ∷ []) ≡ refineAllSays u n (levelOf g) g.splits) (q : v ≡ refineAllRow u n (levelOf g) g.splits) where
-      split_done : accepted (k ∷ m ∷ []) ≡ splitSay g
+    module _ (k m : ℕ) (v : List ℤ) (f : accepted (k ∷ m ∷ []) ≡ refine_all_says u n (level_of g) g.splits) (q : v ≡ refine_all_row u n (level_of g) g.splits) where
+      split_done : accepted (k ∷ m ∷ []) ≡ split_say g
       split_done = f ∙ split-said
 
-      same-level : m ≡ levelOf g
-      same-level = all-level g.splits u n (levelOf g) k m (sym f)
+      same-level : m ≡ level_of g
+      same-level = all-level g.splits u n (level_of g) k m (sym f)
 
-      even-said : evenSays balancing 1 v k m ≡ balanceSay g
-      unfolding balanceSay
+      even-said : even_says balancing 1 v k m ≡ balance_say g
+      unfolding balance_say
       even-said = rw (q, split-row, same-level, ← split_done) refl
 
-      even-left : evenRow balancing 1 v k m ≡ balancedRow g
-      unfolding balancedRow
+      even-left : even_row balancing 1 v k m ≡ balanced_row g
+      unfolding balanced_row
       even-left = rw (q, split-row, same-level, ← split_done) refl
 
-      pub grown : evenSays balancing 1 v k m ≡ growSays g
-      unfolding growSays
+      pub grown : even_says balancing 1 v k m ≡ grow_says g
+      unfolding grow_says
       grown = even-said ∙ rw (← rooted, ← split_done) refl
 
-      pub grown-row : evenRow balancing 1 v k m ≡ growLeaves g t
-      unfolding growLeaves
+      pub grown-row : even_row balancing 1 v k m ≡ grow_leaves g t
+      unfolding grow_leaves
       grown-row = even-left ∙ rw (← rooted, ← split_done) refl
 
 -- the same rows make the same table
@@ -106,41 +106,41 @@ given-same s size a b c d e f g = rw (a, b, c, d, e, f, g) refl
 
 -- ---- what an accepted board says and leaves
 
-pub also-accepted : (a b : Said) {vs : List ℕ} → accepted vs ≡ also a b → (isAccepted a ≡ true) × (accepted vs ≡ b)
+pub also-accepted : (a b : Said) {vs : List ℕ} → accepted vs ≡ also a b → (is_accepted a ≡ true) × (accepted vs ≡ b)
 also-accepted (accepted ws) b e = (refl, e)
 also-accepted (refused n p) b {vs} e = absurd (refused-accepted n p vs (sym e))
 
-if-accepted : {A : Type 0} (a : Said) (new old : A) → isAccepted a ≡ true → ifAccepted a new old ≡ new
+if-accepted : {A : Type 0} (a : Said) (new old : A) → is_accepted a ≡ true → if_accepted a new old ≡ new
 if-accepted (accepted vs) new old e = refl
 if-accepted (refused n p) new old e = absurd (false≢true e)
 
 -- balance keeps max_level
-even-level : (t : List ℤ) (n M : ℕ) {a b m : ℕ} → accepted (a ∷ b ∷ m ∷ []) ≡ evenSays balancing 1 t n M → m ≡ M
-unfolding evenSays
-even-level t n M {a} {b} {m} e = by (wellFormed t n M) (leb (length (evenCells balancing 1 t n M)) (length t / 8)) e
+even-level : (t : List ℤ) (n M : ℕ) {a b m : ℕ} → accepted (a ∷ b ∷ m ∷ []) ≡ even_says balancing 1 t n M → m ≡ M
+unfolding even_says
+even-level t n M {a} {b} {m} e = by (well_formed t n M) (leb (length (even_cells balancing 1 t n M)) (length t / 8)) e
   where
     by : (p q : Bool)
-        → accepted (a ∷ b ∷ m ∷ []) ≡ cond p (cond q (accepted ((length (evenCells balancing 1 t n M) - n) / 4 ∷ length (evenCells balancing 1 t n M) ∷ M ∷ [])) (refusal NoRoom)) (refusal BadTable)
+        → accepted (a ∷ b ∷ m ∷ []) ≡ cond p (cond q (accepted ((length (even_cells balancing 1 t n M) - n) / 4 ∷ length (even_cells balancing 1 t n M) ∷ M ∷ [])) (refusal NoRoom)) (refusal BadTable)
         → m ≡ M
-    by true true e = let v : accepted (a ∷ b ∷ m ∷ []) ≡ accepted ((length (evenCells balancing 1 t n M) - n) / 4 ∷ length (evenCells balancing 1 t n M) ∷ M ∷ []) = e in cc
+    by true true e = let v : accepted (a ∷ b ∷ m ∷ []) ≡ accepted ((length (even_cells balancing 1 t n M) - n) / 4 ∷ length (even_cells balancing 1 t n M) ∷ M ∷ []) = e in cc
     by true false e = absurd (refused-accepted 6 0 (a ∷ b ∷ m ∷ []) (sym e))
     by false q e = absurd (refused-accepted 7 0 (a ∷ b ∷ m ∷ []) (sym e))
 
-module _ (g : Given) (splits count level : ℕ) (e : accepted (splits ∷ count ∷ level ∷ []) ≡ growSays g) where
-  steps : (isAccepted (rootsSay g) ≡ true) × (accepted (splits ∷ count ∷ level ∷ []) ≡ also (splitSay g) (balanceSay g))
-  unfolding growSays
-  steps = also-accepted (rootsSay g) _ e
+module _ (g : Given) (splits count level : ℕ) (e : accepted (splits ∷ count ∷ level ∷ []) ≡ grow_says g) where
+  steps : (is_accepted (roots_say g) ≡ true) × (accepted (splits ∷ count ∷ level ∷ []) ≡ also (split_say g) (balance_say g))
+  unfolding grow_says
+  steps = also-accepted (roots_say g) _ e
 
-  last-steps : (isAccepted (splitSay g) ≡ true) × (accepted (splits ∷ count ∷ level ∷ []) ≡ balanceSay g)
-  last-steps = also-accepted (splitSay g) _ steps.1
+  last-steps : (is_accepted (split_say g) ≡ true) × (accepted (splits ∷ count ∷ level ∷ []) ≡ balance_say g)
+  last-steps = also-accepted (split_say g) _ steps.1
 
-  pub grew-said : accepted (splits ∷ count ∷ level ∷ []) ≡ balanceSay g
+  pub grew-said : accepted (splits ∷ count ∷ level ∷ []) ≡ balance_say g
   grew-said = last-steps.1
 
-  pub grew-level : level ≡ levelOf g
-  unfolding balanceSay
-  grew-level = even-level (refinedRow g) (value_at 0 (splitSay g)) (levelOf g) grew-said
+  pub grew-level : level ≡ level_of g
+  unfolding balance_say
+  grew-level = even-level (refined_row g) (value_at 0 (split_say g)) (level_of g) grew-said
 
-  pub grew_row : (t : List ℤ) → growLeaves g t ≡ balancedRow g
-  unfolding growLeaves
-  grew_row t = if-accepted (rootsSay g) _ t steps.0 ∙ if-accepted (splitSay g) (balancedRow g) (refinedRow g) last-steps.0
+  pub grew_row : (t : List ℤ) → grow_leaves g t ≡ balanced_row g
+  unfolding grow_leaves
+  grew_row t = if-accepted (roots_say g) _ t steps.0 ∙ if-accepted (split_say g) (balanced_row g) (refined_row g) last-steps.0

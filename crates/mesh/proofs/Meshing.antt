@@ -16,61 +16,61 @@ use Rattle.build.proofs.Fitting.{refused-accepted}
 use Rattle.record.specs.declared.Settings.{Settings}
 use Rattle.record.specs.declared.Counts.{Counts}
 use Rattle.record.specs.Fields.{Out, value, stop, ◌then◌, require}
-use Rattle.record.specs.Board.{Board, Polygon, board, pointsIn, points_of}
-use Rattle.record.specs.Answers.{countsOf}
+use Rattle.record.specs.Board.{Board, Polygon, board, points_in, points_of}
+use Rattle.record.specs.Answers.{counts_of}
 use Rattle.record.proofs.Walks.{then-value, require-value}
-use Rattle.board.specs.Rows.{Rows, entryRow, polygonRow, sheetOf, pointRow, rings, filled}
-use Rattle.board.specs.Reading.{numbers, hasRoom, reading, says}
+use Rattle.board.specs.Rows.{Rows, entry_row, polygon_row, sheet_of, point_row, rings, filled}
+use Rattle.board.specs.Reading.{numbers, has_room, reading, says}
 use Rattle.mesh.specs.Polygons.{column}
-use Rattle.mesh.specs.Says.{slotRoom, layerRoom, polygonRoom, pointRoom, splitRoom, inputRoom, roomy, boardIn, meshOf, meshSays, settingsOf, givenBy, rowsGiven, Within}
+use Rattle.mesh.specs.Says.{slot_room, layer_room, polygon_room, point_room, split_room, input_room, roomy, board_in, mesh_of, mesh_says, settings_of, given_by, rows_given, Within}
 use Rattle.mesh.proofs.Fronts.{front, front-map}
 use Rattle.mesh.proofs.Growing.{given-same}
 use Rattle.mesh.proofs.Narrowing.{record-narrow}
 
 -- rows as long as `leafnet` has them
 pub record Roomed (rows : Rows) : Type 0 where
-  pub layers : length rows.layers ≡ layerRoom
-  pub polygons : length rows.polygons ≡ polygonRoom
-  pub sheets : length rows.sheets ≡ polygonRoom
-  pub points : length rows.points ≡ pointRoom
-  pub splits : length rows.splits ≡ splitRoom
+  pub layers : length rows.layers ≡ layer_room
+  pub polygons : length rows.polygons ≡ polygon_room
+  pub sheets : length rows.sheets ≡ polygon_room
+  pub points : length rows.points ≡ point_room
+  pub splits : length rows.splits ≡ split_room
 
 once : (a b c d : Bool) → ((a && b) && (b && (c && d))) ≡ (a && (b && (c && d)))
 once true true c d = refl
 once true false c d = refl
 once false b c d = refl
 
-same-room : (rows : Rows) → Roomed rows → (n : Counts) → hasRoom rows n ≡ roomy n
+same-room : (rows : Rows) → Roomed rows → (n : Counts) → has_room rows n ≡ roomy n
 same-room rows r n =
     rw (r.layers, r.polygons, r.sheets, r.points, r.splits)
-    (once (leb n.layers layerRoom) (leb n.polygons polygonRoom) (leb n.points pointRoom) (leb n.splits splitRoom))
+    (once (leb n.layers layer_room) (leb n.polygons polygon_room) (leb n.points point_room) (leb n.splits split_room))
 
-pub reading-in : (s : List ℕ) (rows : Rows) → Roomed rows → reading s rows ≡ boardIn s
-unfolding reading boardIn
+pub reading-in : (s : List ℕ) (rows : Rows) → Roomed rows → reading s rows ≡ board_in s
+unfolding reading board_in
 reading-in s rows r = by (board s)
   where
-    by : (o : Out Board) → (o then λ b e. require (hasRoom rows (countsOf b)) NoRoom (value b e)) ≡ (o then λ b e. require (roomy (countsOf b)) NoRoom (value b e))
-    by (value b e) = ap (λ t. require t NoRoom (value b e)) (same-room rows r (countsOf b))
+    by : (o : Out Board) → (o then λ b e. require (has_room rows (counts_of b)) NoRoom (value b e)) ≡ (o then λ b e. require (roomy (counts_of b)) NoRoom (value b e))
+    by (value b e) = ap (λ t. require t NoRoom (value b e)) (same-room rows r (counts_of b))
     by (stop x) = refl
 
 -- ---- input that is too long, and input that is read
 
-pub too_long : (s : List ℕ) → inputRoom < length s → meshSays s ≡ refusal NoRoom
-unfolding meshSays
-too_long s h = rw (lt-leb (length s) inputRoom h) refl
+pub too_long : (s : List ℕ) → input_room < length s → mesh_says s ≡ refusal NoRoom
+unfolding mesh_says
+too_long s h = rw (lt-leb (length s) input_room h) refl
 
-pub short-enough : (s : List ℕ) → length s ≤ inputRoom → meshSays s ≡ meshOf (boardIn s)
-unfolding meshSays
-short-enough s h = rw (le-leb (length s) inputRoom h) refl
+pub short-enough : (s : List ℕ) → length s ≤ input_room → mesh_says s ≡ mesh_of (board_in s)
+unfolding mesh_says
+short-enough s h = rw (le-leb (length s) input_room h) refl
 
 -- ---- a refused record
 
-refused-of : (o : Out Board) (x : Refusal) → refusal x ≡ says o → refusal x ≡ meshOf o
-refused-of (value b e) x p = let r = as-refused x in absurd (refused-accepted r.0 r.1 (numbers b.settings (countsOf b)) (sym r.2 ∙ p))
+refused-of : (o : Out Board) (x : Refusal) → refusal x ≡ says o → refusal x ≡ mesh_of o
+refused-of (value b e) x p = let r = as-refused x in absurd (refused-accepted r.0 r.1 (numbers b.settings (counts_of b)) (sym r.2 ∙ p))
 refused-of (stop y) x p = p
 
-pub read-refused : (s : List ℕ) (rows : Rows) → Roomed rows → length s ≤ inputRoom → (x : Refusal) → refusal x ≡ says (reading s rows) → refusal x ≡ meshSays s
-read-refused s rows r h x p = refused-of (boardIn s) x (p ∙ ap says (reading-in s rows r)) ∙ sym (short-enough s h)
+pub read-refused : (s : List ℕ) (rows : Rows) → Roomed rows → length s ≤ input_room → (x : Refusal) → refusal x ≡ says (reading s rows) → refusal x ≡ mesh_says s
+read-refused s rows r h x p = refused-of (board_in s) x (p ∙ ap says (reading-in s rows r)) ∙ sym (short-enough s h)
 
 -- ---- an accepted record
 
@@ -91,53 +91,53 @@ counts_same m n p q r s =
 pub record Whole (s : List ℕ) (g : Settings) (n : Counts) : Type 0 where
   pub board : Board
   pub end : ℕ
-  pub read : boardIn s ≡ value board end
+  pub read : board_in s ≡ value board end
   pub settings : g ≡ board.settings
-  pub counts : n ≡ countsOf board
+  pub counts : n ≡ counts_of board
 
-whole_of : (s : List ℕ) (g : Settings) (n : Counts) (o : Out Board) → boardIn s ≡ o → accepted (numbers g n) ≡ says o → Whole s g n
+whole_of : (s : List ℕ) (g : Settings) (n : Counts) (o : Out Board) → board_in s ≡ o → accepted (numbers g n) ≡ says o → Whole s g n
 whole_of s g n (value b e) p q =
-    let v : accepted (numbers g n) ≡ accepted (numbers b.settings (countsOf b)) = q in
+    let v : accepted (numbers g n) ≡ accepted (numbers b.settings (counts_of b)) = q in
     record {
       board = b;
       end = e;
       read = p;
       settings = settings-same g b.settings (cc) (cc) (cc);
-      counts = counts_same n (countsOf b) (cc) (cc) (cc) (cc);
+      counts = counts_same n (counts_of b) (cc) (cc) (cc) (cc);
     }
 whole_of s g n (stop x) p q = let r = as-refused x in absurd (refused-accepted r.0 r.1 (numbers g n) (sym r.2 ∙ sym q))
 
 pub whole : (s : List ℕ) (rows : Rows) → Roomed rows → (g : Settings) (n : Counts) → accepted (numbers g n) ≡ says (reading s rows) → Whole s g n
-whole s rows r g n p = whole_of s g n (boardIn s) refl (p ∙ ap says (reading-in s rows r))
+whole s rows r g n p = whole_of s g n (board_in s) refl (p ∙ ap says (reading-in s rows r))
 
 -- how many points there are
 rings-length : (ps : List Polygon) → points_of ps ≡ length (rings ps)
 unfolding points_of rings
 rings-length [] = refl
-rings-length (p ∷ ps) = ap (λ k. pointsIn p + k) (rings-length ps) ∙ sym (length-append p.points (rings ps))
+rings-length (p ∷ ps) = ap (λ k. points_in p + k) (rings-length ps) ∙ sym (length-append p.points (rings ps))
 
-module _ (s : List ℕ) (b : Board) (e : ℕ) (p : boardIn s ≡ value b e) where
-  found : (board s ≡ value b e) × (roomy (countsOf b) ≡ true)
-  unfolding boardIn
+module _ (s : List ℕ) (b : Board) (e : ℕ) (p : board_in s ≡ value b e) where
+  found : (board s ≡ value b e) × (roomy (counts_of b) ≡ true)
+  unfolding board_in
   found =
-      let t = then-value (board s) (λ b e. require (roomy (countsOf b)) NoRoom (value b e)) p in
-      let r = require-value (roomy (countsOf t.0)) NoRoom (value t.0 t.1) t.3 in
+      let t = then-value (board s) (λ b e. require (roomy (counts_of b)) NoRoom (value b e)) p in
+      let r = require-value (roomy (counts_of t.0)) NoRoom (value t.0 t.1) t.3 in
       let v : value t.0 t.1 ≡ value b e = r.1 in
       let w : t.0 ≡ b = cc in
-      (t.2 ∙ v, ap (λ (c : Board). roomy (countsOf c)) (sym w) ∙ r.0)
+      (t.2 ∙ v, ap (λ (c : Board). roomy (counts_of c)) (sym w) ∙ r.0)
 
-  rest : (leb (length b.polygons) polygonRoom && (leb (points_of b.polygons) pointRoom && leb (length b.splits) splitRoom)) ≡ true
-  rest = and_right (leb (length b.layers) layerRoom) _ found.1
+  rest : (leb (length b.polygons) polygon_room && (leb (points_of b.polygons) point_room && leb (length b.splits) split_room)) ≡ true
+  rest = and_right (leb (length b.layers) layer_room) _ found.1
 
-  last : (leb (points_of b.polygons) pointRoom && leb (length b.splits) splitRoom) ≡ true
-  last = and_right (leb (length b.polygons) polygonRoom) _ rest
+  last : (leb (points_of b.polygons) point_room && leb (length b.splits) split_room) ≡ true
+  last = and_right (leb (length b.polygons) polygon_room) _ rest
 
-  pub few : length b.polygons ≤ polygonRoom
-  few = leb-true _ _ (and_left (leb (length b.polygons) polygonRoom) _ rest)
+  pub few : length b.polygons ≤ polygon_room
+  few = leb-true _ _ (and_left (leb (length b.polygons) polygon_room) _ rest)
 
   module _ (rows : Rows) (r : Roomed rows) where
     fit-layers : length b.layers ≤ length rows.layers
-    fit-layers = rw r.layers (leb-true _ _ (and_left (leb (length b.layers) layerRoom) _ found.1))
+    fit-layers = rw r.layers (leb-true _ _ (and_left (leb (length b.layers) layer_room) _ found.1))
 
     fit-polygons : length b.polygons ≤ length rows.polygons
     fit-polygons = rw r.polygons few
@@ -146,35 +146,35 @@ module _ (s : List ℕ) (b : Board) (e : ℕ) (p : boardIn s ≡ value b e) wher
     fit-sheets = rw r.sheets few
 
     fit-points : points_of b.polygons ≤ length rows.points
-    fit-points = rw r.points (leb-true _ _ (and_left (leb (points_of b.polygons) pointRoom) _ last))
+    fit-points = rw r.points (leb-true _ _ (and_left (leb (points_of b.polygons) point_room) _ last))
 
     fit-splits : length b.splits ≤ length rows.splits
-    fit-splits = rw r.splits (leb-true _ _ (and_right (leb (points_of b.polygons) pointRoom) _ last))
+    fit-splits = rw r.splits (leb-true _ _ (and_right (leb (points_of b.polygons) point_room) _ last))
 
-    polygons-front : take (length b.polygons) (filled rows b).polygons ≡ map polygonRow b.polygons
-    polygons-front = front-map polygonRow rows.polygons b.polygons (length b.polygons) refl fit-polygons
+    polygons-front : take (length b.polygons) (filled rows b).polygons ≡ map polygon_row b.polygons
+    polygons-front = front-map polygon_row rows.polygons b.polygons (length b.polygons) refl fit-polygons
 
-    pub columns : (k : ℕ) (f : Polygon → ℕ) → ((x : Polygon) → get_or (polygonRow x) k 0 ≡ f x) → column k (take (length b.polygons) (filled rows b).polygons) ≡ map f b.polygons
-    columns k f h = ap (column k) polygons-front ∙ map-map (λ (x : List ℕ). get_or x k 0) polygonRow b.polygons ∙ map-ext b.polygons
+    pub columns : (k : ℕ) (f : Polygon → ℕ) → ((x : Polygon) → get_or (polygon_row x) k 0 ≡ f x) → column k (take (length b.polygons) (filled rows b).polygons) ≡ map f b.polygons
+    columns k f h = ap (column k) polygons-front ∙ map-map (λ (x : List ℕ). get_or x k 0) polygon_row b.polygons ∙ map-ext b.polygons
       where
-        map-ext : (ps : List Polygon) → map (λ x. get_or (polygonRow x) k 0) ps ≡ map f ps
+        map-ext : (ps : List Polygon) → map (λ x. get_or (polygon_row x) k 0) ps ≡ map f ps
         map-ext [] = refl
         map-ext (p ∷ ps) = ap₂ (λ (x : ℕ) (xs : List ℕ). x ∷ xs) (h p) (map-ext ps)
 
     -- what the filled rows give is what the board gives
-    pub given-filled : rowsGiven b.settings (countsOf b) (filled rows b) (slotRoom * 8) ≡ givenBy b
+    pub given-filled : rows_given b.settings (counts_of b) (filled rows b) (slot_room * 8) ≡ given_by b
     given-filled =
-        given-same (settingsOf b.settings) (slotRoom * 8)
-        (front-map entryRow rows.layers b.layers (length b.layers) refl fit-layers)
+        given-same (settings_of b.settings) (slot_room * 8)
+        (front-map entry_row rows.layers b.layers (length b.layers) refl fit-layers)
         (columns 0 (λ x. x.layer) (λ x. refl))
         (columns 1 (λ x. x.component) (λ x. refl))
-        (front-map sheetOf rows.sheets b.polygons (length b.polygons) refl fit-sheets)
-        (columns 2 pointsIn (λ x. refl))
-        (front-map pointRow rows.points (rings b.polygons) (points_of b.polygons) (rings-length b.polygons) fit-points)
+        (front-map sheet_of rows.sheets b.polygons (length b.polygons) refl fit-sheets)
+        (columns 2 points_in (λ x. refl))
+        (front-map point_row rows.points (rings b.polygons) (points_of b.polygons) (rings-length b.polygons) fit-points)
         (front rows.splits b.splits fit-splits)
 
     -- and the counts are within them
-    pub within : ((i : ℕ) → get_or s i 0 < 256) → (l c : ℕ) → l ≡ polygonRoom → c ≡ polygonRoom → Within (countsOf b) (filled rows b) l c
+    pub within : ((i : ℕ) → get_or s i 0 < 256) → (l c : ℕ) → l ≡ polygon_room → c ≡ polygon_room → Within (counts_of b) (filled rows b) l c
     within bytes l c h k =
         record {
           list = rw length-sets fit-layers;

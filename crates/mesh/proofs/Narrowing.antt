@@ -9,7 +9,7 @@ use Rattle.record.specs.Board.{Polygon, polygon, shapes, Board, board}
 use Rattle.record.proofs.Numbers.{number-below}
 use Rattle.record.proofs.Walks.{several-view, several-length}
 use Rattle.record.proofs.Items.{polygon-made}
-use Rattle.board.specs.Rows.{polygonRow}
+use Rattle.board.specs.Rows.{polygon_row}
 use Rattle.board.proofs.Parts.{parts}
 use Rattle.mesh.specs.Polygons.{Narrow}
 
@@ -22,10 +22,10 @@ no_row : (P : List ℕ → Type 0) (i : ℕ) → i < length {A = List ℕ} [] �
 no_row P i h = absurd (omega arith)
 
 module _ (s : List ℕ) (bytes : (i : ℕ) → get_or s i 0 < 256) where
-  shapes-narrow : (n at : ℕ) {ps : List Polygon} {e : ℕ} → shapes s n at ≡ value ps e → Narrow (map polygonRow ps)
+  shapes-narrow : (n at : ℕ) {ps : List Polygon} {e : ℕ} → shapes s n at ≡ value ps e → Narrow (map polygon_row ps)
   shapes-narrow zero at {ps} {e} p =
       let z : [] ≡ ps = empty ps (several-length (polygon s) zero at p) in
-      subst (λ (qs : List Polygon). Narrow (map polygonRow qs)) z
+      subst (λ (qs : List Polygon). Narrow (map polygon_row qs)) z
       (record { layer = no_row (λ r. get_or r 0 0 < 2 ^ 16); component = no_row (λ r. get_or r 1 0 < 2 ^ 32) })
     where
       empty : (ps : List Polygon) → length ps ≡ zero → [] ≡ ps
@@ -39,10 +39,10 @@ module _ (s : List ℕ) (bytes : (i : ℕ) → get_or s i 0 < 256) where
       let c : (v.0).component < 2 ^ 32 = rw m.component (number-below s (at + 2) bytes 4) in
       rw v.5
       (record {
-        layer = each_row (λ r. get_or r 0 0 < 2 ^ 16) (polygonRow v.0) (map polygonRow v.2) l r.layer;
-        component = each_row (λ r. get_or r 1 0 < 2 ^ 32) (polygonRow v.0) (map polygonRow v.2) c r.component;
+        layer = each_row (λ r. get_or r 0 0 < 2 ^ 16) (polygon_row v.0) (map polygon_row v.2) l r.layer;
+        component = each_row (λ r. get_or r 1 0 < 2 ^ 32) (polygon_row v.0) (map polygon_row v.2) c r.component;
       })
 
   -- the law
-  pub record-narrow : (b : Board) {e : ℕ} → board s ≡ value b e → Narrow (map polygonRow b.polygons)
+  pub record-narrow : (b : Board) {e : ℕ} → board s ≡ value b e → Narrow (map polygon_row b.polygons)
   record-narrow b p = let m = parts s b p in shapes-narrow (length b.polygons) (m.first + 2) m.polygons

@@ -1,13 +1,13 @@
 -- The table of a board, step by step: its roots, the record's splits, balance. Each step goes on from what the one before it leaves.
 use Rattle.std.specs.Prelude.{ℕ, List, Float, ℤ, get_or}
 use Rattle.refusals.specs.Said.{Said, accepted, refused}
-use Rattle.strips.specs.Said.{ifAccepted}
+use Rattle.strips.specs.Said.{if_accepted}
 use Rattle.build.specs.declared.Settings.{Settings}
 use Rattle.build.specs.Board.{Board, board}
-use Rattle.build.specs.Says.{buildSays, filled}
+use Rattle.build.specs.Says.{build_says, filled}
 use Rattle.coarsest.specs.Passes.{balancing}
-use Rattle.even.specs.Even.{evenSays, evenRow}
-use Rattle.mesh.specs.Refining.{refineAllSays, refineAllRow}
+use Rattle.even.specs.Even.{even_says, even_row}
+use Rattle.mesh.specs.Refining.{refine_all_says, refine_all_row}
 
 -- what the next step says, unless this one refuses
 abbrev pub also : Said → Said → Said
@@ -33,33 +33,33 @@ abbrev pub given : Settings → List (List ℕ) → List ℕ → List ℕ → Li
 given s list layers components sheets counts points splits size =
     record { board = board s list layers counts points; components = components; sheets = sheets; splits = splits; size = size }
 
-abbrev pub levelOf : Given → ℕ
-levelOf g = g.board.settings.max_level
+abbrev pub level_of : Given → ℕ
+level_of g = g.board.settings.max_level
 
 -- the roots, and how many there are
-unfoldable pub rootsSay : Given → Said
-rootsSay g = buildSays g.board g.components g.sheets g.size
+unfoldable pub roots_say : Given → Said
+roots_say g = build_says g.board g.components g.sheets g.size
 
-unfoldable pub rootsRow : Given → List ℤ
-rootsRow g = filled g.board g.size
+unfoldable pub roots_row : Given → List ℤ
+roots_row g = filled g.board g.size
 
 -- the splits, and the count with them
-unfoldable pub splitSay : Given → Said
-splitSay g = refineAllSays (rootsRow g) (value_at 0 (rootsSay g)) (levelOf g) g.splits
+unfoldable pub split_say : Given → Said
+split_say g = refine_all_says (roots_row g) (value_at 0 (roots_say g)) (level_of g) g.splits
 
-unfoldable pub refinedRow : Given → List ℤ
-refinedRow g = refineAllRow (rootsRow g) (value_at 0 (rootsSay g)) (levelOf g) g.splits
+unfoldable pub refined_row : Given → List ℤ
+refined_row g = refine_all_row (roots_row g) (value_at 0 (roots_say g)) (level_of g) g.splits
 
 -- the balanced table: balance's splits, the count and max_level
-unfoldable pub balanceSay : Given → Said
-balanceSay g = evenSays balancing 1 (refinedRow g) (value_at 0 (splitSay g)) (levelOf g)
+unfoldable pub balance_say : Given → Said
+balance_say g = even_says balancing 1 (refined_row g) (value_at 0 (split_say g)) (level_of g)
 
-unfoldable pub balancedRow : Given → List ℤ
-balancedRow g = evenRow balancing 1 (refinedRow g) (value_at 0 (splitSay g)) (levelOf g)
+unfoldable pub balanced_row : Given → List ℤ
+balanced_row g = even_row balancing 1 (refined_row g) (value_at 0 (split_say g)) (level_of g)
 
 -- the three together, and what they leave in the table, refused or not
-unfoldable pub growSays : Given → Said
-growSays g = also (rootsSay g) (also (splitSay g) (balanceSay g))
+unfoldable pub grow_says : Given → Said
+grow_says g = also (roots_say g) (also (split_say g) (balance_say g))
 
-unfoldable pub growLeaves : Given → List ℤ → List ℤ
-growLeaves g t = ifAccepted (rootsSay g) (ifAccepted (splitSay g) (balancedRow g) (refinedRow g)) t
+unfoldable pub grow_leaves : Given → List ℤ → List ℤ
+grow_leaves g t = if_accepted (roots_say g) (if_accepted (split_say g) (balanced_row g) (refined_row g)) t

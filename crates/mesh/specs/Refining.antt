@@ -1,14 +1,14 @@
 -- Splitting leaf after leaf: the ids in order, each in the table that the one before it leaves.
 use Rattle.std.specs.Prelude.{ℕ, ◌+◌, cond, List, [], ◌∷◌, ℤ}
 use Rattle.refusals.specs.Said.{Said, accepted}
-use Rattle.table.specs.Refine.{isAccepted, refineSays, refineRow}
+use Rattle.table.specs.Refine.{is_accepted, refine_says, refine_row}
 
 -- the new count and max_level, or the first refusal
-unfoldable pub refineAllSays : List ℤ → ℕ → ℕ → List ℕ → Said
-refineAllSays t n M [] = accepted (n ∷ M ∷ [])
-refineAllSays t n M (id ∷ ids) = cond (isAccepted (refineSays t n M id)) (refineAllSays (refineRow t n M id) (n + 4) M ids) (refineSays t n M id)
+unfoldable pub refine_all_says : List ℤ → ℕ → ℕ → List ℕ → Said
+refine_all_says t n M [] = accepted (n ∷ M ∷ [])
+refine_all_says t n M (id ∷ ids) = cond (is_accepted (refine_says t n M id)) (refine_all_says (refine_row t n M id) (n + 4) M ids) (refine_says t n M id)
 
 -- the table with the ids split that came before the first refusal
-unfoldable pub refineAllRow : List ℤ → ℕ → ℕ → List ℕ → List ℤ
-refineAllRow t n M [] = t
-refineAllRow t n M (id ∷ ids) = cond (isAccepted (refineSays t n M id)) (refineAllRow (refineRow t n M id) (n + 4) M ids) t
+unfoldable pub refine_all_row : List ℤ → ℕ → ℕ → List ℕ → List ℤ
+refine_all_row t n M [] = t
+refine_all_row t n M (id ∷ ids) = cond (is_accepted (refine_says t n M id)) (refine_all_row (refine_row t n M id) (n + 4) M ids) t

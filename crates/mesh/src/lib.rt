@@ -4,14 +4,14 @@
 
 ghost use Rattle.std.specs.Prelude.{◌≡◌, true, length, take};
 ghost use Rattle.std.proofs.lemmas.List.Edits.{sets};
-ghost use Rattle.table.specs.Formed.{wellFormed};
-ghost use Rattle.table.specs.Leaves.{orderIds, listRow};
-ghost use Rattle.table.specs.Refine.{isAccepted};
-ghost use Rattle.even.specs.Even.{eveningSaid};
+ghost use Rattle.table.specs.Formed.{well_formed};
+ghost use Rattle.table.specs.Leaves.{order_ids, list_row};
+ghost use Rattle.table.specs.Refine.{is_accepted};
+ghost use Rattle.even.specs.Even.{evening_said};
 ghost use Rattle.board.specs.Rows.{rows_of};
 ghost use Rattle.mesh.specs.Polygons.{column};
-ghost use Rattle.mesh.specs.Growing.{growSays, growLeaves};
-ghost use Rattle.mesh.specs.Says.{meshedSaid, totalsSay, rowsGiven, Within, Lent, Made, meshSays};
+ghost use Rattle.mesh.specs.Growing.{grow_says, grow_leaves};
+ghost use Rattle.mesh.specs.Says.{meshed_said, totals_say, rows_given, Within, Lent, Made, mesh_says};
 
 use even::Evening;
 use record::{Counts, Settings};
@@ -57,9 +57,9 @@ fn grow_board(
 ) -> Result<Evening, Refusal>
     requires { Within n (rows_of list.now polygons.now sheets.now points.now splits.now)
         (length layers.old) (length components.old) }
-    ensures result_value { eveningSaid result ≡ growSays (rowsGiven g n (rows_of list.now polygons.now
+    ensures result_value { evening_said result ≡ grow_says (rows_given g n (rows_of list.now polygons.now
         sheets.now points.now splits.now) (length table.old)) }
-    ensures table_after { table.new ≡ growLeaves (rowsGiven g n (rows_of list.now polygons.now
+    ensures table_after { table.new ≡ grow_leaves (rows_given g n (rows_of list.now polygons.now
         sheets.now points.now splits.now) (length table.old))
         table.old }
     ensures layers_after { layers.new ≡ sets layers.old 0
@@ -99,10 +99,10 @@ fn order_leaves(
     splits: usize,
     order: &mut [u64],
 ) -> Result<Totals, Refusal>
-    ensures result_value { meshedSaid result ≡ totalsSay table.now head.count head.max_level polygons splits
+    ensures result_value { meshed_said result ≡ totals_say table.now head.count head.max_level polygons splits
         (length order.old) }
-    ensures order_after { order.new ≡ listRow (wellFormed table.now head.count head.max_level)
-        (orderIds table.now head.count) order.old }
+    ensures order_after { order.new ≡ list_row (well_formed table.now head.count head.max_level)
+        (order_ids table.now head.count) order.old }
 {
     let leaves = leaf_order(table, head, order)?;
     Ok(Totals {
@@ -126,8 +126,8 @@ pub fn mesh(
 ) -> Result<Totals, Refusal>
     requires { Lent (length table.old) (length order.old) (length layers.old) (length components.old)
         (length sheets.old) }
-    ensures result_value { meshedSaid result ≡ meshSays s.now }
-    ensures made { isAccepted (meshedSaid result) ≡ true → Made s.now table.new order.old
+    ensures result_value { meshed_said result ≡ mesh_says s.now }
+    ensures made { is_accepted (meshed_said result) ≡ true → Made s.now table.new order.old
         order.new layers.old layers.new components.old
         components.new sheets.old sheets.new }
 {

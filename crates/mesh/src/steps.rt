@@ -1,9 +1,9 @@
 // The table step by step: the roots, the record's splits, and balance.
 ghost use Rattle.std.specs.Prelude.{◌≡◌, length};
-ghost use Rattle.table.specs.Refine.{refinedSaid};
-ghost use Rattle.even.specs.Even.{eveningSaid};
-ghost use Rattle.mesh.specs.Refining.{refineAllSays, refineAllRow};
-ghost use Rattle.mesh.specs.Growing.{given, growSays, growLeaves};
+ghost use Rattle.table.specs.Refine.{refined_said};
+ghost use Rattle.even.specs.Even.{evening_said};
+ghost use Rattle.mesh.specs.Refining.{refine_all_says, refine_all_row};
+ghost use Rattle.mesh.specs.Growing.{given, grow_says, grow_leaves};
 
 use build::Settings;
 use even::{Evening, balance};
@@ -13,9 +13,9 @@ use table::refine::refine;
 
 // Splits the leaf of each id in order. The first refusal ends it, and what was split before that stays split.
 pub fn refine_all(table: &mut [i64], head: Head, splits: &[u64]) -> Result<Head, Refusal>
-    ensures result_value { refinedSaid result ≡ refineAllSays table.old head.count head.max_level
+    ensures result_value { refined_said result ≡ refine_all_says table.old head.count head.max_level
         splits.now }
-    ensures table_after { table.new ≡ refineAllRow table.old head.count head.max_level
+    ensures table_after { table.new ≡ refine_all_row table.old head.count head.max_level
         splits.now }
 {
     let mut latest = head;
@@ -37,10 +37,10 @@ pub fn grow(
     splits: &[u64],
     table: &mut [i64],
 ) -> Result<Evening, Refusal>
-    ensures result_value { eveningSaid result ≡ growSays (given s list.now layers.now
+    ensures result_value { evening_said result ≡ grow_says (given s list.now layers.now
         components.now sheets.now counts.now points.now
         splits.now (length table.old)) }
-    ensures table_after { table.new ≡ growLeaves (given s list.now layers.now
+    ensures table_after { table.new ≡ grow_leaves (given s list.now layers.now
         components.now sheets.now counts.now points.now
         splits.now (length table.old)) table.old }
 {

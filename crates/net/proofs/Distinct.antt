@@ -9,7 +9,7 @@ use lib.ListN.{length, get_or, length-append, get_or-append}
 use lib.Seq.{get_or-append_seam}
 use borrow.Author.Tests.{ltb-false}
 use Rattle.table.specs.Mesh.{Cell}
-use Rattle.net.specs.Net.{find, has, weld, Poly, Node, Piece, sameNode, nth, nowhere, number, pieces, cornersOf, nodesFrom, bare, weigh, network}
+use Rattle.net.specs.Net.{find, has, weld, Poly, Node, Piece, same_node, nth, nowhere, number, pieces, corners_of, nodes_from, bare, weigh, network}
 use Rattle.net.proofs.Find.{order, test, find-left, find-right, find-yes}
 use Rattle.net.proofs.Weld.{weld-nil, weld-old, weld-new}
 use Rattle.net.proofs.Sound.{node-self}
@@ -41,10 +41,10 @@ module _ {A : Type 0} (same : A → A → Bool) (d : A) (self : (a : A) → same
       (λ e. subst Distinct (sym (weld-new same l x xs e)) (distinct-weld (l ++ (x ∷ [])) xs (distinct_snoc l x D e)))
       (test (has same l x))
 
-distinct-nodes : (n : List Node) (qs : List Piece) → Distinct sameNode nowhere node-self n → Distinct sameNode nowhere node-self (nodesFrom n qs)
-unfolding nodesFrom
+distinct-nodes : (n : List Node) (qs : List Piece) → Distinct same_node nowhere node-self n → Distinct same_node nowhere node-self (nodes_from n qs)
+unfolding nodes_from
 distinct-nodes n [] D = D
-distinct-nodes n (q ∷ qs) D = distinct-nodes (weld sameNode n (cornersOf q)) qs (distinct-weld sameNode nowhere node-self n (cornersOf q) D)
+distinct-nodes n (q ∷ qs) D = distinct-nodes (weld same_node n (corners_of q)) qs (distinct-weld same_node nowhere node-self n (corners_of q) D)
 
 -- no two nodes of a net have the same layer, component, x and y
 pub no-duplicates : (t : List Cell) (ps : List Poly) (i : ℕ) → i < length (network t ps).nodes → number (network t ps).nodes (nth (network t ps).nodes i) ≡ i

@@ -11,7 +11,7 @@ use lib.Ieee.{Float}
 use borrow.Author.Tests.{eq-eqb}
 use Rattle.cell.specs.Boxes.{Box, mid}
 use Rattle.table.specs.Mesh.{Cell}
-use Rattle.net.specs.Net.{find, weld, each, Poly, Node, Edge, Patch, Piece, sameNode, same_pair, pieces, cornersOf, nodesFrom, patchesFrom, edgesOf, edgesFrom, join, nodeAt, swOf, seOf, neOf, nwOf, side_of, sidesAt, across, upright, One, Half, ◌·◌, ◌÷◌, weighed, bare, weigh, network}
+use Rattle.net.specs.Net.{find, weld, each, Poly, Node, Edge, Patch, Piece, same_node, same_pair, pieces, corners_of, nodes_from, patches_from, edges_of, edges_from, join, node_at, sw_of, se_of, ne_of, nw_of, side_of, sides_at, across, upright, One, Half, ◌·◌, ◌÷◌, weighed, bare, weigh, network}
 use Rattle.net.specs.Hang.{so_far, Joined, Halved, HalvedSides}
 use Rattle.net.proofs.Find.{order, find-right, find-same}
 use Rattle.net.proofs.All.{All, all-by, all_left, all_right, all-each-back, In, in-more, weld-has}
@@ -40,29 +40,29 @@ side-halved n es a m b r h t =
     halves : All (In same_pair es) (join n a m (One ÷ (r · Half)) ∷ join n m b (One ÷ (r · Half)) ∷ []) → Joined n es a m × Joined n es m b
     halves s = unfold All in (any-g n es a m (One ÷ (r · Half)) s.0, any-g n es m b (One ÷ (r · Half)) s.1.0)
 
-leaf-halved : (n : List Node) (es : List Edge) (p : Poly) (r : Box) → All (In same_pair es) (sidesAt n p r) → HalvedSides n es p r
-unfolding sidesAt
+leaf-halved : (n : List Node) (es : List Edge) (p : Poly) (r : Box) → All (In same_pair es) (sides_at n p r) → HalvedSides n es p r
+unfolding sides_at
 leaf-halved n es p r h =
-    let S = side_of n (swOf p r) (nodeAt p (mid r.x0 r.x1) r.y0) (seOf p r) (across p r) in
-    let N = side_of n (nwOf p r) (nodeAt p (mid r.x0 r.x1) r.y1) (neOf p r) (across p r) in
-    let W = side_of n (swOf p r) (nodeAt p r.x0 (mid r.y0 r.y1)) (nwOf p r) (upright p r) in
-    let E = side_of n (seOf p r) (nodeAt p r.x1 (mid r.y0 r.y1)) (neOf p r) (upright p r) in
+    let S = side_of n (sw_of p r) (node_at p (mid r.x0 r.x1) r.y0) (se_of p r) (across p r) in
+    let N = side_of n (nw_of p r) (node_at p (mid r.x0 r.x1) r.y1) (ne_of p r) (across p r) in
+    let W = side_of n (sw_of p r) (node_at p r.x0 (mid r.y0 r.y1)) (nw_of p r) (upright p r) in
+    let E = side_of n (se_of p r) (node_at p r.x1 (mid r.y0 r.y1)) (ne_of p r) (upright p r) in
     let h1 = all_right (In same_pair es) S (N ++ (W ++ E)) h in
     let h2 = all_right (In same_pair es) N (W ++ E) h1 in
     record {
-      south = side-halved n es (swOf p r) (nodeAt p (mid r.x0 r.x1) r.y0) (seOf p r) (across p r) (all_left (In same_pair es) S (N ++ (W ++ E)) h);
-      north = side-halved n es (nwOf p r) (nodeAt p (mid r.x0 r.x1) r.y1) (neOf p r) (across p r) (all_left (In same_pair es) N (W ++ E) h1);
-      west = side-halved n es (swOf p r) (nodeAt p r.x0 (mid r.y0 r.y1)) (nwOf p r) (upright p r) (all_left (In same_pair es) W E h2);
-      east = side-halved n es (seOf p r) (nodeAt p r.x1 (mid r.y0 r.y1)) (neOf p r) (upright p r) (all_right (In same_pair es) W E h2);
+      south = side-halved n es (sw_of p r) (node_at p (mid r.x0 r.x1) r.y0) (se_of p r) (across p r) (all_left (In same_pair es) S (N ++ (W ++ E)) h);
+      north = side-halved n es (nw_of p r) (node_at p (mid r.x0 r.x1) r.y1) (ne_of p r) (across p r) (all_left (In same_pair es) N (W ++ E) h1);
+      west = side-halved n es (sw_of p r) (node_at p r.x0 (mid r.y0 r.y1)) (nw_of p r) (upright p r) (all_left (In same_pair es) W E h2);
+      east = side-halved n es (se_of p r) (node_at p r.x1 (mid r.y0 r.y1)) (ne_of p r) (upright p r) (all_right (In same_pair es) W E h2);
     }
 
 -- the edges of one polygon are edges of all
-edges-append : (n : List Node) (pre : List Piece) (q : Piece) (qs : List Piece) (x : Edge) → In same_pair (edgesOf (weld sameNode (nodesFrom n pre) (cornersOf q)) q) x → In same_pair (edgesFrom n (pre ++ (q ∷ qs))) x
-unfolding edgesFrom nodesFrom
-edges-append n [] q qs x h = in-more same_pair (edgesOf (weld sameNode n (cornersOf q)) q) (edgesFrom (weld sameNode n (cornersOf q)) qs) x h
+edges-append : (n : List Node) (pre : List Piece) (q : Piece) (qs : List Piece) (x : Edge) → In same_pair (edges_of (weld same_node (nodes_from n pre) (corners_of q)) q) x → In same_pair (edges_from n (pre ++ (q ∷ qs))) x
+unfolding edges_from nodes_from
+edges-append n [] q qs x h = in-more same_pair (edges_of (weld same_node n (corners_of q)) q) (edges_from (weld same_node n (corners_of q)) qs) x h
 edges-append n (p ∷ pre) q qs x h =
-    in_right (edgesOf (weld sameNode n (cornersOf p)) p) (edgesFrom (weld sameNode n (cornersOf p)) (pre ++ (q ∷ qs))) x
-    (edges-append (weld sameNode n (cornersOf p)) pre q qs x h)
+    in_right (edges_of (weld same_node n (corners_of p)) p) (edges_from (weld same_node n (corners_of p)) (pre ++ (q ∷ qs))) x
+    (edges-append (weld same_node n (corners_of p)) pre q qs x h)
 
 -- the weights change no ends
 ends_stay : (n : List Node) (cs : List Patch) (e x : Edge) → same_pair e x ≡ same_pair (weighed n cs e) x
@@ -77,20 +77,20 @@ weighed-in n cs es x h =
 
 pub no-half-hangs : (t : List Cell) (ps : List Poly) (pre : List Piece) (q : Piece) (qs : List Piece) → pieces t ps 0 ≡ pre ++ (q ∷ qs)
     → All (HalvedSides (so_far pre q) (network t ps).edges q.poly) q.leaves
-unfolding network weigh bare edgesOf
+unfolding network weigh bare edges_of
 no-half-hangs t ps pre q qs e =
-    all-by (λ (r : Box). All (In same_pair es) (sidesAt (so_far pre q) q.poly r)) (HalvedSides (so_far pre q) es q.poly) q.leaves
+    all-by (λ (r : Box). All (In same_pair es) (sides_at (so_far pre q) q.poly r)) (HalvedSides (so_far pre q) es q.poly) q.leaves
     (λ r h. leaf-halved (so_far pre q) es q.poly r h)
-    (all-each-back (In same_pair es) (sidesAt (so_far pre q) q.poly) q.leaves
-    (all-by (In same_pair own) (In same_pair es) (each (sidesAt (so_far pre q) q.poly) q.leaves) (λ x h. lifted x h) (weld-has same_pair pair-self [] (each (sidesAt (so_far pre q) q.poly) q.leaves))))
+    (all-each-back (In same_pair es) (sides_at (so_far pre q) q.poly) q.leaves
+    (all-by (In same_pair own) (In same_pair es) (each (sides_at (so_far pre q) q.poly) q.leaves) (λ x h. lifted x h) (weld-has same_pair pair-self [] (each (sides_at (so_far pre q) q.poly) q.leaves))))
   where
     own : List Edge
-    own = weld same_pair [] (each (sidesAt (so_far pre q) q.poly) q.leaves)
+    own = weld same_pair [] (each (sides_at (so_far pre q) q.poly) q.leaves)
 
     es : List Edge
-    es = map (weighed (nodesFrom [] (pieces t ps 0)) (patchesFrom [] (pieces t ps 0))) (edgesFrom [] (pieces t ps 0))
+    es = map (weighed (nodes_from [] (pieces t ps 0)) (patches_from [] (pieces t ps 0))) (edges_from [] (pieces t ps 0))
 
-    lifted : (x : Edge) → In same_pair (weld same_pair [] (each (sidesAt (so_far pre q) q.poly) q.leaves)) x → In same_pair (map (weighed (nodesFrom [] (pieces t ps 0)) (patchesFrom [] (pieces t ps 0))) (edgesFrom [] (pieces t ps 0))) x
+    lifted : (x : Edge) → In same_pair (weld same_pair [] (each (sides_at (so_far pre q) q.poly) q.leaves)) x → In same_pair (map (weighed (nodes_from [] (pieces t ps 0)) (patches_from [] (pieces t ps 0))) (edges_from [] (pieces t ps 0))) x
     lifted x h =
-        weighed-in (nodesFrom [] (pieces t ps 0)) (patchesFrom [] (pieces t ps 0)) (edgesFrom [] (pieces t ps 0)) x
-        (subst (λ (z : List Piece). In same_pair (edgesFrom [] z) x) (sym e) (edges-append [] pre q qs x h))
+        weighed-in (nodes_from [] (pieces t ps 0)) (patches_from [] (pieces t ps 0)) (edges_from [] (pieces t ps 0)) x
+        (subst (λ (z : List Piece). In same_pair (edges_from [] z) x) (sym e) (edges-append [] pre q qs x h))

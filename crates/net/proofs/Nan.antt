@@ -19,7 +19,7 @@ use lib.Ieee.Scale.{finite}
 use lib.Ieee.Positive.{positive, positive-finite, positive_of_value}
 use borrow.Author.Tests.{eqb-false}
 use Rattle.cell.specs.Boxes.{Box, mid}
-use Rattle.net.specs.Net.{has, weld, each, Poly, Node, Edge, Patch, Piece, Way, sameNode, same_pair, nodeAt, swOf, seOf, neOf, nwOf, cornersOf, nth, nowhere, patchAt, One, Half, ◌·◌, ◌÷◌, num, halves, width, height, across, upright, join, side_of, sidesAt, edgesOf, edgesFrom, patchesFrom, lesser, or_zero, least, nextGap, prevGap, turned, gap, boxOf, size_of, hangsAt, is_last, hung, extent, lesserOf, flat, apart, face, distance, isSide, sheetOf, weight, weighed}
+use Rattle.net.specs.Net.{has, weld, each, Poly, Node, Edge, Patch, Piece, Way, same_node, same_pair, node_at, sw_of, se_of, ne_of, nw_of, corners_of, nth, nowhere, patch_at, One, Half, ◌·◌, ◌÷◌, num, halves, width, height, across, upright, join, side_of, sides_at, edges_of, edges_from, patches_from, lesser, or_zero, least, next_gap, prev_gap, turned, gap, box_of, size_of, hangs_at, is_last, hung, extent, lesser_of, flat, apart, face, distance, is_side, sheet_of, weight, weighed}
 use Rattle.net.proofs.Find.{order}
 use Rattle.net.proofs.All.{All, all_append, all_nil, all-weld, all_map, all-map-by, all-by, all-each-by, all-at}
 
@@ -157,7 +157,7 @@ Proper e = T (nonneg e.g)
 
 side-proper : (n : List Node) (a m b : Node) (r : Float) → T (nonneg r) → All Proper (side_of n a m b r)
 unfolding All
-side-proper n a m b r p = go (has sameNode n m)
+side-proper n a m b r p = go (has same_node n m)
   where
     half : T (nonneg (One ÷ (r · Half)))
     half = over-nonneg binary64 One (r · Half) one-positive (mul-nonneg binary64 r Half p half-positive)
@@ -169,14 +169,14 @@ side-proper n a m b r p = go (has sameNode n m)
     go true = (half, (half, tt))
     go false = (whole, tt)
 
-leaf-proper : (n : List Node) (p : Poly) (r : Box) → T (positive p.sheet) → Sized r → All Proper (sidesAt n p r)
-unfolding sidesAt
+leaf-proper : (n : List Node) (p : Poly) (r : Box) → T (positive p.sheet) → Sized r → All Proper (sides_at n p r)
+unfolding sides_at
 leaf-proper n p r s z =
     let f = resist p.sheet (width r) (height r) s z.0.0 z.0.1 z.1.0 z.1.1 in
     let g = resist p.sheet (height r) (width r) s z.1.0 z.1.1 z.0.0 z.0.1 in
-    all_append Proper (side_of n (swOf p r) (nodeAt p (mid r.x0 r.x1) r.y0) (seOf p r) (across p r)) _ (side-proper n _ _ _ (across p r) f)
-    (all_append Proper (side_of n (nwOf p r) (nodeAt p (mid r.x0 r.x1) r.y1) (neOf p r) (across p r)) _ (side-proper n _ _ _ (across p r) f)
-    (all_append Proper (side_of n (swOf p r) (nodeAt p r.x0 (mid r.y0 r.y1)) (nwOf p r) (upright p r)) _ (side-proper n _ _ _ (upright p r) g)
+    all_append Proper (side_of n (sw_of p r) (node_at p (mid r.x0 r.x1) r.y0) (se_of p r) (across p r)) _ (side-proper n _ _ _ (across p r) f)
+    (all_append Proper (side_of n (nw_of p r) (node_at p (mid r.x0 r.x1) r.y1) (ne_of p r) (across p r)) _ (side-proper n _ _ _ (across p r) f)
+    (all_append Proper (side_of n (sw_of p r) (node_at p r.x0 (mid r.y0 r.y1)) (nw_of p r) (upright p r)) _ (side-proper n _ _ _ (upright p r) g)
     (side-proper n _ _ _ (upright p r) g)))
 
 pub record Fine (q : Piece) : Type 0 where
@@ -184,38 +184,38 @@ pub record Fine (q : Piece) : Type 0 where
   pub sized : All Sized q.leaves
 
 -- before the weights
-pub edges-proper : (n : List Node) (qs : List Piece) → All Fine qs → All Proper (edgesFrom n qs)
-unfolding All edgesFrom edgesOf
+pub edges-proper : (n : List Node) (qs : List Piece) → All Fine qs → All Proper (edges_from n qs)
+unfolding All edges_from edges_of
 edges-proper n [] h = tt
 edges-proper n (q ∷ qs) h =
-    let m = weld sameNode n (cornersOf q) in
-    all_append Proper (edgesOf m q) (edgesFrom m qs)
-    (all-weld Proper same_pair [] (each (sidesAt m q.poly) q.leaves) (all_nil Proper)
-    (all-each-by Sized Proper (sidesAt m q.poly) q.leaves (λ r z. leaf-proper m q.poly r h.0.sheet z) h.0.sized))
+    let m = weld same_node n (corners_of q) in
+    all_append Proper (edges_of m q) (edges_from m qs)
+    (all-weld Proper same_pair [] (each (sides_at m q.poly) q.leaves) (all_nil Proper)
+    (all-each-by Sized Proper (sides_at m q.poly) q.leaves (λ r z. leaf-proper m q.poly r h.0.sheet z) h.0.sized))
     (edges-proper m qs h.1)
 
 -- the weights
 abbrev pub Sheeted : Patch → Type 0
 Sheeted c = T (positive c.sheet)
 
-pub patches-sheeted : (n : List Node) (qs : List Piece) → All Fine qs → All Sheeted (patchesFrom n qs)
-unfolding All patchesFrom
+pub patches-sheeted : (n : List Node) (qs : List Piece) → All Fine qs → All Sheeted (patches_from n qs)
+unfolding All patches_from
 patches-sheeted n [] h = tt
 patches-sheeted n (q ∷ qs) h =
-    let m = weld sameNode n (cornersOf q) in
-    all_append Sheeted (map (patchAt m q.poly) q.leaves) (patchesFrom m qs)
-    (all_map Sheeted (patchAt m q.poly) q.leaves (λ r. h.0.sheet)) (patches-sheeted m qs h.1)
+    let m = weld same_node n (corners_of q) in
+    all_append Sheeted (map (patch_at m q.poly) q.leaves) (patches_from m qs)
+    (all_map Sheeted (patch_at m q.poly) q.leaves (λ r. h.0.sheet)) (patches-sheeted m qs h.1)
 
 unfoldable pub Holds : (Float → Type 0) → Option Float → Type 0
 Holds P none = Unit {0}
 Holds P (some s) = P s
 
-sheet-holds : (P : Float → Type 0) (cs : List Patch) (a b : ℕ) → All (λ (c : Patch). P c.sheet) cs → Holds P (sheetOf cs a b)
-unfolding All sheetOf Holds
+sheet-holds : (P : Float → Type 0) (cs : List Patch) (a b : ℕ) → All (λ (c : Patch). P c.sheet) cs → Holds P (sheet_of cs a b)
+unfolding All sheet_of Holds
 sheet-holds P [] a b h = tt
-sheet-holds P (c ∷ cs) a b h = go (isSide c a b) (sheet-holds P cs a b h.1)
+sheet-holds P (c ∷ cs) a b h = go (is_side c a b) (sheet-holds P cs a b h.1)
   where
-    go : (z : Bool) → Holds P (sheetOf cs a b) → Holds P (elim z [ true ↦ some c.sheet | false ↦ sheetOf cs a b ])
+    go : (z : Bool) → Holds P (sheet_of cs a b) → Holds P (elim z [ true ↦ some c.sheet | false ↦ sheet_of cs a b ])
     go true i = h.0
     go false i = i
 
@@ -247,12 +247,12 @@ least-low M p g (b ∷ l) j h = go (p b j) (least-low M p g l (suc j) h.1)
     go true r = let k = h.0 in omega (arith, lesser-low (g b) (least p g l (suc j)))
     go false r = r
 
-next_low : (M : ℕ) (n : List Node) (i : ℕ) → All (Within M) n → nextGap n i ≤ M
-unfolding nextGap
+next_low : (M : ℕ) (n : List Node) (i : ℕ) → All (Within M) n → next_gap n i ≤ M
+unfolding next_gap
 next_low M n i h = least-low M _ (λ b. b.y - (nth n i).y) n 0 (all-by (Within M) (λ (b : Node). b.y - (nth n i).y ≤ M) n (λ b k. (let y = k.1 in omega arith)) h)
 
-prev-low : (M : ℕ) (n : List Node) (i : ℕ) → (nth n i).y ≤ M → All (Within M) n → prevGap n i ≤ M
-unfolding prevGap
+prev-low : (M : ℕ) (n : List Node) (i : ℕ) → (nth n i).y ≤ M → All (Within M) n → prev_gap n i ≤ M
+unfolding prev_gap
 prev-low M n i q h = least-low M _ (λ b. (nth n i).y - b.y) n 0 (all-by (Within M) (λ (b : Node). (nth n i).y - b.y ≤ M) n (λ b k. omega arith) h)
 
 nth-within : (M : ℕ) (n : List Node) → All (Within M) n → (i : ℕ) → Within M (nth n i)
@@ -276,7 +276,7 @@ module _ (M : ℕ) (n : List Node) (low : All (Within M) n) where
   gap-low Way.right i = next_low M (map turned n) i turned-low
   gap-low Way.left i = prev-low M (map turned n) i (nth-within M (map turned n) turned-low i).1 turned-low
 
-  size_low : (w : Way) (c : Patch) → size_of w (boxOf n c) ≤ M
+  size_low : (w : Way) (c : Patch) → size_of w (box_of n c) ≤ M
   size_low Way.up c = omega (arith, (nth-low c.ne).1)
   size_low Way.down c = omega (arith, (nth-low c.ne).1)
   size_low Way.right c = omega (arith, (nth-low c.ne).0)
@@ -285,9 +285,9 @@ module _ (M : ℕ) (n : List Node) (low : All (Within M) n) where
   hung-low : (w : Way) (i : ℕ) (cs : List Patch) → hung w n i cs ≤ M
   unfolding hung
   hung-low w i [] = omega arith
-  hung-low w i (c ∷ cs) = go (is_last n (hangsAt w n c) i) (hung-low w i cs)
+  hung-low w i (c ∷ cs) = go (is_last n (hangs_at w n c) i) (hung-low w i cs)
     where
-      go : (z : Bool) → hung w n i cs ≤ M → ◌≤◌ (elim z [ true ↦ max (size_of w (boxOf n c)) (hung w n i cs) | false ↦ hung w n i cs ]) M
+      go : (z : Bool) → hung w n i cs ≤ M → ◌≤◌ (elim z [ true ↦ max (size_of w (box_of n c)) (hung w n i cs) | false ↦ hung w n i cs ]) M
       go true r = omega (arith, size_low w c)
       go false r = r
 
@@ -299,7 +299,7 @@ module _ (M : ℕ) (n : List Node) (low : All (Within M) n) where
   unfolding face
   face-low cs e = go (flat n e)
     where
-      go : (z : Bool) → ◌≤◌ (elim z [ true ↦ lesserOf Way.up n cs e + lesserOf Way.down n cs e | false ↦ lesserOf Way.right n cs e + lesserOf Way.left n cs e ]) (M + M)
+      go : (z : Bool) → ◌≤◌ (elim z [ true ↦ lesser_of Way.up n cs e + lesser_of Way.down n cs e | false ↦ lesser_of Way.right n cs e + lesser_of Way.left n cs e ]) (M + M)
       go true = omega (arith, extent-low Way.up cs e.a, extent-low Way.down cs e.a)
       go false = omega (arith, extent-low Way.right cs e.a, extent-low Way.left cs e.a)
 
@@ -316,5 +316,5 @@ module _ (M : ℕ) (n : List Node) (low : All (Within M) n) where
   unfolding weighed
   weighed-proper m cs es s p =
       all-map-by Proper Proper (weighed n cs) es
-      (λ e h. weight-proper e.g (face n cs e) (distance n e) (sheetOf cs e.a e.b) h (omega (arith, face-low cs e)) (omega (arith, distance-low e))
+      (λ e h. weight-proper e.g (face n cs e) (distance n e) (sheet_of cs e.a e.b) h (omega (arith, face-low cs e)) (omega (arith, distance-low e))
       (sheet-holds (λ s. T (positive s)) cs e.a e.b s)) p

@@ -9,58 +9,58 @@ use lib.Dec.{ltb, leb}
 use lib.ListN.{length, length-append, length-map}
 use borrow.Author.Tests.{lt-ltb, le-ltb, le-leb, lt-leb, ltb-true, leb-true}
 use Rattle.cell.specs.Boxes.{Box}
-use Rattle.net.specs.Net.{Poly, Piece, oneIf}
-use Rattle.net.specs.Flat.{Leaf, leaf, leafAt, noLeaf, leavesFrom}
+use Rattle.net.specs.Net.{Poly, Piece, one_if}
+use Rattle.net.specs.Flat.{Leaf, leaf, leaf_at, no_leaf, leaves_from}
 use Rattle.net.proofs.Find.{order}
 use Rattle.net.proofs.Keys.{bool-ext, both, both_of}
 use Rattle.net.proofs.All.{All, all_append, all-by}
 use Rattle.net.proofs.Flat.{Upto}
 
 -- the leaves of the polygons up to k
-unfoldable pub countUp : List Leaf → ℕ → ℕ
-countUp [] k = 0
-countUp (x ∷ xs) k = oneIf (leb x.piece k) + countUp xs k
+unfoldable pub count_up : List Leaf → ℕ → ℕ
+count_up [] k = 0
+count_up (x ∷ xs) k = one_if (leb x.piece k) + count_up xs k
 
-count-append : (a b : List Leaf) (k : ℕ) → countUp (a ++ b) k ≡ countUp a k + countUp b k
-unfolding countUp
+count-append : (a b : List Leaf) (k : ℕ) → count_up (a ++ b) k ≡ count_up a k + count_up b k
+unfolding count_up
 count-append [] b k = omega arith
 count-append (x ∷ a) b k = omega (arith, count-append a b k)
 
-count-all : (a : List Leaf) (k : ℕ) → All (λ (x : Leaf). x.piece ≤ k) a → countUp a k ≡ length a
-unfolding countUp All
+count-all : (a : List Leaf) (k : ℕ) → All (λ (x : Leaf). x.piece ≤ k) a → count_up a k ≡ length a
+unfolding count_up All
 count-all [] k h = refl
-count-all (x ∷ a) k h = omega (arith, ap oneIf (le-leb x.piece k h.0), count-all a k h.1)
+count-all (x ∷ a) k h = omega (arith, ap one_if (le-leb x.piece k h.0), count-all a k h.1)
 
-count_none : (a : List Leaf) (k : ℕ) → All (λ (x : Leaf). k < x.piece) a → countUp a k ≡ 0
-unfolding countUp All
+count_none : (a : List Leaf) (k : ℕ) → All (λ (x : Leaf). k < x.piece) a → count_up a k ≡ 0
+unfolding count_up All
 count_none [] k h = refl
-count_none (x ∷ a) k h = omega (arith, ap oneIf (lt-leb x.piece k h.0), count_none a k h.1)
+count_none (x ∷ a) k h = omega (arith, ap one_if (lt-leb x.piece k h.0), count_none a k h.1)
 
 of-piece : (k : ℕ) (p : Poly) (rs : List Box) (Q : ℕ → Type 0) → Q k → All (λ (x : Leaf). Q x.piece) (map (leaf k p) rs)
 unfolding All
 of-piece k p [] Q q = tt
 of-piece k p (r ∷ rs) Q q = (q, of-piece k p rs Q q)
 
-from-piece : (qs : List Piece) (k : ℕ) (m : ℕ) → m ≤ k → All (λ (x : Leaf). m ≤ x.piece) (leavesFrom qs k)
-unfolding leavesFrom All
+from-piece : (qs : List Piece) (k : ℕ) (m : ℕ) → m ≤ k → All (λ (x : Leaf). m ≤ x.piece) (leaves_from qs k)
+unfolding leaves_from All
 from-piece [] k m h = tt
-from-piece (q ∷ qs) k m h = all_append (λ (x : Leaf). m ≤ x.piece) (map (leaf k q.poly) q.leaves) (leavesFrom qs (suc k)) (of-piece k q.poly q.leaves (λ z. m ≤ z) h) (from-piece qs (suc k) m (omega arith))
+from-piece (q ∷ qs) k m h = all_append (λ (x : Leaf). m ≤ x.piece) (map (leaf k q.poly) q.leaves) (leaves_from qs (suc k)) (of-piece k q.poly q.leaves (λ z. m ≤ z) h) (from-piece qs (suc k) m (omega arith))
 
 -- the polygons from k on, behind leaves of those before
-upto_from : (done : List Leaf) (qs : List Piece) (k : ℕ) → All (λ (x : Leaf). x.piece < k) done → (full : List Leaf) → full ≡ done ++ leavesFrom qs k → Upto (countUp full) (length done) qs k
-unfolding Upto leavesFrom
+upto_from : (done : List Leaf) (qs : List Piece) (k : ℕ) → All (λ (x : Leaf). x.piece < k) done → (full : List Leaf) → full ≡ done ++ leaves_from qs k → Upto (count_up full) (length done) qs k
+unfolding Upto leaves_from
 upto_from done [] k h full e = tt
 upto_from done (q ∷ qs) k h full e = (
-  ap (λ (z : List Leaf). countUp z k) e
-      ∙ (count-append done (map (leaf k q.poly) q.leaves ++ leavesFrom qs (suc k)) k
-      ∙ omega (arith, count-append (map (leaf k q.poly) q.leaves) (leavesFrom qs (suc k)) k, count-all done k (all-by (λ (x : Leaf). x.piece < k) (λ (x : Leaf). x.piece ≤ k) done (λ x p. omega arith) h), count-all (map (leaf k q.poly) q.leaves) k (of-piece k q.poly q.leaves (λ z. z ≤ k) (omega arith)), count_none (leavesFrom qs (suc k)) k (from-piece qs (suc k) (suc k) (omega arith)), length-map q.leaves (leaf k q.poly))),
-  subst (λ (n : ℕ). Upto (countUp full) n qs (suc k)) (length-append done (map (leaf k q.poly) q.leaves) ∙ ap (λ (n : ℕ). length done + n) (length-map q.leaves (leaf k q.poly)))
+  ap (λ (z : List Leaf). count_up z k) e
+      ∙ (count-append done (map (leaf k q.poly) q.leaves ++ leaves_from qs (suc k)) k
+      ∙ omega (arith, count-append (map (leaf k q.poly) q.leaves) (leaves_from qs (suc k)) k, count-all done k (all-by (λ (x : Leaf). x.piece < k) (λ (x : Leaf). x.piece ≤ k) done (λ x p. omega arith) h), count-all (map (leaf k q.poly) q.leaves) k (of-piece k q.poly q.leaves (λ z. z ≤ k) (omega arith)), count_none (leaves_from qs (suc k)) k (from-piece qs (suc k) (suc k) (omega arith)), length-map q.leaves (leaf k q.poly))),
+  subst (λ (n : ℕ). Upto (count_up full) n qs (suc k)) (length-append done (map (leaf k q.poly) q.leaves) ∙ ap (λ (n : ℕ). length done + n) (length-map q.leaves (leaf k q.poly)))
       (upto_from (done ++ map (leaf k q.poly) q.leaves) qs (suc k) (all_append (λ (x : Leaf). x.piece < suc k) done (map (leaf k q.poly) q.leaves) (all-by (λ (x : Leaf). x.piece < k) (λ (x : Leaf). x.piece < suc k) done (λ x p. omega arith) h) (of-piece k q.poly q.leaves (λ z. z < suc k) (omega arith))) full
-      (e ∙ sym (append_assoc done (map (leaf k q.poly) q.leaves) (leavesFrom qs (suc k))))),
+      (e ∙ sym (append_assoc done (map (leaf k q.poly) q.leaves) (leaves_from qs (suc k))))),
 )
 
-pub upto_all : (qs : List Piece) → Upto (countUp (leavesFrom qs 0)) 0 qs 0
-upto_all qs = upto_from [] qs 0 (unfold All in tt) (leavesFrom qs 0) refl
+pub upto_all : (qs : List Piece) → Upto (count_up (leaves_from qs 0)) 0 qs 0
+upto_all qs = upto_from [] qs 0 (unfold All in tt) (leaves_from qs 0) refl
 
 -- a list that rises from m on
 unfoldable pub Rising : ℕ → List Leaf → Type 0
@@ -73,12 +73,12 @@ rising-piece k m p [] [] h r = tt
 rising-piece k m p [] (x ∷ xs) h r = let a = r.0 in (omega arith, r.1)
 rising-piece k m p (b ∷ rs) rest h r = (h, rising-piece k k p rs rest (omega arith) r)
 
-pub rising-from : (qs : List Piece) (k m : ℕ) → m ≤ k → Rising m (leavesFrom qs k)
-unfolding Rising leavesFrom
+pub rising-from : (qs : List Piece) (k m : ℕ) → m ≤ k → Rising m (leaves_from qs k)
+unfolding Rising leaves_from
 rising-from [] k m h = tt
-rising-from (q ∷ qs) k m h = rising-piece k m q.poly q.leaves (leavesFrom qs (suc k)) h (rising-from qs (suc k) k (omega arith))
+rising-from (q ∷ qs) k m h = rising-piece k m q.poly q.leaves (leaves_from qs (suc k)) h (rising-from qs (suc k) k (omega arith))
 
-rising-at : (m : ℕ) (xs : List Leaf) (u : ℕ) → Rising m xs → u < length xs → m ≤ (leafAt xs u).piece
+rising-at : (m : ℕ) (xs : List Leaf) (u : ℕ) → Rising m xs → u < length xs → m ≤ (leaf_at xs u).piece
 unfolding Rising
 rising-at m [] u r h = absurd (omega arith)
 rising-at m (x ∷ xs) zero r h = r.0
@@ -90,19 +90,19 @@ over k [] m r h = tt
 over k (y ∷ ys) m r h = let a = r.0 in (omega arith, over k ys y.piece r.1 (omega arith))
 
 -- the leaf u is of a polygon up to k if it is one of so many
-pub so-many : (xs : List Leaf) (m k u : ℕ) → Rising m xs → ltb u (countUp xs k) ≡ (ltb u (length xs) && leb (leafAt xs u).piece k)
-unfolding countUp Rising
-so-many [] m k u r = le-ltb u 0 (omega arith) ∙ sym (ap (λ (b : Bool). b && leb noLeaf.piece k) (le-ltb u 0 (omega arith)))
+pub so-many : (xs : List Leaf) (m k u : ℕ) → Rising m xs → ltb u (count_up xs k) ≡ (ltb u (length xs) && leb (leaf_at xs u).piece k)
+unfolding count_up Rising
+so-many [] m k u r = le-ltb u 0 (omega arith) ∙ sym (ap (λ (b : Bool). b && leb no_leaf.piece k) (le-ltb u 0 (omega arith)))
 so-many (x ∷ xs) m k u r =
     ⊎_elim
     (λ (h : k < x.piece).
-    bool-ext (ltb u (oneIf (leb x.piece k) + countUp xs k)) (ltb u (suc (length xs)) && leb (leafAt (x ∷ xs) u).piece k)
-    (λ e. (let p = ltb-true u (oneIf (leb x.piece k) + countUp xs k) e in
+    bool-ext (ltb u (one_if (leb x.piece k) + count_up xs k)) (ltb u (suc (length xs)) && leb (leaf_at (x ∷ xs) u).piece k)
+    (λ e. (let p = ltb-true u (one_if (leb x.piece k) + count_up xs k) e in
     let z = count_none xs k (over k xs x.piece r.1 h) in
-    absurd (omega (arith, ap oneIf (lt-leb x.piece k h)))))
-    (λ e. (let t = both (ltb u (suc (length xs))) (leb (leafAt (x ∷ xs) u).piece k) e in
+    absurd (omega (arith, ap one_if (lt-leb x.piece k h)))))
+    (λ e. (let t = both (ltb u (suc (length xs))) (leb (leaf_at (x ∷ xs) u).piece k) e in
     let p = ltb-true u (suc (length xs)) t.0 in
-    let q = leb-true (leafAt (x ∷ xs) u).piece k t.1 in
+    let q = leb-true (leaf_at (x ∷ xs) u).piece k t.1 in
     let a = rising-at x.piece (x ∷ xs) u (own r.1) p in
     absurd (omega arith))))
     (λ (h : x.piece ≤ k). within u (le-leb x.piece k h) (λ v. so-many xs x.piece k v r.1))
@@ -111,23 +111,23 @@ so-many (x ∷ xs) m k u r =
     own : Rising x.piece xs → Rising x.piece (x ∷ xs)
     own s = (omega arith, s)
 
-    within : (u : ℕ) → leb x.piece k ≡ true → ((v : ℕ) → ltb v (countUp xs k) ≡ (ltb v (length xs) && leb (leafAt xs v).piece k)) → ltb u (oneIf (leb x.piece k) + countUp xs k) ≡ (ltb u (suc (length xs)) && leb (leafAt (x ∷ xs) u).piece k)
-    within zero e ih = rw (e, lt-ltb 0 (1 + countUp xs k) (omega arith), lt-ltb 0 (suc (length xs)) (omega arith))
+    within : (u : ℕ) → leb x.piece k ≡ true → ((v : ℕ) → ltb v (count_up xs k) ≡ (ltb v (length xs) && leb (leaf_at xs v).piece k)) → ltb u (one_if (leb x.piece k) + count_up xs k) ≡ (ltb u (suc (length xs)) && leb (leaf_at (x ∷ xs) u).piece k)
+    within zero e ih = rw (e, lt-ltb 0 (1 + count_up xs k) (omega arith), lt-ltb 0 (suc (length xs)) (omega arith))
     within (suc u) e ih =
         rw e
-        (bool-ext (ltb (suc u) (1 + countUp xs k)) (ltb (suc u) (suc (length xs)) && leb (leafAt xs u).piece k)
-        (λ p. (let a = ltb-true (suc u) (1 + countUp xs k) p in
-        let b = both (ltb u (length xs)) (leb (leafAt xs u).piece k) (sym (ih u) ∙ lt-ltb u (countUp xs k) (omega arith)) in
+        (bool-ext (ltb (suc u) (1 + count_up xs k)) (ltb (suc u) (suc (length xs)) && leb (leaf_at xs u).piece k)
+        (λ p. (let a = ltb-true (suc u) (1 + count_up xs k) p in
+        let b = both (ltb u (length xs)) (leb (leaf_at xs u).piece k) (sym (ih u) ∙ lt-ltb u (count_up xs k) (omega arith)) in
         let d = ltb-true u (length xs) b.0 in
-        both_of (ltb (suc u) (suc (length xs))) (leb (leafAt xs u).piece k) (lt-ltb (suc u) (suc (length xs)) (omega arith)) b.1))
-        (λ p. (let t = both (ltb (suc u) (suc (length xs))) (leb (leafAt xs u).piece k) p in
+        both_of (ltb (suc u) (suc (length xs))) (leb (leaf_at xs u).piece k) (lt-ltb (suc u) (suc (length xs)) (omega arith)) b.1))
+        (λ p. (let t = both (ltb (suc u) (suc (length xs))) (leb (leaf_at xs u).piece k) p in
         let a = ltb-true (suc u) (suc (length xs)) t.0 in
-        let b = ltb-true u (countUp xs k) (ih u ∙ both_of (ltb u (length xs)) (leb (leafAt xs u).piece k) (lt-ltb u (length xs) (omega arith)) t.1) in
-        lt-ltb (suc u) (1 + countUp xs k) (omega arith))))
+        let b = ltb-true u (count_up xs k) (ih u ∙ both_of (ltb u (length xs)) (leb (leaf_at xs u).piece k) (lt-ltb u (length xs) (omega arith)) t.1) in
+        lt-ltb (suc u) (1 + count_up xs k) (omega arith))))
 
 -- four places to a leaf
-pub so-far-four : (xs : List Leaf) (m k f : ℕ) → Rising m xs → ltb f (4 * countUp xs k) ≡ (ltb f (4 * length xs) && leb (leafAt xs (f / 4)).piece k)
-so-far-four xs m k f r = quarter f (countUp xs k) ∙ (so-many xs m k (f / 4) r ∙ ap (λ (b : Bool). b && leb (leafAt xs (f / 4)).piece k) (sym (quarter f (length xs))))
+pub so-far-four : (xs : List Leaf) (m k f : ℕ) → Rising m xs → ltb f (4 * count_up xs k) ≡ (ltb f (4 * length xs) && leb (leaf_at xs (f / 4)).piece k)
+so-far-four xs m k f r = quarter f (count_up xs k) ∙ (so-many xs m k (f / 4) r ∙ ap (λ (b : Bool). b && leb (leaf_at xs (f / 4)).piece k) (sym (quarter f (length xs))))
   where
     quarter : (f n : ℕ) → ltb f (4 * n) ≡ ltb (f / 4) n
     quarter f n = bool-ext (ltb f (4 * n)) (ltb (f / 4) n) (λ e. let p = ltb-true f (4 * n) e in lt-ltb (f / 4) n (omega arith)) (λ e. let p = ltb-true (f / 4) n e in lt-ltb f (4 * n) (omega arith))

@@ -1,4 +1,4 @@
--- Boards, with the net that the oracle (the original Rust, and document 01 read on its own) makes of each; coordinates are 2 ^ 36 more than
+-- Boards, with the net that the oracle (the original Rust, and the rules read on its own) makes of each; coordinates are 2 ^ 36 more than
 -- the oracle's. And the test that the definitions make the same, number for number and bit for bit.
 use Rattle.std.specs.Prelude.{Bool, true, false, ◌&&◌, List, [], ◌∷◌, map, ℕ, eqb}
 use Rattle.std.proofs.Math.Option.{Option, none, some}
@@ -30,14 +30,14 @@ abbrev edge : ℕ → ℕ → ℕ → List ℕ
 edge a b g = a ∷ b ∷ g ∷ []
 
 -- a net in numbers
-abbrev ofNode : Node → List ℕ
-ofNode n = node n.layer n.component n.x n.y
+abbrev of_node : Node → List ℕ
+of_node n = node n.layer n.component n.x n.y
 
-abbrev ofPatch : Patch → List ℕ
-ofPatch c = patch c.sw c.se c.ne c.nw (to_bits binary64 c.sheet)
+abbrev of_patch : Patch → List ℕ
+of_patch c = patch c.sw c.se c.ne c.nw (to_bits binary64 c.sheet)
 
-abbrev ofEdge : Edge → List ℕ
-ofEdge e = edge e.a e.b (to_bits binary64 e.g)
+abbrev of_edge : Edge → List ℕ
+of_edge e = edge e.a e.b (to_bits binary64 e.g)
 
 unfoldable pub alike : List ℕ → List ℕ → Bool
 alike [] [] = true
@@ -45,20 +45,20 @@ alike [] (y ∷ ys) = false
 alike (x ∷ xs) [] = false
 alike (x ∷ xs) (y ∷ ys) = eqb x y && alike xs ys
 
-unfoldable pub allAlike : List (List ℕ) → List (List ℕ) → Bool
-allAlike [] [] = true
-allAlike [] (y ∷ ys) = false
-allAlike (x ∷ xs) [] = false
-allAlike (x ∷ xs) (y ∷ ys) = alike x y && allAlike xs ys
+unfoldable pub all_alike : List (List ℕ) → List (List ℕ) → Bool
+all_alike [] [] = true
+all_alike [] (y ∷ ys) = false
+all_alike (x ∷ xs) [] = false
+all_alike (x ∷ xs) (y ∷ ys) = alike x y && all_alike xs ys
 
 unfoldable pub agrees : Board → Net → Bool
-agrees b n = allAlike (map ofNode n.nodes) b.nodes && (allAlike (map ofPatch n.patches) b.patches && allAlike (map ofEdge n.edges) b.edges)
+agrees b n = all_alike (map of_node n.nodes) b.nodes && (all_alike (map of_patch n.patches) b.patches && all_alike (map of_edge n.edges) b.edges)
 
-unfoldable pub allAgree : List Board → Bool
-allAgree [] = true
-allAgree (b ∷ bs) = agrees b (network b.cells b.polys) && allAgree bs
+unfoldable pub all_agree : List Board → Bool
+all_agree [] = true
+all_agree (b ∷ bs) = agrees b (network b.cells b.polys) && all_agree bs
 
--- document 01's worked example
+-- the rules' worked example
 unfoldable pub worked : Board
 worked = record {
   cells =

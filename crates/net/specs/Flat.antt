@@ -1,8 +1,8 @@
 -- The leaves of all polygons in one list, and the net before the weights by indices into it: what rows of numbers hold. Definitions only.
 use Rattle.std.specs.Prelude.{Bool, true, false, List, [], ◌∷◌, ◌++◌, map, ℕ, zero, suc, ◌+◌, ◌*◌, ltb, Float, get_or}
 use Rattle.cell.specs.Boxes.{Box, mid}
-use Rattle.net.specs.Net.{each, Poly, Node, Edge, Patch, Piece, cornersAt, across, upright, One, Half, ◌·◌, ◌÷◌}
-use Rattle.net.specs.First.{first_of, numberBy, patchBy, midsAt, Part, part}
+use Rattle.net.specs.Net.{each, Poly, Node, Edge, Patch, Piece, corners_at, across, upright, One, Half, ◌·◌, ◌÷◌}
+use Rattle.net.specs.First.{first_of, number_by, patch_by, mids_at, Part, part}
 
 -- a leaf, with its polygon and its polygon's index
 pub record Leaf : Type 0 where
@@ -14,78 +14,78 @@ abbrev pub leaf : ℕ → Poly → Box → Leaf
 leaf k p r = record { piece = k; poly = p; box = r }
 
 -- the leaf past the end
-abbrev pub noLeaf : Leaf
-noLeaf = leaf 0 (record { layer = 0; component = 0; sheet = One }) (record { x0 = 0; y0 = 0; x1 = 0; y1 = 0 })
+abbrev pub no_leaf : Leaf
+no_leaf = leaf 0 (record { layer = 0; component = 0; sheet = One }) (record { x0 = 0; y0 = 0; x1 = 0; y1 = 0 })
 
-abbrev pub leafAt : List Leaf → ℕ → Leaf
-leafAt ls v = get_or ls v noLeaf
+abbrev pub leaf_at : List Leaf → ℕ → Leaf
+leaf_at ls v = get_or ls v no_leaf
 
 -- the leaves of the polygons from k on
-unfoldable pub leavesFrom : List Piece → ℕ → List Leaf
-leavesFrom [] k = []
-leavesFrom (q ∷ qs) k = map (leaf k q.poly) q.leaves ++ leavesFrom qs (suc k)
+unfoldable pub leaves_from : List Piece → ℕ → List Leaf
+leaves_from [] k = []
+leaves_from (q ∷ qs) k = map (leaf k q.poly) q.leaves ++ leaves_from qs (suc k)
 
 -- the places of one leaf: 0 to 3 the corners SW, SE, NE, NW, 4 to 7 the middles of its south, north, west and east sides
-abbrev pub placeX : Box → ℕ → ℕ
-placeX r zero = r.x0
-placeX r (suc zero) = r.x1
-placeX r (suc (suc zero)) = r.x1
-placeX r (suc (suc (suc zero))) = r.x0
-placeX r (suc (suc (suc (suc zero)))) = mid r.x0 r.x1
-placeX r (suc (suc (suc (suc (suc zero))))) = mid r.x0 r.x1
-placeX r (suc (suc (suc (suc (suc (suc zero)))))) = r.x0
-placeX r (suc (suc (suc (suc (suc (suc (suc s))))))) = r.x1
+abbrev pub place_x : Box → ℕ → ℕ
+place_x r zero = r.x0
+place_x r (suc zero) = r.x1
+place_x r (suc (suc zero)) = r.x1
+place_x r (suc (suc (suc zero))) = r.x0
+place_x r (suc (suc (suc (suc zero)))) = mid r.x0 r.x1
+place_x r (suc (suc (suc (suc (suc zero))))) = mid r.x0 r.x1
+place_x r (suc (suc (suc (suc (suc (suc zero)))))) = r.x0
+place_x r (suc (suc (suc (suc (suc (suc (suc s))))))) = r.x1
 
-abbrev pub placeY : Box → ℕ → ℕ
-placeY r zero = r.y0
-placeY r (suc zero) = r.y0
-placeY r (suc (suc zero)) = r.y1
-placeY r (suc (suc (suc zero))) = r.y1
-placeY r (suc (suc (suc (suc zero)))) = r.y0
-placeY r (suc (suc (suc (suc (suc zero))))) = r.y1
-placeY r (suc (suc (suc (suc (suc (suc zero)))))) = mid r.y0 r.y1
-placeY r (suc (suc (suc (suc (suc (suc (suc s))))))) = mid r.y0 r.y1
+abbrev pub place_y : Box → ℕ → ℕ
+place_y r zero = r.y0
+place_y r (suc zero) = r.y0
+place_y r (suc (suc zero)) = r.y1
+place_y r (suc (suc (suc zero))) = r.y1
+place_y r (suc (suc (suc (suc zero)))) = r.y0
+place_y r (suc (suc (suc (suc (suc zero))))) = r.y1
+place_y r (suc (suc (suc (suc (suc (suc zero)))))) = mid r.y0 r.y1
+place_y r (suc (suc (suc (suc (suc (suc (suc s))))))) = mid r.y0 r.y1
 
-abbrev pub cornersIn : Leaf → List Node
-cornersIn l = cornersAt l.poly l.box
+abbrev pub corners_in : Leaf → List Node
+corners_in l = corners_at l.poly l.box
 
-abbrev pub midsIn : Leaf → List Node
-midsIn l = midsAt l.poly l.box
+abbrev pub mids_in : Leaf → List Node
+mids_in l = mids_at l.poly l.box
 
 -- the corners of all leaves, and behind them the middles
-unfoldable pub flatPlaces : List Leaf → List Node
-flatPlaces ls = each cornersIn ls ++ each midsIn ls
+unfoldable pub flat_places : List Leaf → List Node
+flat_places ls = each corners_in ls ++ each mids_in ls
 
 -- ---- the parts of edges, eight to a leaf: a side in halves, or the whole side twice, of which the second is never the first
 
-abbrev pub pickNum : Bool → ℕ → ℕ → ℕ
-pickNum true a b = a
-pickNum false a b = b
+abbrev pub pick_num : Bool → ℕ → ℕ → ℕ
+pick_num true a b = a
+pick_num false a b = b
 
-abbrev pub pickFloat : Bool → Float → Float → Float
-pickFloat true a b = a
-pickFloat false a b = b
+abbrev pub pick_float : Bool → Float → Float → Float
+pick_float true a b = a
+pick_float false a b = b
 
 -- a side from the place a to the place b, with the middle m, that has the resistance r
-abbrev pub sideTwice : List ℕ → Bool → ℕ → ℕ → ℕ → Float → List Edge
-sideTwice ks hit a m b r =
-    record { a = numberBy ks a; b = pickNum hit (numberBy ks m) (numberBy ks b); g = pickFloat hit (One ÷ (r · Half)) (One ÷ r) }
-    ∷ record { a = pickNum hit (numberBy ks m) (numberBy ks a); b = numberBy ks b; g = pickFloat hit (One ÷ (r · Half)) (One ÷ r) } ∷ []
+abbrev pub side_twice : List ℕ → Bool → ℕ → ℕ → ℕ → Float → List Edge
+side_twice ks hit a m b r =
+    record { a = number_by ks a; b = pick_num hit (number_by ks m) (number_by ks b); g = pick_float hit (One ÷ (r · Half)) (One ÷ r) }
+    ∷ record { a = pick_num hit (number_by ks m) (number_by ks a); b = number_by ks b; g = pick_float hit (One ÷ (r · Half)) (One ÷ r) } ∷ []
 
 unfoldable pub slots_by : List ℕ → ℕ → ℕ → ℕ → Float → Float → List Edge
 slots_by ks n c m f t =
-    sideTwice ks (ltb (first_of ks m) n) c m (c + 1) f
-    ++ (sideTwice ks (ltb (first_of ks (m + 1)) n) (c + 3) (m + 1) (c + 2) f
-    ++ (sideTwice ks (ltb (first_of ks (m + 2)) n) c (m + 2) (c + 3) t
-    ++ sideTwice ks (ltb (first_of ks (m + 3)) n) (c + 1) (m + 3) (c + 2) t))
+    side_twice ks (ltb (first_of ks m) n) c m (c + 1) f
+    ++ (side_twice ks (ltb (first_of ks (m + 1)) n) (c + 3) (m + 1) (c + 2) f
+    ++ (side_twice ks (ltb (first_of ks (m + 2)) n) c (m + 2) (c + 3) t
+    ++ side_twice ks (ltb (first_of ks (m + 3)) n) (c + 1) (m + 3) (c + 2) t))
 
 -- of the leaves from t on, where there are z in all, and `up k` in the polygons up to k
-unfoldable pub flatSlots : List ℕ → ℕ → (ℕ → ℕ) → ℕ → List Leaf → List Part
-flatSlots ks z up t [] = []
-flatSlots ks z up t (l ∷ ls) =
+unfoldable pub flat_slots : List ℕ → ℕ → (ℕ → ℕ) → ℕ → List Leaf → List Part
+flat_slots ks z up t [] = []
+flat_slots ks z up t (l ∷ ls) =
     map (part l.piece) (slots_by ks (4 * up l.piece) (4 * t) (4 * z + 4 * t) (across l.poly l.box) (upright l.poly l.box))
-    ++ flatSlots ks z up (suc t) ls
+    ++ flat_slots ks z up (suc t) ls
 
-unfoldable pub flatPatches : List ℕ → ℕ → List Leaf → List Patch
-flatPatches ks t [] = []
-flatPatches ks t (l ∷ ls) = patchBy ks (4 * t) l.poly.sheet ∷ flatPatches ks (suc t) ls
+unfoldable pub flat_patches : List ℕ → ℕ → List Leaf → List Patch
+flat_patches ks t [] = []
+flat_patches ks t (l ∷ ls) = patch_by ks (4 * t) l.poly.sheet ∷ flat_patches ks (suc t) ls

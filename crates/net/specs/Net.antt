@@ -1,4 +1,4 @@
--- The net of a table of leaves: nodes, cells, edges and weights, by document 01's "The net". Coordinates are whole ticks, from 0 up;
+-- The net of a table of leaves: nodes, cells, edges and weights, by the rules' "The net". Coordinates are whole ticks, from 0 up;
 -- extents and faces are whole half ticks. Nothing is sorted and nothing is looked up: each rule goes through the whole list. Definitions only.
 use Rattle.std.specs.Prelude.{Bool, true, false, ◌&&◌, ◌||◌, not, List, [], ◌∷◌, ◌++◌, map, ◌≡◌, ℕ, suc, ◌+◌, ◌-◌, ◌<◌, min, max, ltb, eqb, length, get_or, drop, pos, Float}
 use Rattle.std.proofs.Math.Option.{Option, none, some}
@@ -60,14 +60,14 @@ pub record Net : Type 0 where
   pub patches : List Patch
   pub edges : List Edge
 
-abbrev pub sameNode : Node → Node → Bool
-sameNode m n = eqb m.layer n.layer && (eqb m.component n.component && (eqb m.x n.x && eqb m.y n.y))
+abbrev pub same_node : Node → Node → Bool
+same_node m n = eqb m.layer n.layer && (eqb m.component n.component && (eqb m.x n.x && eqb m.y n.y))
 
-abbrev pub pairIs : ℕ → ℕ → ℕ → ℕ → Bool
-pairIs a b c d = (eqb a c && eqb b d) || (eqb a d && eqb b c)
+abbrev pub pair_is : ℕ → ℕ → ℕ → ℕ → Bool
+pair_is a b c d = (eqb a c && eqb b d) || (eqb a d && eqb b c)
 
 abbrev pub same_pair : Edge → Edge → Bool
-same_pair e f = pairIs e.a e.b f.a f.b
+same_pair e f = pair_is e.a e.b f.a f.b
 
 -- ---- polygons and their leaves, by id
 
@@ -75,50 +75,50 @@ pub record Piece : Type 0 where
   pub poly : Poly
   pub leaves : List Box
 
-unfoldable pub leavesOf : List Cell → ℕ → List Box
-leavesOf [] k = []
-leavesOf (c ∷ cs) k = elim (is_none c.kids && eqb c.polygon k) [ true ↦ c.box ∷ leavesOf cs k | false ↦ leavesOf cs k ]
+unfoldable pub leaves_of : List Cell → ℕ → List Box
+leaves_of [] k = []
+leaves_of (c ∷ cs) k = elim (is_none c.kids && eqb c.polygon k) [ true ↦ c.box ∷ leaves_of cs k | false ↦ leaves_of cs k ]
 
 -- the polygons ps, the first of which has the index k
 unfoldable pub pieces : List Cell → List Poly → ℕ → List Piece
 pieces t [] k = []
-pieces t (p ∷ ps) k = record { poly = p; leaves = leavesOf t k } ∷ pieces t ps (suc k)
+pieces t (p ∷ ps) k = record { poly = p; leaves = leaves_of t k } ∷ pieces t ps (suc k)
 
 -- ---- nodes
 
-abbrev pub nodeAt : Poly → ℕ → ℕ → Node
-nodeAt p x y = record { layer = p.layer; component = p.component; x = x; y = y }
+abbrev pub node_at : Poly → ℕ → ℕ → Node
+node_at p x y = record { layer = p.layer; component = p.component; x = x; y = y }
 
-abbrev pub swOf : Poly → Box → Node
-swOf p r = nodeAt p r.x0 r.y0
+abbrev pub sw_of : Poly → Box → Node
+sw_of p r = node_at p r.x0 r.y0
 
-abbrev pub seOf : Poly → Box → Node
-seOf p r = nodeAt p r.x1 r.y0
+abbrev pub se_of : Poly → Box → Node
+se_of p r = node_at p r.x1 r.y0
 
-abbrev pub neOf : Poly → Box → Node
-neOf p r = nodeAt p r.x1 r.y1
+abbrev pub ne_of : Poly → Box → Node
+ne_of p r = node_at p r.x1 r.y1
 
-abbrev pub nwOf : Poly → Box → Node
-nwOf p r = nodeAt p r.x0 r.y1
+abbrev pub nw_of : Poly → Box → Node
+nw_of p r = node_at p r.x0 r.y1
 
-abbrev pub cornersAt : Poly → Box → List Node
-cornersAt p r = swOf p r ∷ seOf p r ∷ neOf p r ∷ nwOf p r ∷ []
+abbrev pub corners_at : Poly → Box → List Node
+corners_at p r = sw_of p r ∷ se_of p r ∷ ne_of p r ∷ nw_of p r ∷ []
 
-unfoldable pub cornersOf : Piece → List Node
-cornersOf q = each (cornersAt q.poly) q.leaves
+unfoldable pub corners_of : Piece → List Node
+corners_of q = each (corners_at q.poly) q.leaves
 
 -- the nodes, once the pieces are added to the nodes n
-unfoldable pub nodesFrom : List Node → List Piece → List Node
-nodesFrom n [] = n
-nodesFrom n (q ∷ qs) = nodesFrom (weld sameNode n (cornersOf q)) qs
+unfoldable pub nodes_from : List Node → List Piece → List Node
+nodes_from n [] = n
+nodes_from n (q ∷ qs) = nodes_from (weld same_node n (corners_of q)) qs
 
 -- ---- cells and edges, by the nodes so far
 
 abbrev pub number : List Node → Node → ℕ
-number n m = find sameNode n m
+number n m = find same_node n m
 
-abbrev pub patchAt : List Node → Poly → Box → Patch
-patchAt n p r = record { sw = number n (swOf p r); se = number n (seOf p r); ne = number n (neOf p r); nw = number n (nwOf p r); sheet = p.sheet }
+abbrev pub patch_at : List Node → Poly → Box → Patch
+patch_at n p r = record { sw = number n (sw_of p r); se = number n (se_of p r); ne = number n (ne_of p r); nw = number n (nw_of p r); sheet = p.sheet }
 
 abbrev pub ◌·◌ : Float → Float → Float
 x · y = Ieee.mul binary64 x y
@@ -158,26 +158,26 @@ join n a b g = record { a = number n a; b = number n b; g = g }
 
 -- one side of a leaf, of the resistance r: whole, or in halves. (A leaf's sides are even, so the midpoint m is neither end.)
 abbrev pub side_of : List Node → Node → Node → Node → Float → List Edge
-side_of n a m b r = elim (has sameNode n m) [ true ↦ join n a m (One ÷ (r · Half)) ∷ join n m b (One ÷ (r · Half)) ∷ [] | false ↦ join n a b (One ÷ r) ∷ [] ]
+side_of n a m b r = elim (has same_node n m) [ true ↦ join n a m (One ÷ (r · Half)) ∷ join n m b (One ÷ (r · Half)) ∷ [] | false ↦ join n a b (One ÷ r) ∷ [] ]
 
-unfoldable pub sidesAt : List Node → Poly → Box → List Edge
-sidesAt n p r =
-    side_of n (swOf p r) (nodeAt p (mid r.x0 r.x1) r.y0) (seOf p r) (across p r)
-    ++ (side_of n (nwOf p r) (nodeAt p (mid r.x0 r.x1) r.y1) (neOf p r) (across p r)
-    ++ (side_of n (swOf p r) (nodeAt p r.x0 (mid r.y0 r.y1)) (nwOf p r) (upright p r)
-    ++ side_of n (seOf p r) (nodeAt p r.x1 (mid r.y0 r.y1)) (neOf p r) (upright p r)))
+unfoldable pub sides_at : List Node → Poly → Box → List Edge
+sides_at n p r =
+    side_of n (sw_of p r) (node_at p (mid r.x0 r.x1) r.y0) (se_of p r) (across p r)
+    ++ (side_of n (nw_of p r) (node_at p (mid r.x0 r.x1) r.y1) (ne_of p r) (across p r)
+    ++ (side_of n (sw_of p r) (node_at p r.x0 (mid r.y0 r.y1)) (nw_of p r) (upright p r)
+    ++ side_of n (se_of p r) (node_at p r.x1 (mid r.y0 r.y1)) (ne_of p r) (upright p r)))
 
 -- within a polygon a pair is emitted once
-unfoldable pub edgesOf : List Node → Piece → List Edge
-edgesOf n q = weld same_pair [] (each (sidesAt n q.poly) q.leaves)
+unfoldable pub edges_of : List Node → Piece → List Edge
+edges_of n q = weld same_pair [] (each (sides_at n q.poly) q.leaves)
 
-unfoldable pub edgesFrom : List Node → List Piece → List Edge
-edgesFrom n [] = []
-edgesFrom n (q ∷ qs) = let m = weld sameNode n (cornersOf q) in edgesOf m q ++ edgesFrom m qs
+unfoldable pub edges_from : List Node → List Piece → List Edge
+edges_from n [] = []
+edges_from n (q ∷ qs) = let m = weld same_node n (corners_of q) in edges_of m q ++ edges_from m qs
 
-unfoldable pub patchesFrom : List Node → List Piece → List Patch
-patchesFrom n [] = []
-patchesFrom n (q ∷ qs) = let m = weld sameNode n (cornersOf q) in map (patchAt m q.poly) q.leaves ++ patchesFrom m qs
+unfoldable pub patches_from : List Node → List Piece → List Patch
+patches_from n [] = []
+patches_from n (q ∷ qs) = let m = weld same_node n (corners_of q) in map (patch_at m q.poly) q.leaves ++ patches_from m qs
 
 -- ---- weights: the extents
 
@@ -206,11 +206,11 @@ least p g [] j = none
 least p g (b ∷ bs) j = elim (p b j) [ true ↦ lesser (g b) (least p g bs (suc j)) | false ↦ least p g bs (suc j) ]
 
 -- the gap from the node i to the next in its column, and to the one before: 0 at the ends
-unfoldable pub nextGap : List Node → ℕ → ℕ
-nextGap n i = or_zero (least (λ b j. after (nth n i) i b j) (λ b. b.y - (nth n i).y) n 0)
+unfoldable pub next_gap : List Node → ℕ → ℕ
+next_gap n i = or_zero (least (λ b j. after (nth n i) i b j) (λ b. b.y - (nth n i).y) n 0)
 
-unfoldable pub prevGap : List Node → ℕ → ℕ
-prevGap n i = or_zero (least (λ b j. after b j (nth n i) i) (λ b. (nth n i).y - b.y) n 0)
+unfoldable pub prev_gap : List Node → ℕ → ℕ
+prev_gap n i = or_zero (least (λ b j. after b j (nth n i) i) (λ b. (nth n i).y - b.y) n 0)
 
 -- x and y exchanged: rows for columns
 abbrev pub turned : Node → Node
@@ -221,26 +221,26 @@ pub data Way : Type 0 where
 
 -- half the gap in ticks, so the gap in half ticks
 unfoldable pub gap : Way → List Node → ℕ → ℕ
-gap up n i = nextGap n i
-gap down n i = prevGap n i
-gap right n i = nextGap (map turned n) i
-gap left n i = prevGap (map turned n) i
+gap up n i = next_gap n i
+gap down n i = prev_gap n i
+gap right n i = next_gap (map turned n) i
+gap left n i = prev_gap (map turned n) i
 
-abbrev pub boxOf : List Node → Patch → Box
-boxOf n c = record { x0 = (nth n c.sw).x; y0 = (nth n c.sw).y; x1 = (nth n c.ne).x; y1 = (nth n c.ne).y }
+abbrev pub box_of : List Node → Patch → Box
+box_of n c = record { x0 = (nth n c.sw).x; y0 = (nth n c.sw).y; x1 = (nth n c.ne).x; y1 = (nth n c.ne).y }
 
 -- the midpoint of the edge from which the cell lies that way, and the cell's size that way
-abbrev pub midX : Way → Box → ℕ
-midX up r = mid r.x0 r.x1
-midX down r = mid r.x0 r.x1
-midX right r = r.x0
-midX left r = r.x1
+abbrev pub mid_x : Way → Box → ℕ
+mid_x up r = mid r.x0 r.x1
+mid_x down r = mid r.x0 r.x1
+mid_x right r = r.x0
+mid_x left r = r.x1
 
-abbrev pub midY : Way → Box → ℕ
-midY up r = r.y0
-midY down r = r.y1
-midY right r = mid r.y0 r.y1
-midY left r = mid r.y0 r.y1
+abbrev pub mid_y : Way → Box → ℕ
+mid_y up r = r.y0
+mid_y down r = r.y1
+mid_y right r = mid r.y0 r.y1
+mid_y left r = mid r.y0 r.y1
 
 abbrev pub size_of : Way → Box → ℕ
 size_of up r = height r
@@ -248,28 +248,28 @@ size_of down r = height r
 size_of right r = width r
 size_of left r = width r
 
-abbrev pub samePlace : Node → Node → Bool
-samePlace m n = eqb m.layer n.layer && (eqb m.x n.x && eqb m.y n.y)
+abbrev pub same_place : Node → Node → Bool
+same_place m n = eqb m.layer n.layer && (eqb m.x n.x && eqb m.y n.y)
 
-abbrev pub hangsAt : Way → List Node → Patch → Node
-hangsAt w n c = record { layer = (nth n c.sw).layer; component = 0; x = midX w (boxOf n c); y = midY w (boxOf n c) }
+abbrev pub hangs_at : Way → List Node → Patch → Node
+hangs_at w n c = record { layer = (nth n c.sw).layer; component = 0; x = mid_x w (box_of n c); y = mid_y w (box_of n c) }
 
 -- the node i is at the place m, whatever its component, and no later node is
 abbrev pub is_last : List Node → Node → ℕ → Bool
-is_last n m i = samePlace (nth n i) m && not (has samePlace (drop (suc i) n) m)
+is_last n m i = same_place (nth n i) m && not (has same_place (drop (suc i) n) m)
 
 -- the most that a cell asks for the node i on its edge's midpoint: half the cell's size, so the size in half ticks
 unfoldable pub hung : Way → List Node → ℕ → List Patch → ℕ
 hung w n i [] = 0
-hung w n i (c ∷ cs) = elim (is_last n (hangsAt w n c) i) [ true ↦ max (size_of w (boxOf n c)) (hung w n i cs) | false ↦ hung w n i cs ]
+hung w n i (c ∷ cs) = elim (is_last n (hangs_at w n c) i) [ true ↦ max (size_of w (box_of n c)) (hung w n i cs) | false ↦ hung w n i cs ]
 
 unfoldable pub extent : Way → List Node → List Patch → ℕ → ℕ
 extent w n cs i = max (gap w n i) (hung w n i cs)
 
 -- ---- weights: the conductances
 
-abbrev pub lesserOf : Way → List Node → List Patch → Edge → ℕ
-lesserOf w n cs e = min (extent w n cs e.a) (extent w n cs e.b)
+abbrev pub lesser_of : Way → List Node → List Patch → Edge → ℕ
+lesser_of w n cs e = min (extent w n cs e.a) (extent w n cs e.b)
 
 abbrev pub flat : List Node → Edge → Bool
 flat n e = eqb (nth n e.a).y (nth n e.b).y
@@ -278,18 +278,18 @@ abbrev pub apart : ℕ → ℕ → ℕ
 apart a b = max a b - min a b
 
 unfoldable pub face : List Node → List Patch → Edge → ℕ
-face n cs e = elim (flat n e) [ true ↦ lesserOf up n cs e + lesserOf down n cs e | false ↦ lesserOf right n cs e + lesserOf left n cs e ]
+face n cs e = elim (flat n e) [ true ↦ lesser_of up n cs e + lesser_of down n cs e | false ↦ lesser_of right n cs e + lesser_of left n cs e ]
 
 unfoldable pub distance : List Node → Edge → ℕ
 distance n e = elim (flat n e) [ true ↦ apart (nth n e.a).x (nth n e.b).x | false ↦ apart (nth n e.a).y (nth n e.b).y ]
 
-abbrev pub isSide : Patch → ℕ → ℕ → Bool
-isSide c a b = pairIs c.sw c.se a b || (pairIs c.se c.ne a b || (pairIs c.ne c.nw a b || pairIs c.nw c.sw a b))
+abbrev pub is_side : Patch → ℕ → ℕ → Bool
+is_side c a b = pair_is c.sw c.se a b || (pair_is c.se c.ne a b || (pair_is c.ne c.nw a b || pair_is c.nw c.sw a b))
 
 -- the sheet resistance of the first cell with that pair
-unfoldable pub sheetOf : List Patch → ℕ → ℕ → Option Float
-sheetOf [] a b = none
-sheetOf (c ∷ cs) a b = elim (isSide c a b) [ true ↦ some c.sheet | false ↦ sheetOf cs a b ]
+unfoldable pub sheet_of : List Patch → ℕ → ℕ → Option Float
+sheet_of [] a b = none
+sheet_of (c ∷ cs) a b = elim (is_side c a b) [ true ↦ some c.sheet | false ↦ sheet_of cs a b ]
 
 -- of the conductance so far, the face, the distance and the sheet resistance
 abbrev pub weight : Float → ℕ → ℕ → Option Float → Float
@@ -297,12 +297,12 @@ weight g f d none = g
 weight g f d (some s) = elim (eqb f 0) [ true ↦ g | false ↦ halves f ÷ (s · num d) ]
 
 unfoldable pub weighed : List Node → List Patch → Edge → Edge
-weighed n cs e = record { a = e.a; b = e.b; g = weight e.g (face n cs e) (distance n e) (sheetOf cs e.a e.b) }
+weighed n cs e = record { a = e.a; b = e.b; g = weight e.g (face n cs e) (distance n e) (sheet_of cs e.a e.b) }
 
 -- ---- the net
 
 unfoldable pub bare : List Piece → Net
-bare qs = record { nodes = nodesFrom [] qs; patches = patchesFrom [] qs; edges = edgesFrom [] qs }
+bare qs = record { nodes = nodes_from [] qs; patches = patches_from [] qs; edges = edges_from [] qs }
 
 unfoldable pub weigh : Net → Net
 weigh n = record { nodes = n.nodes; patches = n.patches; edges = map (weighed n.nodes n.patches) n.edges }
@@ -333,14 +333,14 @@ pub record Ends (k : ℕ) (e : Edge) : Type 0 where
   pub to : e.b < k
 
 -- how many leaves a table has, and the pieces
-abbrev pub oneIf : Bool → ℕ
-oneIf true = 1
-oneIf false = 0
+abbrev pub one_if : Bool → ℕ
+one_if true = 1
+one_if false = 0
 
-unfoldable pub leafCount : List Cell → ℕ
-leafCount [] = 0
-leafCount (c ∷ cs) = oneIf (is_none c.kids) + leafCount cs
+unfoldable pub leaf_count : List Cell → ℕ
+leaf_count [] = 0
+leaf_count (c ∷ cs) = one_if (is_none c.kids) + leaf_count cs
 
-unfoldable pub leafSum : List Piece → ℕ
-leafSum [] = 0
-leafSum (q ∷ qs) = length q.leaves + leafSum qs
+unfoldable pub leaf_sum : List Piece → ℕ
+leaf_sum [] = 0
+leaf_sum (q ∷ qs) = length q.leaves + leaf_sum qs

@@ -8,21 +8,21 @@ use native.Mathlib.Numerals.{add-one}
 use lib.Ieee.{Float, nan}
 use lib.ListN.{get_or}
 use Rattle.refusals.specs.Said.{Said, refused}
-use Rattle.floats.specs.Fractions.{inSheet}
-use Rattle.network.specs.Says.{sheetsFrom}
+use Rattle.floats.specs.Fractions.{in_sheet}
+use Rattle.network.specs.Says.{sheets_from}
 
 module _ (ss : List Float) (p n : ℕ) (h : p < n) (o : Said) where
   rest : n - p ≡ suc (n - (p + 1))
   rest = omega arith
 
-  pub sheet-bad : inSheet (get_or ss p nan) ≡ false → sheetsFrom ss p (n - p) o ≡ refused 3 p
-  unfolding sheetsFrom
+  pub sheet-bad : in_sheet (get_or ss p nan) ≡ false → sheets_from ss p (n - p) o ≡ refused 3 p
+  unfolding sheets_from
   sheet-bad e = rw (rest, e) refl
 
-  pub sheet-on : inSheet (get_or ss p nan) ≡ true → sheetsFrom ss p (n - p) o ≡ sheetsFrom ss (p + 1) (n - (p + 1)) o
-  unfolding sheetsFrom
+  pub sheet-on : in_sheet (get_or ss p nan) ≡ true → sheets_from ss p (n - p) o ≡ sheets_from ss (p + 1) (n - (p + 1)) o
+  unfolding sheets_from
   sheet-on e = rw (rest, e, add-one p) refl
 
-pub sheet-end : (ss : List Float) (p n : ℕ) (o : Said) → n ≤ p → sheetsFrom ss p (n - p) o ≡ o
-unfolding sheetsFrom
+pub sheet-end : (ss : List Float) (p n : ℕ) (o : Said) → n ≤ p → sheets_from ss p (n - p) o ≡ o
+unfolding sheets_from
 sheet-end ss p n o h = let e : n - p ≡ 0 = omega arith in rw e refl

@@ -8,61 +8,61 @@ use lib.Ieee.{Float}
 use lib.ListN.{length, take, replicate, length-map}
 use Rattle.refusals.specs.Limits.{coordinate}
 use Rattle.table.specs.Mesh.{table}
-use Rattle.table.specs.Leaves.{leafIds, orderIds}
+use Rattle.table.specs.Leaves.{leaf_ids, order_ids}
 use Rattle.table.proofs.Shape.{formed-shape}
 use Rattle.rows.specs.Parts.{part, put, tab}
 use Rattle.rows.specs.Contract.{Small}
 use Rattle.rows.proofs.Parts.{put-again}
-use Rattle.net.specs.Net.{each, Node, Edge, Patch, Piece, nodesFrom, edgesFrom, patchesFrom, pieces, network, weigh, bare, weighed}
+use Rattle.net.specs.Net.{each, Node, Edge, Patch, Piece, nodes_from, edges_from, patches_from, pieces, network, weigh, bare, weighed}
 use Rattle.net.proofs.All.{All, all-by}
 use Rattle.net.proofs.Nan.{Within}
 use Rattle.net.proofs.Sound.{edges-ends, patches-cornered}
-use Rattle.places.specs.Places.{nodeNums, cornerNums, endNums}
+use Rattle.places.specs.Places.{node_nums, corner_nums, end_nums}
 use Rattle.bare.proofs.Bridge.{Board}
-use Rattle.leafrows.specs.Rows.{polyRow, boxRow, polysOf, Given, Filled}
+use Rattle.leafrows.specs.Rows.{poly_row, box_row, polys_of, Given, Filled}
 use Rattle.leafrows.proofs.Laws as Leaf
 use Rattle.unweighted.specs.Netted as Bare
 use Rattle.unweighted.specs.Netted.{Counted}
 use Rattle.unweighted.proofs.Low as Low
 use Rattle.node_rows.proofs.Lists.{items-long}
-use Rattle.weights.specs.Weigh.{weightIn, NetRows}
+use Rattle.weights.specs.Weigh.{weight_in, NetRows}
 use Rattle.weighing.proofs.Held.{Held, Fitting, row-begins, held_rows, held-written}
 use Rattle.refusals.specs.Said.{accepted}
-use Rattle.network.specs.Says.{Rows, Roomy, rows, polygons, netOf, counted, filled}
+use Rattle.network.specs.Says.{Rows, Roomy, rows, polygons, net_of, counted, filled}
 
 -- the ends of weighed edges are those of the edges
-ends_stay : (ns : List Node) (cs : List Patch) (es : List Edge) → each endNums (map (weighed ns cs) es) ≡ each endNums es
+ends_stay : (ns : List Node) (cs : List Patch) (es : List Edge) → each end_nums (map (weighed ns cs) es) ≡ each end_nums es
 unfolding each weighed
 ends_stay ns cs [] = refl
 ends_stay ns cs (e ∷ es) = ap (λ (z : List ℕ). e.a ∷ e.b ∷ z) (ends_stay ns cs es)
 
 module _ {t : List ℤ} {n M : ℕ} {layers components : List ℕ} {sheets : List Float} (G : Given t n M layers components sheets)
     (long : length components ≡ length layers) (low : Small (2 ^ 16) layers)
-    {l : ℕ} (count : l ≡ length (leafIds t n)) {r : Rows} (room : Roomy l r) where
+    {l : ℕ} (count : l ≡ length (leaf_ids t n)) {r : Rows} (room : Roomy l r) where
   abbrev qs : List Piece
-  qs = pieces (table t n) (polysOf layers components sheets) 0
+  qs = pieces (table t n) (polys_of layers components sheets) 0
 
   abbrev ns : List Node
-  ns = nodesFrom [] qs
+  ns = nodes_from [] qs
 
   abbrev cs : List Patch
-  cs = patchesFrom [] qs
+  cs = patches_from [] qs
 
   abbrev es : List Edge
-  es = edgesFrom [] qs
+  es = edges_from [] qs
 
-  total : l ≡ length (orderIds t n)
+  total : l ≡ length (order_ids t n)
   total = count ∙ Leaf.leaf-total t n M G.formed
 
   -- the cells stand in the row
   pub slots-fit : n * 8 ≤ length t
   slots-fit = let s = formed-shape t n M G.formed in omega (arith, s.slots, s.count)
 
-  pub leaves-require : (l ≡ length (orderIds t n)) × ((4 * l ≤ length r.corners) × (l ≤ length r.work))
+  pub leaves-require : (l ≡ length (order_ids t n)) × ((4 * l ≤ length r.corners) × (l ≤ length r.work))
   leaves-require = (total, (room.corners, (let w = room.work in omega arith)))
 
   -- ---- once the leaves stand in the rows
-  module _ {corners₁ work₁ : List ℕ} (e : corners₁ ≡ put r.corners 0 (boxRow t n)) (f : work₁ ≡ put r.work 0 (polyRow t n))
+  module _ {corners₁ work₁ : List ℕ} (e : corners₁ ≡ put r.corners 0 (box_row t n)) (f : work₁ ≡ put r.work 0 (poly_row t n))
       (long₁ : length corners₁ ≡ length r.corners) (long₂ : length work₁ ≡ length r.work) where
     held-leaves : Filled t n l (part work₁ 0 l) (take (4 * l) corners₁)
     held-leaves = Leaf.filled t n l r.corners r.work corners₁ work₁ total room.corners leaves-require.1.1 e f
@@ -97,14 +97,14 @@ module _ {t : List ℤ} {n M : ℕ} {layers components : List ℕ} {sheets : Lis
       cells_count : length cs ≡ l
       cells_count = sym C.cells_are ∙ C.leaves-are
 
-      nodes-long : length (each nodeNums ns) ≡ 4 * length ns
-      nodes-long = items-long 4 nodeNums (λ a. refl) ns
+      nodes-long : length (each node_nums ns) ≡ 4 * length ns
+      nodes-long = items-long 4 node_nums (λ a. refl) ns
 
-      ends-long : length (each endNums es) ≡ 2 * length es
-      ends-long = items-long 2 endNums (λ a. refl) es
+      ends-long : length (each end_nums es) ≡ 2 * length es
+      ends-long = items-long 2 end_nums (λ a. refl) es
 
-      corners-long : length (each cornerNums cs) ≡ 4 * length cs
-      corners-long = items-long 4 cornerNums (λ a. refl) cs
+      corners-long : length (each corner_nums cs) ≡ 4 * length cs
+      corners-long = items-long 4 corner_nums (λ a. refl) cs
 
       gs-long : length (map (λ (x : Edge). x.g) es) ≡ length es
       gs-long = length-map es (λ (x : Edge). x.g)
@@ -117,10 +117,10 @@ module _ {t : List ℤ} {n M : ℕ} {layers components : List ℕ} {sheets : Lis
           let x = few-nodes in
           let y = few-edges in
           record {
-            nodes-row = row-begins (4 * length ns) r.nodes nodes₂ (each nodeNums ns) N.nodes-row nodes-long (let q = room.nodes in omega arith);
-            corners-row = row-begins (4 * length cs) corners₁ corners₂ (each cornerNums cs) N.corners-row corners-long (let q = room.corners in omega arith);
+            nodes-row = row-begins (4 * length ns) r.nodes nodes₂ (each node_nums ns) N.nodes-row nodes-long (let q = room.nodes in omega arith);
+            corners-row = row-begins (4 * length cs) corners₁ corners₂ (each corner_nums cs) N.corners-row corners-long (let q = room.corners in omega arith);
             sheets-row = row-begins (length cs) r.sheets cells₂ (map (λ (z : Patch). z.sheet) cs) N.cells-row (length-map cs (λ (z : Patch). z.sheet)) (let q = room.sheets in omega arith);
-            ends-row = row-begins (2 * length es) r.ends ends₂ (each endNums es) N.ends-row ends-long (let q = room.ends in omega arith);
+            ends-row = row-begins (2 * length es) r.ends ends₂ (each end_nums es) N.ends-row ends-long (let q = room.ends in omega arith);
             gs-row = row-begins (length es) r.conductances gs₂ (map (λ (z : Edge). z.g) es) N.gs-row gs-long (let q = room.conductances in omega arith);
           }
 
@@ -131,7 +131,7 @@ module _ {t : List ℤ} {n M : ℕ} {layers components : List ℕ} {sheets : Lis
 
       nodes-low : All (Within (coordinate + coordinate)) ns
       unfolding network weigh bare
-      nodes-low = Leaf.low-nodes t n M G.formed (polysOf layers components sheets)
+      nodes-low = Leaf.low-nodes t n M G.formed (polys_of layers components sheets)
 
       fitting : Fitting ns cs es
       fitting =
@@ -147,7 +147,7 @@ module _ {t : List ℤ} {n M : ℕ} {layers components : List ℕ} {sheets : Lis
             most-edges = omega arith;
             low = nodes-low;
             layers = layers-low;
-            cornered = patches-cornered [] qs (Leaf.positive-leaves t n M G.formed (polysOf layers components sheets));
+            cornered = patches-cornered [] qs (Leaf.positive-leaves t n M G.formed (polys_of layers components sheets));
             ended = edges-ends [] qs;
           }
 
@@ -161,7 +161,7 @@ module _ {t : List ℤ} {n M : ℕ} {layers components : List ℕ} {sheets : Lis
       weights-room h i = (let w = room.work in omega arith, let w = room.conductances in let y = few-edges in omega arith)
 
       -- ---- once the edges are weighed
-      module _ {gs₃ : List Float} {work₃ : List ℕ} (g : gs₃ ≡ put gs₂ 0 (tab (weightIn nodes₂ k corners₂ cells₂ l ends₂ gs₂) m))
+      module _ {gs₃ : List Float} {work₃ : List ℕ} (g : gs₃ ≡ put gs₂ 0 (tab (weight_in nodes₂ k corners₂ cells₂ l ends₂ gs₂) m))
           (w : work₃ ≡ replicate (length r.work) 0) where
         written : gs₃ ≡ put r.conductances 0 (map (λ (x : Edge). x.g) (map (weighed ns cs) es))
         written =
@@ -170,24 +170,24 @@ module _ {t : List ℤ} {n M : ℕ} {layers components : List ℕ} {sheets : Lis
             (held-written ns cs es nodes₂ corners₂ cells₂ ends₂ gs₂ held fitting r.conductances N.gs-row
             (let q = room.conductances in let y = few-edges in let b = C.edges_are in omega arith)))
 
-        boxes-long : length (boxRow t n) ≡ 4 * l
+        boxes-long : length (box_row t n) ≡ 4 * l
         boxes-long = ap length (sym held-leaves.boxes) ∙ the-board.size
 
-        corners-put : corners₂ ≡ put r.corners 0 (each cornerNums cs)
-        corners-put = N.corners-row ∙ (ap (λ (z : List ℕ). put z 0 (each cornerNums cs)) e ∙ put-again r.corners 0 (boxRow t n) fits (each cornerNums cs) same)
+        corners-put : corners₂ ≡ put r.corners 0 (each corner_nums cs)
+        corners-put = N.corners-row ∙ (ap (λ (z : List ℕ). put z 0 (each corner_nums cs)) e ∙ put-again r.corners 0 (box_row t n) fits (each corner_nums cs) same)
           where
-            same : length (each cornerNums cs) ≡ length (boxRow t n)
+            same : length (each corner_nums cs) ≡ length (box_row t n)
             same = omega (arith, corners-long, cells_count, boxes-long)
 
-            fits : 0 + length (boxRow t n) ≤ length r.corners
+            fits : 0 + length (box_row t n) ≤ length r.corners
             fits = omega (arith, boxes-long, room.corners)
 
-        pub counts : accepted (k ∷ m ∷ c ∷ []) ≡ counted (netOf t n (polygons layers components sheets))
-        unfolding netOf network weigh bare
+        pub counts : accepted (k ∷ m ∷ c ∷ []) ≡ counted (net_of t n (polygons layers components sheets))
+        unfolding net_of network weigh bare
         counts = λ i. accepted (C.nodes-are i ∷ (C.edges_are ∙ sym (length-map es (weighed ns cs))) i ∷ C.cells_are i ∷ [])
 
-        pub whole : rows nodes₂ ends₂ gs₃ corners₂ cells₂ work₃ ≡ filled (netOf t n (polygons layers components sheets)) r
-        unfolding netOf filled network weigh bare
+        pub whole : rows nodes₂ ends₂ gs₃ corners₂ cells₂ work₃ ≡ filled (net_of t n (polygons layers components sheets)) r
+        unfolding net_of filled network weigh bare
         whole =
             λ i.
             record {

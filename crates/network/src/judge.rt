@@ -1,16 +1,16 @@
 // What is judged before the first number of a net is written.
 ghost use Rattle.std.specs.Prelude.{◌≡◌, ◌*◌, ◌≤◌, length};
 ghost use Rattle.refusals.specs.Said.{Said};
-ghost use Rattle.leafrows.specs.Rows.{polysBelow};
-ghost use Rattle.network.specs.Says.{rowsFit, roomy, sheetsFrom, sheetFault};
+ghost use Rattle.leafrows.specs.Rows.{polys_below};
+ghost use Rattle.network.specs.Says.{rows_fit, roomy, sheets_from, sheet_fault};
 
 use refusals::{Refusal, limits};
 
 // Whether each cell's polygon is one of so many. Internal: the cells stand in the table.
-#[tactic(auto, unfolding(leafrows::specs::Rows::polysBelow))]
+#[tactic(auto, unfolding(leafrows::specs::Rows::polys_below))]
 pub fn polygons_below(t: &[i64], n: usize, count: usize) -> bool
     requires { n * 8 ≤ length t.now }
-    ensures { result ≡ polysBelow t.now n count }
+    ensures { result ≡ polys_below t.now n count }
 {
     for i in 0..n {
         if count as u64 <= table::slots::poly_at(t, i) {
@@ -32,7 +32,7 @@ pub fn rows_fit(
     cells: usize,
 ) -> bool
     requires { (conductances * 2 ≤ 18446744073709551615) × (cells * 4 ≤ 18446744073709551615) }
-    ensures { result ≡ rowsFit layers components sheets nodes ends conductances corners cells }
+    ensures { result ≡ rows_fit layers components sheets nodes ends conductances corners cells }
 {
     ((components == layers) & (sheets == layers))
         & ((nodes % 4 == 0) & ((ends == conductances * 2) & (corners == cells * 4)))
@@ -40,7 +40,7 @@ pub fn rows_fit(
 
 // Refuses the first polygon whose sheet resistance is out of range.
 pub fn judge_sheets(sheets: &[f64]) -> Result<(), Refusal>
-    ensures { (o : Said) → sheetFault result o ≡ sheetsFrom sheets.now 0 (length sheets.now) o }
+    ensures { (o : Said) → sheet_fault result o ≡ sheets_from sheets.now 0 (length sheets.now) o }
 {
     for (p, sheet) in sheets.iter().enumerate() {
         if !floats::sheet_in_range(*sheet) {

@@ -5,9 +5,9 @@
 #![tactic(auto)]
 
 ghost use Rattle.std.specs.Prelude.{◌≡◌, length};
-ghost use Rattle.table.specs.Leaves.{leafIds};
+ghost use Rattle.table.specs.Leaves.{leaf_ids};
 ghost use Rattle.leafrows.specs.Rows.{Given};
-ghost use Rattle.network.specs.Says.{polygons, rows, netOf, filled, counted, countsSaid, nettedSaid, networkSays, networkLeaves, Roomy};
+ghost use Rattle.network.specs.Says.{polygons, rows, net_of, filled, counted, counts_said, netted_said, network_says, network_leaves, Roomy};
 
 pub mod judge;
 
@@ -31,12 +31,12 @@ fn fill(
     work: &mut [u64],
 ) -> Counts
     requires given { Given t.now head.count head.max_level layers.now components.now sheets.now }
-    requires l_value { (l ≡ length (leafIds t.now head.count)) × (length components.now ≡ length layers.now) }
+    requires l_value { (l ≡ length (leaf_ids t.now head.count)) × (length components.now ≡ length layers.now) }
     requires roomy { Roomy l (rows nodes.old ends.old conductances.old corners.old cells.old work.old) }
-    ensures result_value { countsSaid result
-        ≡ counted (netOf t.now head.count (polygons layers.now components.now sheets.now)) }
+    ensures result_value { counts_said result
+        ≡ counted (net_of t.now head.count (polygons layers.now components.now sheets.now)) }
     ensures work_after { rows nodes.new ends.new conductances.new corners.new cells.new work.new
-        ≡ filled (netOf t.now head.count (polygons layers.now components.now sheets.now))
+        ≡ filled (net_of t.now head.count (polygons layers.now components.now sheets.now))
         (rows nodes.old ends.old conductances.old corners.old cells.old work.old) }
 {
     leafrows::fill_leaves(t, head.count, l, corners, work);
@@ -67,7 +67,7 @@ fn fill(
 }
 
 // The net of a table's leaves. Unused rows keep what they held; the work room is zero afterwards.
-#[tactic(auto, unfolding(crate::specs::Says::networkSays, crate::specs::Says::fits, crate::specs::Says::networkLeaves))]
+#[tactic(auto, unfolding(crate::specs::Says::network_says, crate::specs::Says::fits, crate::specs::Says::network_leaves))]
 pub fn network(
     t: &[i64],
     head: Head,
@@ -81,11 +81,11 @@ pub fn network(
     cells: &mut [f64],
     work: &mut [u64],
 ) -> Result<Counts, Refusal>
-    ensures result_value { nettedSaid result
-        ≡ networkSays t.now head.count head.max_level (polygons layers.now components.now sheets.now)
+    ensures result_value { netted_said result
+        ≡ network_says t.now head.count head.max_level (polygons layers.now components.now sheets.now)
         (rows nodes.old ends.old conductances.old corners.old cells.old work.old) }
     ensures work_after { rows nodes.new ends.new conductances.new corners.new cells.new work.new
-        ≡ networkLeaves t.now head.count head.max_level (polygons layers.now components.now sheets.now)
+        ≡ network_leaves t.now head.count head.max_level (polygons layers.now components.now sheets.now)
         (rows nodes.old ends.old conductances.old corners.old cells.old work.old) }
 {
     if !table::formed::well_formed(t, head) {

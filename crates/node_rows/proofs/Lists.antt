@@ -17,13 +17,13 @@ use Rattle.rows.proofs.Fill.{tab-at, tab-only, tab-same}
 use Rattle.net.specs.Net.{each, Node, Patch, Edge, nth, nowhere, weighed}
 use Rattle.net.proofs.All.{All, all-at, all_nil, all_one, all_append}
 use Rattle.net.proofs.Nan.{Within}
-use Rattle.places.specs.Places.{nodeNums, cornerNums}
-use Rattle.node_rows.specs.Rows.{nodeIn, nodesIn, patchIn, patchesIn, edgeIn}
+use Rattle.places.specs.Places.{node_nums, corner_nums}
+use Rattle.node_rows.specs.Rows.{node_in, nodes_in, patch_in, patches_in, edge_in}
 
 -- a node out of the list
-pub node_at : (row : List ℤ) (n i : ℕ) → i < n → nth (nodesIn row n) i ≡ nodeIn row i
-unfolding nodesIn
-node_at row n i h = tab-at (nodeIn row) n i nowhere h
+pub node_at : (row : List ℤ) (n i : ℕ) → i < n → nth (nodes_in row n) i ≡ node_in row i
+unfolding nodes_in
+node_at row n i h = tab-at (node_in row) n i nowhere h
 
 all-tab : {A : Type 0} (P : A → Type 0) (f : ℕ → A) (n : ℕ) → ((i : ℕ) → P (f i)) → All P (tab f n)
 unfolding tab
@@ -31,9 +31,9 @@ all-tab P f zero h = all_nil P
 all-tab P f (suc n) h = all_append P (tab f n) (f n ∷ []) (all-tab P f n h) (all_one P (f n) (h n))
 
 -- whatever the row holds, coordinates are read in range
-pub nodes-within : (row : List ℤ) (n : ℕ) → All (Within (coordinate + coordinate)) (nodesIn row n)
-unfolding nodesIn nodeIn
-nodes-within row n = all-tab (Within (coordinate + coordinate)) (nodeIn row) n (λ i. (off-le (get_or row (4 * i + 2) (pos 0)), off-le (get_or row (4 * i + 3) (pos 0))))
+pub nodes-within : (row : List ℤ) (n : ℕ) → All (Within (coordinate + coordinate)) (nodes_in row n)
+unfolding nodes_in node_in
+nodes-within row n = all-tab (Within (coordinate + coordinate)) (node_in row) n (λ i. (off-le (get_or row (4 * i + 2) (pos 0)), off-le (get_or row (4 * i + 3) (pos 0))))
 
 -- a row of w numbers an item: number s of item i
 module _ {A B : Type 0} (w : ℕ) (f : A → List B) (size : (a : A) → length (f a) ≡ w) where
@@ -61,8 +61,8 @@ module _ {A B : Type 0} (w : ℕ) (f : A → List B) (size : (a : A) → length 
 
 -- the row of a list of nodes
 node_by : (row : List ℤ) (i : ℕ) (m : Node) → m.x ≤ coordinate + coordinate → m.y ≤ coordinate + coordinate
-    → ((s : ℕ) → s < 4 → get_or row (4 * i + s) (pos 0) ≡ get_or (nodeNums m) s (pos 0)) → nodeIn row i ≡ m
-unfolding nodeIn counted
+    → ((s : ℕ) → s < 4 → get_or row (4 * i + s) (pos 0) ≡ get_or (node_nums m) s (pos 0)) → node_in row i ≡ m
+unfolding node_in counted
 node_by row i m x y at =
     λ t.
     record {
@@ -72,17 +72,17 @@ node_by row i m x y at =
       y = (ap off (at 3 (omega arith)) ∙ off-on m.y y) t;
     }
 
-pub nodes-are : (row : List ℤ) (ns : List Node) → take (4 * length ns) row ≡ each nodeNums ns → All (Within (coordinate + coordinate)) ns → nodesIn row (length ns) ≡ ns
-unfolding nodesIn
+pub nodes-are : (row : List ℤ) (ns : List Node) → take (4 * length ns) row ≡ each node_nums ns → All (Within (coordinate + coordinate)) ns → nodes_in row (length ns) ≡ ns
+unfolding nodes_in
 nodes-are row ns is low =
     sym
-    (tab-only (nodeIn row) (length ns) ns nowhere refl
+    (tab-only (node_in row) (length ns) ns nowhere refl
     (λ i h. (let w = all-at (Within (coordinate + coordinate)) nowhere ns i low h in
-    sym (node_by row i (nth ns i) w.0 w.1 (λ s k. item-at 4 nodeNums (λ m. refl) row ns is i s nowhere (pos 0) h k)))))
+    sym (node_by row i (nth ns i) w.0 w.1 (λ s k. item-at 4 node_nums (λ m. refl) row ns is i s nowhere (pos 0) h k)))))
 
 -- the rows of a list of cells
-patch-by : (corners : List ℕ) (sheets : List Float) (v : ℕ) (c : Patch) → ((s : ℕ) → s < 4 → get_or corners (4 * v + s) 0 ≡ get_or (cornerNums c) s 0) → get_or sheets v nan ≡ c.sheet → patchIn corners sheets v ≡ c
-unfolding patchIn
+patch-by : (corners : List ℕ) (sheets : List Float) (v : ℕ) (c : Patch) → ((s : ℕ) → s < 4 → get_or corners (4 * v + s) 0 ≡ get_or (corner_nums c) s 0) → get_or sheets v nan ≡ c.sheet → patch_in corners sheets v ≡ c
+unfolding patch_in
 patch-by corners sheets v c at sheet =
     λ t.
     record {
@@ -97,20 +97,20 @@ patch-by corners sheets v c at sheet =
 nothing : Patch
 nothing = record { sw = 0; se = 0; ne = 0; nw = 0; sheet = nan }
 
-pub patches-are : (corners : List ℕ) (sheets : List Float) (cs : List Patch) → take (4 * length cs) corners ≡ each cornerNums cs → take (length cs) sheets ≡ map (λ (c : Patch). c.sheet) cs → patchesIn corners sheets (length cs) ≡ cs
-unfolding patchesIn nothing
+pub patches-are : (corners : List ℕ) (sheets : List Float) (cs : List Patch) → take (4 * length cs) corners ≡ each corner_nums cs → take (length cs) sheets ≡ map (λ (c : Patch). c.sheet) cs → patches_in corners sheets (length cs) ≡ cs
+unfolding patches_in nothing
 patches-are corners sheets cs is of =
     sym
-    (tab-only (patchIn corners sheets) (length cs) cs nothing refl
+    (tab-only (patch_in corners sheets) (length cs) cs nothing refl
     (λ v h.
     sym
-    (patch-by corners sheets v (get_or cs v nothing) (λ s k. item-at 4 cornerNums (λ c. refl) corners cs is v s nothing 0 h k)
+    (patch-by corners sheets v (get_or cs v nothing) (λ s k. item-at 4 corner_nums (λ c. refl) corners cs is v s nothing 0 h k)
     (sym (get_or-take (length cs) sheets v nan h)
     ∙ (ap (λ (z : List Float). get_or z v nan) of ∙ get_or-map (λ (c : Patch). c.sheet) cs v nothing)))))
 
 -- the rows of a list of edges
-edge_by : (ends : List ℕ) (gs : List Float) (j : ℕ) (e : Edge) → ((s : ℕ) → s < 2 → get_or ends (2 * j + s) 0 ≡ get_or (e.a ∷ e.b ∷ []) s 0) → get_or gs j nan ≡ e.g → edgeIn ends gs j ≡ e
-unfolding edgeIn
+edge_by : (ends : List ℕ) (gs : List Float) (j : ℕ) (e : Edge) → ((s : ℕ) → s < 2 → get_or ends (2 * j + s) 0 ≡ get_or (e.a ∷ e.b ∷ []) s 0) → get_or gs j nan ≡ e.g → edge_in ends gs j ≡ e
+unfolding edge_in
 edge_by ends gs j e at g = λ t. record { a = (ap (λ (z : ℕ). get_or ends z 0) (sym (add-zero (2 * j))) ∙ at 0 (omega arith)) t; b = at 1 (omega arith) t; g = g t }
 
 -- within the list the default does not matter
@@ -120,7 +120,7 @@ within-list (a ∷ l) zero c d h = refl
 within-list (a ∷ l) (suc i) c d h = within-list l i c d (omega arith)
 
 pub edges_are : (ends : List ℕ) (gs : List Float) (es : List Edge) → take (2 * length es) ends ≡ each (λ (e : Edge). e.a ∷ e.b ∷ []) es → take (length es) gs ≡ map (λ (e : Edge). e.g) es
-    → (j : ℕ) (d : Edge) → j < length es → edgeIn ends gs j ≡ get_or es j d
+    → (j : ℕ) (d : Edge) → j < length es → edge_in ends gs j ≡ get_or es j d
 edges_are ends gs es is of j d h =
     edge_by ends gs j (get_or es j d) (λ s k. item-at 2 (λ (e : Edge). e.a ∷ e.b ∷ []) (λ e. refl) ends es is j s d 0 h k)
     (sym (get_or-take (length es) gs j nan h)
@@ -130,11 +130,11 @@ edges_are ends gs es is of j d h =
 -- the conductances that the weights write
 pub weights-are : (row : List ℤ) (n : ℕ) (corners : List ℕ) (sheets : List Float) (l : ℕ) (ends : List ℕ) (gs : List Float) (k : ℕ)
     → (ns : List Node) (cs : List Patch) (es : List Edge) (d : Edge)
-    → nodesIn row n ≡ ns → patchesIn corners sheets l ≡ cs → k ≡ length es → ((j : ℕ) → j < k → edgeIn ends gs j ≡ get_or es j d)
-    → tab (λ j. (weighed (nodesIn row n) (patchesIn corners sheets l) (edgeIn ends gs j)).g) k ≡ map (λ (e : Edge). e.g) (map (weighed ns cs) es)
+    → nodes_in row n ≡ ns → patches_in corners sheets l ≡ cs → k ≡ length es → ((j : ℕ) → j < k → edge_in ends gs j ≡ get_or es j d)
+    → tab (λ j. (weighed (nodes_in row n) (patches_in corners sheets l) (edge_in ends gs j)).g) k ≡ map (λ (e : Edge). e.g) (map (weighed ns cs) es)
 weights-are row n corners sheets l ends gs k ns cs es d p q long at =
-    tab-same (λ j. (weighed (nodesIn row n) (patchesIn corners sheets l) (edgeIn ends gs j)).g) (λ j. (weighed ns cs (get_or es j d)).g) k
-    (λ j h. (ap₂ (λ (a : List Node) (b : List Patch). (weighed a b (edgeIn ends gs j)).g) p q ∙ ap (λ (e : Edge). (weighed ns cs e).g) (at j h)))
+    tab-same (λ j. (weighed (nodes_in row n) (patches_in corners sheets l) (edge_in ends gs j)).g) (λ j. (weighed ns cs (get_or es j d)).g) k
+    (λ j h. (ap₂ (λ (a : List Node) (b : List Patch). (weighed a b (edge_in ends gs j)).g) p q ∙ ap (λ (e : Edge). (weighed ns cs e).g) (at j h)))
     ∙ sym
     (tab-only (λ j. (weighed ns cs (get_or es j d)).g) k (map (λ (e : Edge). e.g) (map (weighed ns cs) es)) (weighed ns cs d).g
     (length-map (map (weighed ns cs) es) (λ (e : Edge). e.g) ∙ (length-map es (weighed ns cs) ∙ sym long))

@@ -2,7 +2,7 @@
 -- Definitions only.
 use Rattle.std.specs.Prelude.{◌≡◌, List, ℕ, zero, suc, ◌+◌, ◌*◌, ◌^◌, ◌<◌, ◌≤◌, length, get_or, ℤ, pos, Float}
 use Rattle.std.specs.Float.{nan}
-use Rattle.refusals.specs.Limits.{maxSlots}
+use Rattle.refusals.specs.Limits.{max_slots}
 use Rattle.cell.specs.Ticks.{off}
 use Rattle.table.specs.Slots.{counted}
 use Rattle.rows.specs.Parts.{tab}
@@ -10,8 +10,8 @@ use Rattle.net.specs.Net.{Node, Patch, Edge, Way, gap, extent}
 use Rattle.net.specs.Net.Way.{up, down, right, left}
 
 -- node i of the row: four numbers a node, layer, component, x and y in the caller's ticks
-unfoldable pub nodeIn : List ℤ → ℕ → Node
-nodeIn row i =
+unfoldable pub node_in : List ℤ → ℕ → Node
+node_in row i =
     record {
       layer = counted (get_or row (4 * i) (pos 0));
       component = counted (get_or row (4 * i + 1) (pos 0));
@@ -19,12 +19,12 @@ nodeIn row i =
       y = off (get_or row (4 * i + 3) (pos 0));
     }
 
-unfoldable pub nodesIn : List ℤ → ℕ → List Node
-nodesIn row n = tab (nodeIn row) n
+unfoldable pub nodes_in : List ℤ → ℕ → List Node
+nodes_in row n = tab (node_in row) n
 
 -- cell v: its corners SW, SE, NE, NW by number, and its sheet resistance
-unfoldable pub patchIn : List ℕ → List Float → ℕ → Patch
-patchIn corners sheets v =
+unfoldable pub patch_in : List ℕ → List Float → ℕ → Patch
+patch_in corners sheets v =
     record {
       sw = get_or corners (4 * v) 0;
       se = get_or corners (4 * v + 1) 0;
@@ -33,18 +33,18 @@ patchIn corners sheets v =
       sheet = get_or sheets v nan;
     }
 
-unfoldable pub patchesIn : List ℕ → List Float → ℕ → List Patch
-patchesIn corners sheets l = tab (patchIn corners sheets) l
+unfoldable pub patches_in : List ℕ → List Float → ℕ → List Patch
+patches_in corners sheets l = tab (patch_in corners sheets) l
 
-unfoldable pub edgeIn : List ℕ → List Float → ℕ → Edge
-edgeIn ends gs j = record { a = get_or ends (2 * j) 0; b = get_or ends (2 * j + 1) 0; g = get_or gs j nan }
+unfoldable pub edge_in : List ℕ → List Float → ℕ → Edge
+edge_in ends gs j = record { a = get_or ends (2 * j) 0; b = get_or ends (2 * j + 1) 0; g = get_or gs j nan }
 
 -- a row of n nodes, of a net of l cells
 pub record Noded (row : List ℤ) (n l : ℕ) : Type 0 where
-  pub few : l ≤ maxSlots
+  pub few : l ≤ max_slots
   pub most : n ≤ 4 * l
   pub room : 4 * n ≤ length row
-  pub layers : (i : ℕ) → i < n → (nodeIn row i).layer < 2 ^ 16
+  pub layers : (i : ℕ) → i < n → (node_in row i).layer < 2 ^ 16
 
 -- a row of the corners of l cells, which are nodes
 pub record Cornering (corners : List ℕ) (n l : ℕ) : Type 0 where
@@ -59,15 +59,15 @@ way_of (suc zero) = down
 way_of (suc (suc zero)) = right
 way_of (suc (suc (suc q))) = left
 
-abbrev pub extentAt : List ℕ → ℕ → ℕ → ℕ → ℕ
-extentAt w l q i = get_or w (44 * l + 4 * l * q + i) 0
+abbrev pub extent_at : List ℕ → ℕ → ℕ → ℕ → ℕ
+extent_at w l q i = get_or w (44 * l + 4 * l * q + i) 0
 
 -- the gaps alone
 pub record Gapped (row : List ℤ) (w : List ℕ) (n l : ℕ) : Type 0 where
   pub long : 64 * l ≤ length w
-  pub at : (q i : ℕ) → q < 4 → i < n → extentAt w l q i ≡ gap (way_of q) (nodesIn row n) i
+  pub at : (q i : ℕ) → q < 4 → i < n → extent_at w l q i ≡ gap (way_of q) (nodes_in row n) i
 
 -- and what cells ask for nodes at the middle of their sides
 pub record Extended (row : List ℤ) (cs : List Patch) (w : List ℕ) (n l : ℕ) : Type 0 where
   pub long : 64 * l ≤ length w
-  pub at : (q i : ℕ) → q < 4 → i < n → extentAt w l q i ≡ extent (way_of q) (nodesIn row n) cs i
+  pub at : (q i : ℕ) → q < 4 → i < n → extent_at w l q i ≡ extent (way_of q) (nodes_in row n) cs i

@@ -2,29 +2,29 @@
 #![tactic(auto)]
 
 ghost use Rattle.std.specs.Prelude.{◌≡◌, ◌+◌, ◌*◌, ◌^◌, ◌<◌, ◌≤◌, length};
-ghost use Rattle.node_rows.specs.Rows.{nodeIn};
+ghost use Rattle.node_rows.specs.Rows.{node_in};
 
 // Internal, all three: the node stands in the row.
-#[tactic(auto, using(table::proofs::Numbers::counted_max), unfolding(crate::specs::Rows::nodeIn))]
+#[tactic(auto, using(table::proofs::Numbers::counted_max), unfolding(crate::specs::Rows::node_in))]
 pub fn layer_at(nodes: &[i64], i: usize) -> u64
     requires { 4 * i + 4 ≤ length nodes.now }
-    ensures { result ≡ (nodeIn nodes.now i).layer }
+    ensures { result ≡ (node_in nodes.now i).layer }
 {
     nodes[4 * i].max(0) as u64
 }
 
-#[tactic(auto, using(crate::proofs::Nodes::off_small), unfolding(crate::specs::Rows::nodeIn))]
+#[tactic(auto, using(crate::proofs::Nodes::off_small), unfolding(crate::specs::Rows::node_in))]
 pub fn x_at(nodes: &[i64], i: usize) -> u64
     requires { 4 * i + 4 ≤ length nodes.now }
-    ensures { (result ≡ (nodeIn nodes.now i).x) × (result < 2 ^ 38) }
+    ensures { (result ≡ (node_in nodes.now i).x) × (result < 2 ^ 38) }
 {
     cell::ticks::offset(nodes[4 * i + 2])
 }
 
-#[tactic(auto, using(crate::proofs::Nodes::off_small), unfolding(crate::specs::Rows::nodeIn))]
+#[tactic(auto, using(crate::proofs::Nodes::off_small), unfolding(crate::specs::Rows::node_in))]
 pub fn y_at(nodes: &[i64], i: usize) -> u64
     requires { 4 * i + 4 ≤ length nodes.now }
-    ensures { (result ≡ (nodeIn nodes.now i).y) × (result < 2 ^ 38) }
+    ensures { (result ≡ (node_in nodes.now i).y) × (result < 2 ^ 38) }
 {
     cell::ticks::offset(nodes[4 * i + 3])
 }

@@ -14,16 +14,16 @@ use Rattle.rows.specs.Order as Rows
 use Rattle.rows.specs.Parts.{put, tab}
 use Rattle.rows.proofs.Fill.{length-tab, fill_begins, fill-long, fill-turn, fill-above, fill_done, fill-ends, put_whole}
 use Rattle.net.specs.Net.{find}
-use Rattle.net.specs.First.{key, first_of, rankIn, Firsts}
+use Rattle.net.specs.First.{key, first_of, rank_in, Firsts}
 use Rattle.net.proofs.Find.{test, find-nil, find-yes, find-no}
 use Rattle.net.proofs.Numbers.{in-new, in-old, in-none}
 
 abbrev pub number_in : List ℕ → ℕ → ℕ
-number_in fs j = rankIn fs (get_or fs j 0)
+number_in fs j = rank_in fs (get_or fs j 0)
 
 pub record Numbering (fs row : List ℕ) (count i : ℕ) : Type 0 where
   pub inside : i ≤ length fs
-  pub counted : count ≡ rankIn fs i
+  pub counted : count ≡ rank_in fs i
   pub few : count ≤ i
   pub low : i < length fs → get_or row i 0 < length row
   pub filled : row ≡ put fs 0 (tab (number_in fs) i)
@@ -54,10 +54,10 @@ module _ (fs row : List ℕ) (count i : ℕ) (F : Firsts fs) (N : Numbering fs r
         let c = N.counted in
         let l = N.few in
         let q : get_or fs i 0 ≡ i = sym numbering-here ∙ e in
-        let w = turned count (c ∙ ap (rankIn fs) (sym q)) in
+        let w = turned count (c ∙ ap (rank_in fs) (sym q)) in
         record {
           inside = omega arith;
-          counted = omega (arith, in-new fs i q, ap (rankIn fs) (add-one i));
+          counted = omega (arith, in-new fs i q, ap (rank_in fs) (add-one i));
           few = omega arith;
           low = low-at fs _ (i + 1) F w;
           filled = w;
@@ -72,10 +72,10 @@ module _ (fs row : List ℕ) (count i : ℕ) (F : Firsts fs) (N : Numbering fs r
         let w = turned (get_or row (get_or row i 0) 0)
         (ap (λ (k : ℕ). get_or row k 0) (numbering-here ∙ sym (zero-add (get_or fs i 0)))
         ∙ fill_done 0 fs 0 (length fs) (number_in fs) room row i N.filled N.inside (get_or fs i 0) (below b q)
-        ∙ ap (rankIn fs) (F.own i h)) in
+        ∙ ap (rank_in fs) (F.own i h)) in
         record {
           inside = omega arith;
-          counted = omega (arith, in-old fs i q, ap (rankIn fs) (add-one i));
+          counted = omega (arith, in-old fs i q, ap (rank_in fs) (add-one i));
           few = omega arith;
           low = low-at fs _ (i + 1) F w;
           filled = w;
@@ -88,8 +88,8 @@ module _ (fs row : List ℕ) (count i : ℕ) (F : Firsts fs) (N : Numbering fs r
   numbering-ends h =
       fill-ends 0 fs 0 (length fs) (number_in fs) room row i N.filled N.inside h ∙ put_whole fs (tab (number_in fs) (length fs)) (length-tab (number_in fs) (length fs))
 
-  pub numbering-count : length fs ≤ i → count ≡ rankIn fs (length fs)
-  numbering-count h = let l = N.inside in N.counted ∙ ap (rankIn fs) (let e : i ≡ length fs = omega arith in e)
+  pub numbering-count : length fs ≤ i → count ≡ rank_in fs (length fs)
+  numbering-count h = let l = N.inside in N.counted ∙ ap (rank_in fs) (let e : i ≡ length fs = omega arith in e)
 
 -- the sort's word for the first place, and the net's
 flip : (a b : ℕ) → eqb a b ≡ eqb b a

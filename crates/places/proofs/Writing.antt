@@ -12,7 +12,7 @@ use borrow.Author.Tests.{eqb-true, eqb-false}
 use Rattle.rows.specs.Parts.{put}
 use Rattle.rows.proofs.Parts.{put-nil, put-more, length-put}
 use Rattle.net.specs.Net.{each}
-use Rattle.net.specs.First.{key, first_of, isNew, rank, news, numberBy}
+use Rattle.net.specs.First.{key, first_of, is_new, rank, news, number_by}
 use Rattle.net.proofs.Find.{test}
 use Rattle.net.proofs.Weld.{rank-new, rank-old, news-new, news-old, length-news, rank_below, first-new, first-at-most}
 use Rattle.net.proofs.Pieces.{each_append}
@@ -22,20 +22,20 @@ unfolding rank
 rank-le ks zero = omega arith
 rank-le ks (suc i) =
     let h = rank-le ks i in
-    ⊎_elim (λ e. omega (arith, rank-new ks i e)) (λ e. omega (arith, rank-old ks i e)) (test (isNew ks i))
+    ⊎_elim (λ e. omega (arith, rank-new ks i e)) (λ e. omega (arith, rank-old ks i e)) (test (is_new ks i))
 
 -- a place is new if its number is the next one
-pub next-new : (ks : List ℕ) (i : ℕ) → numberBy ks i ≡ rank ks i → i < length ks → isNew ks i ≡ true
+pub next-new : (ks : List ℕ) (i : ℕ) → number_by ks i ≡ rank ks i → i < length ks → is_new ks i ≡ true
 next-new ks i e h =
     ⊎_elim
     (λ t. t)
     (λ t. (let f = first-at-most ks i in
     let n = eqb-false (first_of ks i) i t in
     absurd (omega (arith, rank_below ks (first_of ks i) i (first-new ks (key ks i) (omega arith)) (omega arith)))))
-    (test (isNew ks i))
+    (test (is_new ks i))
 
-pub next-old : (ks : List ℕ) (i : ℕ) → (numberBy ks i ≡ rank ks i → ⊥) → isNew ks i ≡ false
-next-old ks i e = ⊎_elim (λ t. absurd (e (ap (rank ks) (eqb-true (first_of ks i) i t)))) (λ t. t) (test (isNew ks i))
+pub next-old : (ks : List ℕ) (i : ℕ) → (number_by ks i ≡ rank ks i → ⊥) → is_new ks i ≡ false
+next-old ks i e = ⊎_elim (λ t. absurd (e (ap (rank ks) (eqb-true (first_of ks i) i t)))) (λ t. t) (test (is_new ks i))
 
 pub record Writing {A : Type 0} (ks : List ℕ) (g : ℕ → List A) (w₀ w : List A) (c i : ℕ) : Type 0 where
   pub count : c ≡ rank ks i
@@ -65,14 +65,14 @@ module _ {A : Type 0} (ks : List ℕ) (g : ℕ → List A) (k m : ℕ) (size : (
     pub writing-long : i ≤ m → length w ≡ length w₀
     writing-long h = ap length W.here ∙ length-put w₀ 0 (each g (news ks i)) (omega (arith, written-size i, written-room i h))
 
-    pub writing-room : i < m → isNew ks i ≡ true → c * k + k ≤ length w
+    pub writing-room : i < m → is_new ks i ≡ true → c * k + k ≤ length w
     writing-room h t =
         let n = writing-long (omega arith) in
         let e = W.count in
         let r = written-room (suc i) h in
         omega (arith, ap (λ (z : ℕ). z * k) (rank-new ks i t), ap (λ (z : ℕ). z * k) e)
 
-    pub writing-new : i < m → isNew ks i ≡ true → (w' : List A) → w' ≡ put w (c * k) (g i) → Writing ks g w₀ w' (c + 1) (i + 1)
+    pub writing-new : i < m → is_new ks i ≡ true → (w' : List A) → w' ≡ put w (c * k) (g i) → Writing ks g w₀ w' (c + 1) (i + 1)
     writing-new h t w' e =
         let n = W.count in
         let s = written-size i in
@@ -88,7 +88,7 @@ module _ {A : Type 0} (ks : List ℕ) (g : ℕ → List A) (k m : ℕ) (size : (
         one : each g (i ∷ []) ≡ g i
         one = unfold each in append-nil (g i)
 
-    pub writing-old : isNew ks i ≡ false → Writing ks g w₀ w c (i + 1)
+    pub writing-old : is_new ks i ≡ false → Writing ks g w₀ w c (i + 1)
     writing-old t =
         record {
           count = W.count ∙ (sym (rank-old ks i t) ∙ ap (rank ks) (sym (add-one i)));

@@ -5,13 +5,13 @@
 #![tactic(auto)]
 
 ghost use Rattle.std.specs.Prelude.{◌≡◌, [], ◌∷◌, ◌+◌, ◌*◌, ◌<◌, ◌≤◌, length, get_or};
-ghost use Rattle.refusals.specs.Limits.{maxSlots, maxPolygons};
+ghost use Rattle.refusals.specs.Limits.{max_slots, max_polygons};
 ghost use Rattle.rows.specs.Parts.{part, put, tab};
 ghost use Rattle.rows.specs.Contract.{Small};
 ghost use Rattle.net.specs.Net.{each};
-ghost use Rattle.net.specs.First.{rank, news, numberBy, rankIn, Firsts};
-ghost use Rattle.net.specs.Flat.{placeX, placeY};
-ghost use Rattle.places.specs.Places.{wide, classOf, boxAt, leafOf, side_of, xOf, yOf, keyX, keyY, placeKeys, Laid, Numbered, nodeNums, node_of};
+ghost use Rattle.net.specs.First.{rank, news, number_by, rank_in, Firsts};
+ghost use Rattle.net.specs.Flat.{place_x, place_y};
+ghost use Rattle.places.specs.Places.{wide, class_of, box_at, leaf_of, side_of, x_of, y_of, key_x, key_y, place_keys, Laid, Numbered, node_nums, node_of};
 
 // More than any coordinate of a cell: keys are made by multiples of it.
 const WIDE: u64 = 1 << 38;
@@ -20,7 +20,7 @@ const WIDE: u64 = 1 << 38;
 fn class_of(layers: &[u16], components: &[u32], k: usize) -> usize
     requires components_len { length components.now ≡ length layers.now }
     requires k_in_bounds { k < length layers.now }
-    ensures { result ≡ classOf layers.now components.now k }
+    ensures { result ≡ class_of layers.now components.now k }
 {
     let a = layers[k];
     let b = components[k];
@@ -37,7 +37,7 @@ fn class_row(layers: &[u16], components: &[u32], work: &mut [u64], l: usize)
     requires components_len { length components.now ≡ length layers.now }
     requires l_in_bounds { l + l ≤ length work.old }
     requires small { Small (length layers.now) (part work.old 0 l) }
-    ensures { work.new ≡ put work.old l (tab (λ v. classOf layers.now components.now (get_or work.old v 0)) l) }
+    ensures { work.new ≡ put work.old l (tab (λ v. class_of layers.now components.now (get_or work.old v 0)) l) }
 {
     for v in 0..l {
         let k = work[v] as usize;
@@ -45,9 +45,9 @@ fn class_row(layers: &[u16], components: &[u32], work: &mut [u64], l: usize)
     }
 }
 
-#[tactic(auto, unfolding(crate::specs::Places::leafOf))]
+#[tactic(auto, unfolding(crate::specs::Places::leaf_of))]
 fn leaf_of(m: usize, i: usize) -> usize
-    ensures value { result ≡ leafOf m i }
+    ensures value { result ≡ leaf_of m i }
     ensures low { i < m + m → 4 * result < m }
 {
     if i < m { i / 4 } else { (i - m) / 4 }
@@ -64,7 +64,7 @@ fn side_of(m: usize, i: usize) -> usize
 fn place_x(boxes: &[u64], v: usize, s: usize) -> u64
     requires v_in_bounds { 4 * v + 4 ≤ length boxes.now }
     requires small { Small wide boxes.now }
-    ensures { result ≡ placeX (boxAt boxes.now v) s }
+    ensures { result ≡ place_x (box_at boxes.now v) s }
 {
     let b = 4 * v;
     let x0 = boxes[b];
@@ -79,7 +79,7 @@ fn place_x(boxes: &[u64], v: usize, s: usize) -> u64
 fn place_y(boxes: &[u64], v: usize, s: usize) -> u64
     requires v_in_bounds { 4 * v + 4 ≤ length boxes.now }
     requires small { Small wide boxes.now }
-    ensures { result ≡ placeY (boxAt boxes.now v) s }
+    ensures { result ≡ place_y (box_at boxes.now v) s }
 {
     let b = 4 * v;
     let y0 = boxes[b + 1];
@@ -94,7 +94,7 @@ fn place_y(boxes: &[u64], v: usize, s: usize) -> u64
 fn x_of(boxes: &[u64], l: usize, i: usize) -> u64
     requires boxes_len { (length boxes.now ≡ 4 * l) × (i < 8 * l) }
     requires small { Small wide boxes.now }
-    ensures { (result ≡ xOf boxes.now (4 * l) i) × (result < wide) }
+    ensures { (result ≡ x_of boxes.now (4 * l) i) × (result < wide) }
 {
     let m = 4 * l;
     place_x(boxes, leaf_of(m, i), side_of(m, i))
@@ -103,7 +103,7 @@ fn x_of(boxes: &[u64], l: usize, i: usize) -> u64
 fn y_of(boxes: &[u64], l: usize, i: usize) -> u64
     requires boxes_len { (length boxes.now ≡ 4 * l) × (i < 8 * l) }
     requires small { Small wide boxes.now }
-    ensures { (result ≡ yOf boxes.now (4 * l) i) × (result < wide) }
+    ensures { (result ≡ y_of boxes.now (4 * l) i) × (result < wide) }
 {
     let m = 4 * l;
     place_y(boxes, leaf_of(m, i), side_of(m, i))
@@ -112,8 +112,8 @@ fn y_of(boxes: &[u64], l: usize, i: usize) -> u64
 // The keys of the first round: class and x of each place.
 fn keys_x(boxes: &[u64], work: &mut [u64], l: usize)
     requires laid { Laid boxes.now work.old l }
-    requires small { Small maxPolygons (part work.old l l) }
-    ensures { work.new ≡ put work.old (l + l) (tab (keyX (part work.old l l) boxes.now (4 * l)) (8 * l)) }
+    requires small { Small max_polygons (part work.old l l) }
+    ensures { work.new ≡ put work.old (l + l) (tab (key_x (part work.old l l) boxes.now (4 * l)) (8 * l)) }
 {
     let at = l + l;
     for i in 0..8 * l {
@@ -125,8 +125,8 @@ fn keys_x(boxes: &[u64], work: &mut [u64], l: usize)
 // The keys of the second round: the first place of equal class and x, and y.
 fn keys_y(boxes: &[u64], work: &mut [u64], l: usize)
     requires laid { Laid boxes.now work.old l }
-    requires small { Small (8 * maxSlots) (part work.old (18 * l) (8 * l)) }
-    ensures { work.new ≡ put work.old (l + l) (tab (keyY (part work.old (18 * l) (8 * l)) boxes.now (4 * l)) (8 * l)) }
+    requires small { Small (8 * max_slots) (part work.old (18 * l) (8 * l)) }
+    ensures { work.new ≡ put work.old (l + l) (tab (key_y (part work.old (18 * l) (8 * l)) boxes.now (4 * l)) (8 * l)) }
 {
     let at = l + l;
     let from = 18 * l;
@@ -140,8 +140,8 @@ fn keys_y(boxes: &[u64], work: &mut [u64], l: usize)
 // Answers how many are.
 fn number_row(row: &mut [u64]) -> usize
     requires { Firsts row.old }
-    ensures value { result ≡ rankIn row.old (length row.old) }
-    ensures row_after { row.new ≡ tab (λ i. rankIn row.old (get_or row.old i 0)) (length row.old) }
+    ensures value { result ≡ rank_in row.old (length row.old) }
+    ensures row_after { row.new ≡ tab (λ i. rank_in row.old (get_or row.old i 0)) (length row.old) }
 {
     let mut count: usize = 0;
     for i in 0..row.len() {
@@ -166,9 +166,9 @@ pub fn number_places(
     l: usize,
 ) -> usize
     requires laid { Laid boxes.now work.old l }
-    requires components_len { (length components.now ≡ length layers.now) × (length layers.now ≤ maxPolygons) }
+    requires components_len { (length components.now ≡ length layers.now) × (length layers.now ≤ max_polygons) }
     requires small { Small (length layers.now) (part work.old 0 l) }
-    ensures { Numbered (placeKeys layers.now components.now (part work.old 0 l) boxes.now l) (part work.old 0 l) work.new l result }
+    ensures { Numbered (place_keys layers.now components.now (part work.old 0 l) boxes.now l) (part work.old 0 l) work.new l result }
 {
     let a = l + l;
     let b = 18 * l;
@@ -209,7 +209,7 @@ fn write_node(
     requires components_len { (length components.now ≡ length layers.now) × (i < 4 * l) }
     requires small { Small (length layers.now) (part work.now 0 l) }
     requires at_in_bounds { at + 4 ≤ length nodes.old }
-    ensures { nodes.new ≡ put nodes.old at (nodeNums (node_of layers.now components.now (part work.now 0 l) boxes.now l i)) }
+    ensures { nodes.new ≡ put nodes.old at (node_nums (node_of layers.now components.now (part work.now 0 l) boxes.now l i)) }
 {
     let k = work[leaf_of(4 * l, i)] as usize;
     let a = layers[k] as i64;
@@ -232,8 +232,8 @@ pub fn write_nodes(
     requires laid { Laid boxes.now work.now l }
     requires components_len { (length components.now ≡ length layers.now) × (16 * l ≤ length nodes.old) }
     requires small { Small (length layers.now) (part work.now 0 l) }
-    requires l_value { part work.now (18 * l) (4 * l) ≡ tab (numberBy (placeKeys layers.now components.now (part work.now 0 l) boxes.now l)) (4 * l) }
-    ensures { (result ≡ rank (placeKeys layers.now components.now (part work.now 0 l) boxes.now l) (4 * l)) × (nodes.new ≡ put nodes.old 0 (each (λ i. nodeNums (node_of layers.now components.now (part work.now 0 l) boxes.now l i)) (news (placeKeys layers.now components.now (part work.now 0 l) boxes.now l) (4 * l)))) }
+    requires l_value { part work.now (18 * l) (4 * l) ≡ tab (number_by (place_keys layers.now components.now (part work.now 0 l) boxes.now l)) (4 * l) }
+    ensures { (result ≡ rank (place_keys layers.now components.now (part work.now 0 l) boxes.now l) (4 * l)) × (nodes.new ≡ put nodes.old 0 (each (λ i. node_nums (node_of layers.now components.now (part work.now 0 l) boxes.now l i)) (news (place_keys layers.now components.now (part work.now 0 l) boxes.now l) (4 * l)))) }
 {
     let from = 18 * l;
     let mut c: usize = 0;

@@ -10,17 +10,17 @@ use lib.Ieee.{Float, nan, binary64, of_int, mul, round, le}
 use lib.Ieee.Positive.{positive}
 use Rattle.refusals.specs.Limits.{coordinate}
 use Rattle.refusals.specs.Said.{accepted, refused}
-use Rattle.cell.specs.Ticks.{tick, metresOf}
-use Rattle.floats.specs.Fractions.{◌·◌, ◌÷◌, ◌⊕◌, ◌⊖◌, float, inPotential, noNan, nonneg}
+use Rattle.cell.specs.Ticks.{tick, metres_of}
+use Rattle.floats.specs.Fractions.{◌·◌, ◌÷◌, ◌⊕◌, ◌⊖◌, float, in_potential, no_nan, nonneg}
 use Rattle.floats.proofs.Signs.{div-no-nan, square-nonneg, add-nonneg, mul-nonneg, div-nonneg}
 use Rattle.floats.proofs.Ranges.{In, in-positive, num-in, mul_in}
 use Rattle.floats.proofs.Sizes.{within-finite, finite-no-nan, add-within, sub_within}
 use Rattle.floats.proofs.Bounds.{sheet-positive, potential-within}
-use Rattle.sound_net.specs.Nets.{Net, swAt, seAt, neAt, nwAt, soundNet}
+use Rattle.sound_net.specs.Nets.{Net, sw_at, se_at, ne_at, nw_at, sound_net}
 use Rattle.sound_net.proofs.Tests.{yes}
 use Rattle.power.specs.declared.Slope.{Slope}
-use Rattle.power.specs.Formulas.{powerOf}
-use Rattle.power.specs.Powers.{value_at, valuesAt, gradAt, powerAt, listed, inRanges, powerSays, powerRow}
+use Rattle.power.specs.Formulas.{power_of}
+use Rattle.power.specs.Powers.{value_at, values_at, grad_at, power_at, listed, in_ranges, power_says, power_row}
 use Rattle.power.proofs.Listed.{listed-length, listed_at}
 use Rattle.power.proofs.Verdict.{ranged, sloped, done}
 
@@ -41,19 +41,19 @@ tick-positive : T (positive tick)
 unfolding round
 tick-positive = tt
 
-least-positive : T (positive (metresOf 1))
+least-positive : T (positive (metres_of 1))
 unfolding of_int mul round
 least-positive = tt
 
-most-positive : T (positive (metresOf (coordinate + coordinate)))
+most-positive : T (positive (metres_of (coordinate + coordinate)))
 unfolding of_int mul round
 most-positive = tt
 
-twice-least : T (positive (float 2 · metresOf 1))
+twice-least : T (positive (float 2 · metres_of 1))
 unfolding of_int mul round
 twice-least = tt
 
-twice_most : T (positive (float 2 · metresOf (coordinate + coordinate)))
+twice_most : T (positive (float 2 · metres_of (coordinate + coordinate)))
 unfolding of_int mul round
 twice_most = tt
 
@@ -63,17 +63,17 @@ tick-itself = record { from = unfold le round in tt; to = unfold le round in tt 
 two-itself : In (float 2) (float 2) (float 2)
 two-itself = record { from = unfold le of_int in tt; to = unfold le of_int in tt }
 
-metres-in : (n : ℕ) → 0 < n → n ≤ coordinate + coordinate → In (metresOf 1) (metresOf (coordinate + coordinate)) (metresOf n)
+metres-in : (n : ℕ) → 0 < n → n ≤ coordinate + coordinate → In (metres_of 1) (metres_of (coordinate + coordinate)) (metres_of n)
 metres-in n a b = mul_in binary64 one-positive widest-positive tick-positive tick-positive (num-in n (coordinate + coordinate) a b) tick-itself
 
-pub metres-positive : (n : ℕ) → 0 < n → n ≤ coordinate + coordinate → T (positive (metresOf n))
+pub metres-positive : (n : ℕ) → 0 < n → n ≤ coordinate + coordinate → T (positive (metres_of n))
 metres-positive n a b = in-positive least-positive most-positive (metres-in n a b)
 
-pub twice-positive : (n : ℕ) → 0 < n → n ≤ coordinate + coordinate → T (positive (float 2 · metresOf n))
+pub twice-positive : (n : ℕ) → 0 < n → n ≤ coordinate + coordinate → T (positive (float 2 · metres_of n))
 twice-positive n a b = in-positive twice-least twice_most (mul_in binary64 two-positive two-positive least-positive most-positive two-itself (metres-in n a b))
 
 -- ---- a slope is no NaN: the sums are finite, and the divisor is positive
-slope-no-nan : (a b c d w : Float) → T (inPotential a) → T (inPotential b) → T (inPotential c) → T (inPotential d) → T (positive w) → T (noNan (((a ⊕ b) ⊖ (c ⊕ d)) ÷ w))
+slope-no-nan : (a b c d w : Float) → T (in_potential a) → T (in_potential b) → T (in_potential c) → T (in_potential d) → T (positive w) → T (no_nan (((a ⊕ b) ⊖ (c ⊕ d)) ÷ w))
 slope-no-nan a b c d w A B C D p =
     let x = add-within a b 20 (lit< tt) (potential-within a A) (potential-within b B) in
     let y = add-within c d 20 (lit< tt) (potential-within c C) (potential-within d D) in
@@ -81,7 +81,7 @@ slope-no-nan a b c d w A B C D p =
     div-no-nan binary64 z w (finite-no-nan z (within-finite 22 z (sub_within (a ⊕ b) (c ⊕ d) 21 (lit< tt) x y))) p
 
 -- ---- a sum of squares times positive numbers, over one
-power-nonneg : (s : Slope) (sheet : Float) → T (noNan s.gx) → T (noNan s.gy) → T (positive s.dx) → T (positive s.dy) → T (positive sheet) → T (nonneg (powerOf s sheet))
+power-nonneg : (s : Slope) (sheet : Float) → T (no_nan s.gx) → T (no_nan s.gy) → T (positive s.dx) → T (positive s.dy) → T (positive sheet) → T (nonneg (power_of s sheet))
 power-nonneg s sheet a b c d e =
     let x = s.gx · s.gx in
     let y = s.gy · s.gy in
@@ -92,23 +92,23 @@ power-nonneg s sheet a b c d e =
     e
 
 -- ---- the power of a cell of a sound net, its values in range
-pub cell-nonneg : (n : Net) (us : List Float) → T (soundNet n) → T (inRanges n.nodes n.sheets us) → (c : ℕ) → c < length n.sheets → T (nonneg (powerAt n.nodes n.corners n.sheets us c))
-unfolding powerAt gradAt valuesAt
+pub cell-nonneg : (n : Net) (us : List Float) → T (sound_net n) → T (in_ranges n.nodes n.sheets us) → (c : ℕ) → c < length n.sheets → T (nonneg (power_at n.nodes n.corners n.sheets us c))
+unfolding power_at grad_at values_at
 cell-nonneg n us s r c h =
     let k = sloped n us s r c h in
     let v = ranged n.nodes n.sheets us r in
     let e = v.count in
-    let sw = swAt n.corners c in
-    let se = seAt n.corners c in
-    let ne = neAt n.corners c in
-    let nw = nwAt n.corners c in
-    let A = v.potential sw (omega (arith, k.cell.swKnown, e)) in
-    let B = v.potential se (omega (arith, k.cell.seKnown, e)) in
-    let C = v.potential ne (omega (arith, k.cell.neKnown, e)) in
-    let D = v.potential nw (omega (arith, k.cell.nwKnown, e)) in
+    let sw = sw_at n.corners c in
+    let se = se_at n.corners c in
+    let ne = ne_at n.corners c in
+    let nw = nw_at n.corners c in
+    let A = v.potential sw (omega (arith, k.cell.sw_known, e)) in
+    let B = v.potential se (omega (arith, k.cell.se_known, e)) in
+    let C = v.potential ne (omega (arith, k.cell.ne_known, e)) in
+    let D = v.potential nw (omega (arith, k.cell.nw_known, e)) in
     let w = k.sides.width in
     let t = k.sides.height in
-    power-nonneg (gradAt n.nodes n.corners us c) (value_at n.sheets c)
+    power-nonneg (grad_at n.nodes n.corners us c) (value_at n.sheets c)
     (slope-no-nan (value_at us se) (value_at us ne) (value_at us sw) (value_at us nw) _ B C A D (twice-positive _ w.some w.most))
     (slope-no-nan (value_at us ne) (value_at us nw) (value_at us sw) (value_at us se) _ C D A B (twice-positive _ t.some t.most))
     (metres-positive _ w.some w.most)
@@ -117,15 +117,15 @@ cell-nonneg n us s r c h =
 
 -- ---- what an accepted call found
 pub record Accepted (n : Net) (us answers : List Float) : Type 0 where
-  pub sound : soundNet n ≡ true
-  pub fit : inRanges n.nodes n.sheets us ≡ true
+  pub sound : sound_net n ≡ true
+  pub fit : in_ranges n.nodes n.sheets us ≡ true
   pub enough : leb (length n.sheets) (length answers) ≡ true
 
-pub accepted-is : (n : Net) (us answers : List Float) → powerSays n us answers ≡ accepted [] → Accepted n us answers
-unfolding powerSays
-accepted-is n us answers = by (soundNet n) (inRanges n.nodes n.sheets us) (leb (length n.sheets) (length answers)) refl refl refl
+pub accepted-is : (n : Net) (us answers : List Float) → power_says n us answers ≡ accepted [] → Accepted n us answers
+unfolding power_says
+accepted-is n us answers = by (sound_net n) (in_ranges n.nodes n.sheets us) (leb (length n.sheets) (length answers)) refl refl refl
   where
-    by : (a b c : Bool) → soundNet n ≡ a → inRanges n.nodes n.sheets us ≡ b → leb (length n.sheets) (length answers) ≡ c
+    by : (a b c : Bool) → sound_net n ≡ a → in_ranges n.nodes n.sheets us ≡ b → leb (length n.sheets) (length answers) ≡ c
         → cond a (cond b (cond c (accepted []) (refused 6 0)) (refused 3 0)) (refused 7 0) ≡ accepted []
         → Accepted n us answers
     by true true true p q r e = record { sound = p; fit = q; enough = r }
@@ -134,10 +134,10 @@ accepted-is n us answers = by (soundNet n) (inRanges n.nodes n.sheets us) (leb (
     by false b c p q r e = let z : ◌≡◌ {A = ℕ} 0 1 = cc in absurd (omega arith)
 
 -- The law: every answer of an accepted call is no NaN and has no minus sign.
-pub powers-nonneg : (n : Net) (us answers : List Float) → powerSays n us answers ≡ accepted [] → (c : ℕ) → c < length n.sheets → T (nonneg (get_or (powerRow n us answers) c nan))
+pub powers-nonneg : (n : Net) (us answers : List Float) → power_says n us answers ≡ accepted [] → (c : ℕ) → c < length n.sheets → T (nonneg (get_or (power_row n us answers) c nan))
 powers-nonneg n us answers a c h =
     let k = accepted-is n us answers a in
-    let f = powerAt n.nodes n.corners n.sheets us in
+    let f = power_at n.nodes n.corners n.sheets us in
     let m = length n.sheets in
     rw (← (done n us answers k.sound k.fit k.enough).1)
     (subst (λ (x : Float). T (nonneg x))

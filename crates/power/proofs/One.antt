@@ -6,10 +6,10 @@ use Rattle.std.specs.Prelude.{Result}
 use Rattle.refusals.specs.declared.Refusal.{Refusal}
 use Rattle.refusals.proofs.Settled.{one-said}
 use Rattle.sound_net.specs.Nets.{Net}
-use Rattle.power.specs.Powers.{powerSaid, powerSays, powerRow}
+use Rattle.power.specs.Powers.{power_said, power_says, power_row}
 
-pub one_power : (n : Net) (us answers : List Float) (r q : Result Unit Refusal) → powerSaid r ≡ powerSays n us answers → powerSaid q ≡ powerSays n us answers → r ≡ q
-one_power n us answers = one-said (λ u. []) (λ vs. tt) (λ u. refl) (powerSays n us answers)
+pub one_power : (n : Net) (us answers : List Float) (r q : Result Unit Refusal) → power_said r ≡ power_says n us answers → power_said q ≡ power_says n us answers → r ≡ q
+one_power n us answers = one-said (λ u. []) (λ vs. tt) (λ u. refl) (power_says n us answers)
 
-pub one-row : (n : Net) (us answers row other : List Float) → row ≡ powerRow n us answers → other ≡ powerRow n us answers → row ≡ other
+pub one-row : (n : Net) (us answers row other : List Float) → row ≡ power_row n us answers → other ≡ power_row n us answers → row ≡ other
 one-row n us answers row other p q = p ∙ sym q

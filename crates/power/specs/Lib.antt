@@ -1,3 +1,3 @@
--- The power of a net's cells: document 01's formulas, and what the call says.
+-- The power of a net's cells: the rules' formulas, and what the call says.
 pub mod Formulas
 pub mod Powers

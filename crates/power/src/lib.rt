@@ -4,12 +4,12 @@
 #![tactic(auto)]
 
 ghost use Rattle.std.specs.Prelude.{◌≡◌, ℕ, ◌+◌, ◌*◌, ◌^◌, ◌<◌, ◌≤◌, pos, nat_abs, ◌-ℤ◌, length, get_or};
-ghost use Rattle.cell.specs.Ticks.{metresOf};
-ghost use Rattle.floats.specs.Fractions.{inSheet, inPotential};
-ghost use Rattle.sound_net.specs.Nets.{netOf, all_below};
+ghost use Rattle.cell.specs.Ticks.{metres_of};
+ghost use Rattle.floats.specs.Fractions.{in_sheet, in_potential};
+ghost use Rattle.sound_net.specs.Nets.{net_of, all_below};
 ghost use Rattle.sound_net.specs.Facts.{Gap};
-ghost use Rattle.power.specs.Formulas.{slopeOf, powerOf};
-ghost use Rattle.power.specs.Powers.{value_at, valuesAt, powered, inRanges, powerSaid, powerSays, powerRow, Sloped};
+ghost use Rattle.power.specs.Formulas.{slope_of, power_of};
+ghost use Rattle.power.specs.Powers.{value_at, values_at, powered, in_ranges, power_said, power_says, power_row, Sloped};
 
 use refusals::Refusal;
 
@@ -28,7 +28,7 @@ impl Values {
     // A cell's slope and extents from its values. Internal: the sides are those of a sound cell.
     fn grad(self) -> Slope
         requires { (self.width < 2 ^ 53) × (self.height < 2 ^ 53) }
-        ensures { result ≡ slopeOf self.u0 self.u1 self.u2 self.u3 (metresOf self.width) (metresOf self.height) }
+        ensures { result ≡ slope_of self.u0 self.u1 self.u2 self.u3 (metres_of self.width) (metres_of self.height) }
     {
         let dx = cell::ticks::metres(self.width);
         let dy = cell::ticks::metres(self.height);
@@ -52,7 +52,7 @@ pub struct Slope {
 
 impl Slope {
     fn power(self, sheet: f64) -> f64
-        ensures { result ≡ powerOf self sheet }
+        ensures { result ≡ power_of self sheet }
     {
         (((self.gx * self.gx + self.gy * self.gy) * self.dx) * self.dy) / sheet
     }
@@ -68,10 +68,10 @@ fn gap(nodes: &[i64], i: usize, j: usize) -> u64
 }
 
 // The values of cell c. Internal: the cell is one of a sound net, with a potential for each node.
-#[tactic(auto, unfolding(crate::specs::Powers::valuesAt))]
+#[tactic(auto, unfolding(crate::specs::Powers::values_at))]
 fn cell_values(nodes: &[i64], corners: &[u64], potentials: &[f64], c: usize) -> Values
     requires { Sloped nodes.now corners.now potentials.now c }
-    ensures { result ≡ valuesAt nodes.now corners.now potentials.now c }
+    ensures { result ≡ values_at nodes.now corners.now potentials.now c }
 {
     let at = c * 4;
     let sw = corners[at] as usize;
@@ -90,7 +90,7 @@ fn cell_values(nodes: &[i64], corners: &[u64], potentials: &[f64], c: usize) -> 
 
 #[tactic(auto, unfolding(sound_net::specs::Nets::all_below))]
 fn potentials_in_range(potentials: &[f64]) -> bool
-    ensures { result ≡ all_below (λ i. inPotential (value_at potentials.now i)) (length potentials.now) }
+    ensures { result ≡ all_below (λ i. in_potential (value_at potentials.now i)) (length potentials.now) }
 {
     let mut good = true;
     for &u in potentials {
@@ -101,7 +101,7 @@ fn potentials_in_range(potentials: &[f64]) -> bool
 
 #[tactic(auto, unfolding(sound_net::specs::Nets::all_below))]
 fn sheets_in_range(sheets: &[f64]) -> bool
-    ensures { result ≡ all_below (λ i. inSheet (value_at sheets.now i)) (length sheets.now) }
+    ensures { result ≡ all_below (λ i. in_sheet (value_at sheets.now i)) (length sheets.now) }
 {
     let mut good = true;
     for &r in sheets {
@@ -111,7 +111,7 @@ fn sheets_in_range(sheets: &[f64]) -> bool
 }
 
 // Puts the power of each cell in its answer, two cells a turn: both are loaded before either is divided, so that the divisions go together. Internal: the net is sound, with a potential for each node and room for the answers.
-#[tactic(auto, unfolding(crate::specs::Powers::valuesAt, crate::specs::Powers::listed))]
+#[tactic(auto, unfolding(crate::specs::Powers::values_at, crate::specs::Powers::listed))]
 fn fill(nodes: &[i64], corners: &[u64], sheets: &[f64], potentials: &[f64], answers: &mut [f64])
     requires room { length sheets.now ≤ length answers.old }
     requires sloped { (c : ℕ) → c < length sheets.now → Sloped nodes.now corners.now potentials.now c }
@@ -134,18 +134,18 @@ fn fill(nodes: &[i64], corners: &[u64], sheets: &[f64], potentials: &[f64], answ
     }
 }
 
-// Whether each value is one that document 01 allows, and there is a potential for each node.
-#[tactic(auto, unfolding(crate::specs::Powers::inRanges))]
+// Whether each value is one that the rules allow, and there is a potential for each node.
+#[tactic(auto, unfolding(crate::specs::Powers::in_ranges))]
 fn in_ranges(nodes: &[i64], sheets: &[f64], potentials: &[f64]) -> bool
-    ensures { result ≡ inRanges nodes.now sheets.now potentials.now }
+    ensures { result ≡ in_ranges nodes.now sheets.now potentials.now }
 {
     (potentials.len() == nodes.len() / 4)
         & potentials_in_range(potentials)
         & sheets_in_range(sheets)
 }
 
-// Document 01's cell_power: refusal 7 for a bad net, 3 for a value out of range, 6 for fewer answers than cells.
-#[tactic(auto, unfolding(crate::specs::Powers::powerSays, crate::specs::Powers::powerRow))]
+// The rules' cell_power: refusal 7 for a bad net, 3 for a value out of range, 6 for fewer answers than cells.
+#[tactic(auto, unfolding(crate::specs::Powers::power_says, crate::specs::Powers::power_row))]
 pub fn cell_power(
     nodes: &[i64],
     ends: &[u64],
@@ -155,8 +155,8 @@ pub fn cell_power(
     potentials: &[f64],
     answers: &mut [f64],
 ) -> Result<(), Refusal>
-    ensures said { powerSaid result ≡ powerSays (netOf nodes.now ends.now conductances.now corners.now sheets.now) potentials.now answers.old }
-    ensures row { answers.new ≡ powerRow (netOf nodes.now ends.now conductances.now corners.now sheets.now) potentials.now answers.old }
+    ensures said { power_said result ≡ power_says (net_of nodes.now ends.now conductances.now corners.now sheets.now) potentials.now answers.old }
+    ensures row { answers.new ≡ power_row (net_of nodes.now ends.now conductances.now corners.now sheets.now) potentials.now answers.old }
 {
     if !sound_net::is_sound(nodes, ends, conductances, corners, sheets) {
         return Err(Refusal::BadTable);

@@ -5,10 +5,10 @@
 ghost use Rattle.std.specs.Prelude.{◌≡◌, ◌≤◌, length};
 ghost use Rattle.io.specs.Counts.{IsPrefixLen as Fits};
 ghost use Rattle.refusals.specs.Said.{refusal};
-ghost use Rattle.lines.specs.Text.{Puts, written, refusedMost};
+ghost use Rattle.lines.specs.Text.{Puts, written, refused_most};
 ghost use Rattle.network.specs.Says.{polygons};
-ghost use Rattle.printing.specs.Output.{saidText, tableText, outputText};
-ghost use Rattle.printing.specs.Lent.{TableRows, NetRows, rowsText};
+ghost use Rattle.printing.specs.Output.{said_text, table_text, output_text};
+ghost use Rattle.printing.specs.Lent.{TableRows, NetRows, rows_text};
 
 use mesh::Totals;
 use refusals::Refusal;
@@ -19,9 +19,9 @@ use unweighted::Counts;
 pub const TEXT: usize = 72201;
 
 fn refuse(out: &mut [u8], why: Refusal) -> usize
-    requires { refusedMost ≤ length out.old }
+    requires { refused_most ≤ length out.old }
     ensures upper_bound { result ≤ length out.old }
-    ensures puts { Puts 0 (saidText (refusal why)) out.old result out.new }
+    ensures puts { Puts 0 (said_text (refusal why)) out.old result out.new }
 {
     let code = refusals::code_of(why);
     lines::refused_line(out, code.number, code.place)
@@ -41,7 +41,7 @@ fn put_lines(
     requires table_rows { TableRows t out.old table.now order.now }
     requires net_rows { NetRows c nodes.now ends.now gs.now }
     ensures upper_bound { result ≤ length out.old }
-    ensures puts { Puts 0 (rowsText t c table.now order.now nodes.now
+    ensures puts { Puts 0 (rows_text t c table.now order.now nodes.now
         ends.now gs.now) out.old result out.new }
 {
     let totals = lines::totals_line(out, t.count, t.leaves, c.nodes, c.edges, t.splits);
@@ -62,7 +62,7 @@ fn table_text(
 ) -> usize
     requires { TableRows t out.old table.now order.now }
     ensures upper_bound { result ≤ length out.old }
-    ensures puts { Puts 0 (tableText t.count t.max_level t.splits table.now order.now
+    ensures puts { Puts 0 (table_text t.count t.max_level t.splits table.now order.now
         (polygons layers.now components.now sheets.now))
         out.old result out.new }
 {
@@ -99,8 +99,8 @@ fn table_text(
 // was.
 pub fn text(bytes: &[u8], out: &mut [u8; TEXT]) -> usize
     ensures fits { Fits result out.new }
-    ensures value { result ≡ length (outputText bytes.now) }
-    ensures out_after { out.new ≡ written (outputText bytes.now) out.old }
+    ensures value { result ≡ length (output_text bytes.now) }
+    ensures out_after { out.new ≡ written (output_text bytes.now) out.old }
 {
     let row: &mut [u8] = out;
     let mut table = [0i64; 512];

@@ -9,7 +9,7 @@ use lib.ListN.{length}
 use borrow.Author.Tests.{leb-true}
 use Rattle.refusals.specs.declared.Refusal.{Refusal}
 use Rattle.refusals.specs.declared.Refusal.TheVariants.{WrongLength, OutOfRange}
-use Rattle.record.specs.Fields.{Out, value, stop, ◌then◌, require, many, several, bigEndian, field, ranged}
+use Rattle.record.specs.Fields.{Out, value, stop, ◌then◌, require, many, several, big_endian, field, ranged}
 use Rattle.record.specs.Answers.{went}
 
 value-stop : {A : Type 0} {x : Refusal} {a : A} {e : ℕ} → stop x ≡ value a e → ⊥
@@ -38,14 +38,14 @@ require-value false x o p = absurd (value-stop p)
 
 pub record Found (k : ℕ) (s : List ℕ) (at v e : ℕ) : Type 0 where
   pub room : at + k ≤ length s
-  pub is : v ≡ bigEndian k s at
+  pub is : v ≡ big_endian k s at
   pub end : e ≡ at + k
 
 pub field-value : (k : ℕ) (s : List ℕ) (at : ℕ) {v e : ℕ} → field k s at ≡ value v e → Found k s at v e
 unfolding field
 field-value k s at {v} {e} p =
-    let q = require-value (leb (at + k) (length s)) (WrongLength at) (value (bigEndian k s at) (at + k)) p in
-    let r : value (bigEndian k s at) (at + k) ≡ value v e = q.1 in
+    let q = require-value (leb (at + k) (length s)) (WrongLength at) (value (big_endian k s at) (at + k)) p in
+    let r : value (big_endian k s at) (at + k) ≡ value v e = q.1 in
     record { room = leb-true (at + k) (length s) q.0; is = cc; end = cc }
 
 and_both : (a b : Bool) → (a && b) ≡ true → (a ≡ true) × (b ≡ true)

@@ -21,13 +21,13 @@ went keep (stop x) = stop x
 abbrev pub nothing : {A : Type 0} → A → Unit {0}
 nothing a = tt
 
-abbrev pub countsOf : Board → Counts
-countsOf b =
+abbrev pub counts_of : Board → Counts
+counts_of b =
     record { layers = length b.layers; polygons = length b.polygons; points = points_of b.polygons; splits = length b.splits }
 
 -- what the check of a record answers
 abbrev pub checked : Out Board → Result Read Refusal
-checked (value b at) = Ok (record { settings = b.settings; counts = countsOf b })
+checked (value b at) = Ok (record { settings = b.settings; counts = counts_of b })
 checked (stop x) = Err x
 
 -- an accepted record in numbers: the settings and the counts
@@ -35,17 +35,17 @@ abbrev pub numbers : Settings → Counts → List ℕ
 numbers g n = g.level ∷ g.cap ∷ g.target ∷ n.layers ∷ n.polygons ∷ n.points ∷ n.splits ∷ []
 
 -- an answer by its number and place
-abbrev pub readSaid : Result Read Refusal → Said
-readSaid = said (λ r. numbers r.settings r.counts)
+abbrev pub read_said : Result Read Refusal → Said
+read_said = said (λ r. numbers r.settings r.counts)
 
 abbrev pub says : Out Board → Said
-says (value b at) = accepted (numbers b.settings (countsOf b))
+says (value b at) = accepted (numbers b.settings (counts_of b))
 says (stop x) = refusal x
 
 -- a field by its number and place
-abbrev pub fieldSaid : Result ℕ Refusal → Said
-fieldSaid = said (λ v. v ∷ [])
+abbrev pub field_said : Result ℕ Refusal → Said
+field_said = said (λ v. v ∷ [])
 
-abbrev pub fieldSays : Out ℕ → Said
-fieldSays (value v at) = accepted (v ∷ [])
-fieldSays (stop x) = refusal x
+abbrev pub field_says : Out ℕ → Said
+field_says (value v at) = accepted (v ∷ [])
+field_says (stop x) = refusal x

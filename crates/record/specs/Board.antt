@@ -1,7 +1,7 @@
--- Document 01's board record, from bytes to a board or a refusal.
+-- The rules' board record, from bytes to a board or a refusal.
 use Rattle.std.specs.Prelude.{ℕ, ◌+◌, ◌-◌, ◌^◌, List, [], ◌∷◌, cond, ◌||◌, leb, eqb, ℤ, length}
 use Rattle.refusals.specs.declared.Refusal.TheVariants.{WrongVersion, WrongLength, OutOfRange}
-use Rattle.refusals.specs.Limits.{maxLevel, maxCap, maxCell, maxLayers, maxPolygons, maxPoints}
+use Rattle.refusals.specs.Limits.{widest_level, max_cap, max_cell, max_layers, max_polygons, max_points}
 use Rattle.cell.specs.Ticks.{in_range}
 use Rattle.record.specs.declared.Settings.{Settings}
 use Rattle.record.specs.Fields.{Out, value, ◌then◌, require, many, several, field, ranged, signed}
@@ -29,35 +29,35 @@ pub record Board : Type 0 where
   pub splits : List ℕ
 
 -- how many points a polygon has, and how many some polygons have
-abbrev pub pointsIn : Polygon → ℕ
-pointsIn p = length p.points
+abbrev pub points_in : Polygon → ℕ
+points_in p = length p.points
 
 unfoldable pub points_of : List Polygon → ℕ
 points_of [] = 0
-points_of (p ∷ ps) = pointsIn p + points_of ps
+points_of (p ∷ ps) = points_in p + points_of ps
 
 -- r_sheet lies from 2^-40 to 2^40. The bits of positive binary64 numbers rise with the numbers
-abbrev pub sheetLow : ℕ
-sheetLow = 0x3d70_0000_0000_0000
+abbrev pub sheet_low : ℕ
+sheet_low = 0x3d70_0000_0000_0000
 
-abbrev pub sheetHigh : ℕ
-sheetHigh = 0x4270_0000_0000_0000
+abbrev pub sheet_high : ℕ
+sheet_high = 0x4270_0000_0000_0000
 
 -- the largest layer number, of 16 bits
-abbrev pub lastLayer : ℕ
-lastLayer = 2 ^ 16 - 1
+abbrev pub last_layer : ℕ
+last_layer = 2 ^ 16 - 1
 
 -- "max_level (8 bits; 255 here means the default, 3)"
-abbrev pub asDefault : ℕ
-asDefault = 255
+abbrev pub as_default : ℕ
+as_default = 255
 
-abbrev pub defaultLevel : ℕ
-defaultLevel = 3
+abbrev pub default_level : ℕ
+default_level = 3
 
 unfoldable pub level : List ℕ → ℕ → Out ℕ
 level s at =
     field 1 s at then λ v next.
-    require (leb v maxLevel || eqb v asDefault) (OutOfRange at) (value (cond (eqb v asDefault) defaultLevel v) next)
+    require (leb v widest_level || eqb v as_default) (OutOfRange at) (value (cond (eqb v as_default) default_level v) next)
 
 -- "version 1 (8 bits); 32-bit length of all that follows; max_level; cap (16); target (64)"
 unfoldable pub settings : List ℕ → Out Settings
@@ -65,23 +65,23 @@ settings s =
     field 1 s 0 then λ version at. require (eqb version 1) WrongVersion
     (field 4 s at then λ rest next. require (eqb rest (length s - next)) (WrongLength at)
     (level s next then λ l at.
-    ranged 1 maxCap 2 s at then λ cap at.
-    ranged 1 maxCell 8 s at then λ target at.
+    ranged 1 max_cap 2 s at then λ cap at.
+    ranged 1 max_cell 8 s at then λ target at.
     value (record { level = l; cap = cap; target = target }) at))
 
 -- "entries layer (16) and cell (64)", "layer numbers rising strictly": each is at least one more than the last
 unfoldable pub entry : List ℕ → ℕ → ℕ → Out Entry
 entry s least at =
-    ranged least lastLayer 2 s at then λ layer at.
-    ranged 0 maxCell 8 s at then λ cell at.
+    ranged least last_layer 2 s at then λ layer at.
+    ranged 0 max_cell 8 s at then λ cell at.
     value (record { layer = layer; cell = cell }) at
 
 abbrev pub entries : List ℕ → ℕ → ℕ → Out (List Entry)
 entries s = many (entry s) (λ e. e.layer + 1) 0
 
 -- "layer-list count (16)"
-unfoldable pub layerList : List ℕ → ℕ → Out (List Entry)
-layerList s at = ranged 0 maxLayers 2 s at then λ n at. entries s n at
+unfoldable pub layer_list : List ℕ → ℕ → Out (List Entry)
+layer_list s at = ranged 0 max_layers 2 s at then λ n at. entries s n at
 
 unfoldable pub coordinate : List ℕ → ℕ → Out ℤ
 coordinate s at = signed s at then λ z next. require (in_range z) (OutOfRange at) (value z next)
@@ -98,8 +98,8 @@ unfoldable pub polygon : List ℕ → ℕ → Out Polygon
 polygon s at =
     field 2 s at then λ layer at.
     field 4 s at then λ component at.
-    ranged sheetLow sheetHigh 8 s at then λ sheet at.
-    ranged 0 maxPoints 2 s at then λ n at.
+    ranged sheet_low sheet_high 8 s at then λ sheet at.
+    ranged 0 max_points 2 s at then λ n at.
     ring s n at then λ points at.
     value (record { layer = layer; component = component; sheet = sheet; points = points }) at
 
@@ -107,22 +107,22 @@ abbrev pub shapes : List ℕ → ℕ → ℕ → Out (List Polygon)
 shapes s = several (polygon s)
 
 -- "polygon count (16)"
-unfoldable pub polygonList : List ℕ → ℕ → Out (List Polygon)
-polygonList s at = ranged 0 maxPolygons 2 s at then λ n at. shapes s n at
+unfoldable pub polygon_list : List ℕ → ℕ → Out (List Polygon)
+polygon_list s at = ranged 0 max_polygons 2 s at then λ n at. shapes s n at
 
 abbrev pub ids : List ℕ → ℕ → ℕ → Out (List ℕ)
 ids s = several (field 4 s)
 
 -- "split count (16) and cell ids (32)"
-unfoldable pub splitList : List ℕ → ℕ → Out (List ℕ)
-splitList s at = field 2 s at then λ n at. ids s n at
+unfoldable pub split_list : List ℕ → ℕ → Out (List ℕ)
+split_list s at = field 2 s at then λ n at. ids s n at
 
 -- the lists, which end the record. Refusal 2, "bytes remain", with the "first remaining byte"
 unfoldable pub lists : List ℕ → Settings → ℕ → Out Board
 lists s g at =
-    layerList s at then λ ls at.
-    polygonList s at then λ ps at.
-    splitList s at then λ ks at.
+    layer_list s at then λ ls at.
+    polygon_list s at then λ ps at.
+    split_list s at then λ ks at.
     require (eqb at (length s)) (WrongLength at)
     (value (record { settings = g; layers = ls; polygons = ps; splits = ks }) at)
 

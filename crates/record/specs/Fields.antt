@@ -10,7 +10,7 @@ pub data Out (A : Type 0) : Type 0 where
   value : A → ℕ → Out A
   stop : Refusal → Out A
 
--- document 01: "anything but a value ends the read at once"
+-- the rules: "anything but a value ends the read at once"
 abbrev pub ◌then◌ : {A B : Type 0} → Out A → (A → ℕ → Out B) → Out B
 (value a at) then f = f a at
 (stop x) then f = stop x
@@ -31,13 +31,13 @@ abbrev pub several : {A : Type 0} → (ℕ → Out A) → ℕ → ℕ → Out (L
 several item = many (λ (_ : Unit {0}). item) (λ _. tt) tt
 
 -- the number of k bytes from `at` on, the first of them the most significant
-unfoldable pub bigEndian : ℕ → List ℕ → ℕ → ℕ
-bigEndian zero s at = 0
-bigEndian (suc k) s at = bigEndian k s at * 256 + get_or s (at + k) 0
+unfoldable pub big_endian : ℕ → List ℕ → ℕ → ℕ
+big_endian zero s at = 0
+big_endian (suc k) s at = big_endian k s at * 256 + get_or s (at + k) 0
 
 -- a field of k bytes. Refusal 2, "a field can't be read whole", with the "offset of that field"
 unfoldable pub field : ℕ → List ℕ → ℕ → Out ℕ
-field k s at = require (leb (at + k) (length s)) (WrongLength at) (value (bigEndian k s at) (at + k))
+field k s at = require (leb (at + k) (length s)) (WrongLength at) (value (big_endian k s at) (at + k))
 
 -- a field of k bytes whose value lies from low to high. Refusal 3, "a value outside the table", with the "byte offset in the reader"
 unfoldable pub ranged : ℕ → ℕ → ℕ → List ℕ → ℕ → Out ℕ

@@ -1,9 +1,9 @@
 // One walk over a record: each field is read and judged, in byte order, and nothing is kept but the counts.
 ghost use Rattle.std.specs.Prelude.{◌≡◌, ◌≤◌};
-ghost use Rattle.refusals.specs.Limits.{maxPolygons};
+ghost use Rattle.refusals.specs.Limits.{max_polygons};
 ghost use Rattle.record.specs.Board.{level, settings, entries, coordinate, ring, polygon, shapes, ids, lists, board};
-ghost use Rattle.record.specs.Board.{pointsIn, points_of};
-ghost use Rattle.record.specs.Answers.{told, went, nothing, checked, readSaid, says};
+ghost use Rattle.record.specs.Board.{points_in, points_of};
+ghost use Rattle.record.specs.Answers.{told, went, nothing, checked, read_said, says};
 
 use crate::reader::Reader;
 use crate::{Counts, Settings};
@@ -97,7 +97,7 @@ fn check_ring(r: &mut Reader<'_>, n: usize) -> Result<(), Refusal>
 // A polygon. It answers how many points it has.
 #[tactic(auto, unfolding(crate::specs::Board::polygon))]
 fn check_polygon(r: &mut Reader<'_>) -> Result<usize, Refusal>
-    ensures fields { told result r.new.at ≡ went pointsIn (polygon r.old.src.now r.old.at) }
+    ensures fields { told result r.new.at ≡ went points_in (polygon r.old.src.now r.old.at) }
     ensures same_record { r.new.src ≡ r.old.src }
 {
     r.next(2)?;
@@ -110,7 +110,7 @@ fn check_polygon(r: &mut Reader<'_>) -> Result<usize, Refusal>
 
 // Polygons. It answers how many points they have together.
 fn check_polygons(r: &mut Reader<'_>, n: usize) -> Result<usize, Refusal>
-    requires { n ≤ maxPolygons }
+    requires { n ≤ max_polygons }
     ensures fields { told result r.new.at ≡ went points_of (shapes r.old.src.now n r.old.at) }
     ensures same_record { r.new.src ≡ r.old.src }
 {
@@ -161,7 +161,7 @@ fn check_lists(r: &mut Reader<'_>, settings: Settings) -> Result<Read, Refusal>
 #[tactic(auto, unfolding(crate::specs::Board::board))]
 pub fn check(s: &[u8]) -> Result<Read, Refusal>
     ensures value { result ≡ checked (board s.now) }
-    ensures result_value { readSaid result ≡ says (board s.now) }
+    ensures result_value { read_said result ≡ says (board s.now) }
 {
     let mut r = Reader::new(s);
     let settings = check_head(&mut r)?;

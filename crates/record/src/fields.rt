@@ -2,13 +2,13 @@
 ghost use Rattle.std.specs.Prelude.{◌≡◌, ◌+◌, ◌≤◌, length};
 ghost use Rattle.std.specs.Int.{w64};
 ghost use Rattle.std.proofs.Common.{to_z};
-ghost use Rattle.record.specs.Fields.{bigEndian};
+ghost use Rattle.record.specs.Fields.{big_endian};
 
 // The number of `width` bytes. Internal: they are there, and 64 bits hold them.
 pub fn number(s: &[u8], at: usize, width: usize) -> u64
     requires width_in_bounds { at + width ≤ length s.now }
     requires width_bound { width ≤ 8 }
-    ensures { result ≡ bigEndian width s.now at }
+    ensures { result ≡ big_endian width s.now at }
 {
     let mut n: u64 = 0;
     for i in 0..width {

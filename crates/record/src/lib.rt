@@ -1,4 +1,4 @@
-// The board record of document 01, read in one walk by a reader that carries the record and its offset.
+// The board record of the rules, read in one walk by a reader that carries the record and its offset.
 #![tactic(auto)]
 
 pub mod check;

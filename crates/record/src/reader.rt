@@ -1,7 +1,7 @@
 // A reader that carries the lent record and its offset: each field that it reads moves it on.
 ghost use Rattle.std.specs.Prelude.{◌≡◌, ◌≤◌};
 ghost use Rattle.record.specs.Fields.{field, ranged, signed};
-ghost use Rattle.record.specs.Answers.{told, fieldSaid, fieldSays};
+ghost use Rattle.record.specs.Answers.{told, field_said, field_says};
 
 use crate::fields::{number, ticks};
 use refusals::Refusal;
@@ -25,7 +25,7 @@ impl<'a> Reader<'a> {
     pub fn next(&mut self, width: usize) -> Result<u64, Refusal>
         requires { width ≤ 8 }
         ensures field { told result self.new.at ≡ field width self.old.src.now self.old.at }
-        ensures result_value { fieldSaid result ≡ fieldSays (field width self.old.src.now self.old.at) }
+        ensures result_value { field_said result ≡ field_says (field width self.old.src.now self.old.at) }
         ensures same_record { self.new.src ≡ self.old.src }
     {
         let at = self.at;

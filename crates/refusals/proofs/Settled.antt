@@ -1,4 +1,4 @@
--- One promise, one outcome. A contract of this project is an equation `say r ≡ what`, with `say` document 01's reading of an
+-- One promise, one outcome. A contract of this project is an equation `say r ≡ what`, with `say` the rules' reading of an
 -- answer, or `row ≡ what`. Any two outcomes that it permits coincide, as soon as the answer can be told from what is said of it.
 -- Assumes nothing.
 use Prim.Native.Nat.{ℕ, zero, suc}

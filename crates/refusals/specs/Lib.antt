@@ -1,3 +1,3 @@
--- What every contract cites: what a call says, and the ranges of document 01.
+-- What every contract cites: what a call says, and the ranges of the rules.
 pub mod Said
 pub mod Limits

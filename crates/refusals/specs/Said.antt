@@ -1,4 +1,4 @@
--- What a call says, in document 01's terms: accepted, with its values, or refused, with a number and a place.
+-- What a call says, in the rules' terms: accepted, with its values, or refused, with a number and a place.
 use Rattle.std.specs.Prelude.{ℕ, Bool, true, false, List, Result, Ok, Err}
 use Rattle.refusals.specs.declared.Refusal.{Refusal}
 use Rattle.refusals.specs.declared.Refusal.TheVariants.{WrongVersion, WrongLength, OutOfRange, Slanted, UnevenCell, NoRoom, BadTable, NoSuchCell, AlreadySplit, FinestLevel}
@@ -7,7 +7,7 @@ pub data Said : Type 0 where
   accepted : List ℕ → Said
   refused : ℕ → ℕ → Said
 
--- document 01's "Refusal numbers": the number and the place of each case
+-- the rules' "Refusal numbers": the number and the place of each case
 abbrev pub refusal : Refusal → Said
 refusal WrongVersion = refused 1 0
 refusal (WrongLength at) = refused 2 at

@@ -6,7 +6,7 @@ ghost use Rattle.refusals.specs.Said.{refused, refusal};
 
 pub mod limits;
 
-// The ten refusals. A case holds its place where document 01 gives it one other than 0.
+// The ten refusals. A case holds its place where the rules give it one other than 0.
 #[derive(Clone, Copy)]
 pub enum Refusal {
     WrongVersion,
@@ -21,7 +21,7 @@ pub enum Refusal {
     FinestLevel(usize),
 }
 
-// A refusal as document 01 numbers it.
+// A refusal as the rules number it.
 #[derive(Clone, Copy)]
 pub struct Code {
     pub number: u64,

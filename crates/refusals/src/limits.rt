@@ -1,4 +1,4 @@
-// Document 01's table of ranges. specs/Limits.antt has the whole numbers for the contracts, which hold this file to them.
+// The rules' table of ranges. specs/Limits.antt has the whole numbers for the contracts, which hold this file to them.
 
 // A coordinate lies within this many ticks of 0, either way: 2^36.
 pub const COORDINATE: i64 = 68719476736;

@@ -5,7 +5,7 @@ use lib.Signed.{lt_z}
 use lib.Ieee.Fits.{and_l, and_r}
 use Rattle.refusals.specs.Limits.{coordinate}
 use Rattle.cell.specs.Ticks.{in_range}
-use Rattle.sound_net.specs.Nets.{Net, swAt, seAt, nwAt, xAt, yAt}
+use Rattle.sound_net.specs.Nets.{Net, sw_at, se_at, nw_at, x_at, y_at}
 use Rattle.sound_net.specs.Facts.{SoundNet, Gap, Sides}
 
 of : {z : ℤ} (n : ℕ) → z ≡ pos n → 0 < n → n ≤ coordinate + coordinate → Gap z
@@ -46,12 +46,12 @@ gap (negsuc a) (negsuc b) p q t =
 pub sides : (n : Net) → SoundNet n → (c : ℕ) → c < length n.sheets → Sides n.nodes n.corners c
 sides n s c h =
     let k = s.cell c h in
-    let sw = s.node (swAt n.corners c) k.swKnown in
-    let se = s.node (seAt n.corners c) k.seKnown in
-    let nw = s.node (nwAt n.corners c) k.nwKnown in
+    let sw = s.node (sw_at n.corners c) k.sw_known in
+    let se = s.node (se_at n.corners c) k.se_known in
+    let nw = s.node (nw_at n.corners c) k.nw_known in
     record {
-      width = gap (xAt n.nodes (swAt n.corners c)) (xAt n.nodes (seAt n.corners c)) sw.x se.x k.box.wide;
-      height = gap (yAt n.nodes (swAt n.corners c)) (yAt n.nodes (nwAt n.corners c)) sw.y nw.y k.box.high;
+      width = gap (x_at n.nodes (sw_at n.corners c)) (x_at n.nodes (se_at n.corners c)) sw.x se.x k.box.wide;
+      height = gap (y_at n.nodes (sw_at n.corners c)) (y_at n.nodes (nw_at n.corners c)) sw.y nw.y k.box.high;
     }
 
 -- such a difference fits 64 bits, signed

@@ -6,8 +6,8 @@ use lib.Signed.{le_z, lt_z}
 use mir.ValLaws.{of_z_fits, to_z-Fits, of_z-to_z}
 use lib.Ieee.Fits.{and_l, and_r, and_i}
 use Rattle.cell.specs.Ticks.{in_range}
-use Rattle.sound_net.specs.Nets.{all_below, layerAt, componentAt, xAt, yAt, unsigned, soundNode, eqZ, soundEdge}
-use Rattle.sound_net.proofs.Tests.{yes, same, turn, bits-eqZ, all_none, all_more, all_both}
+use Rattle.sound_net.specs.Nets.{all_below, layer_at, component_at, x_at, y_at, unsigned, sound_node, eq_z, sound_edge}
+use Rattle.sound_net.proofs.Tests.{yes, same, turn, bits-eq_z, all_none, all_more, all_both}
 
 -- each of two numbers is at most the one that has the bits of both
 part : (o n a b : ℕ) → o + n ≡ a + b → n ≤ b → a ≤ o
@@ -100,22 +100,22 @@ zero-fits = record { sfits = omega arith }
 pub word_below : {z : ℤ} → SFits w64 z → of_z w64 z < 2 ^ 64
 word_below {z} f = (of_z_fits w64 z f).fits
 
-pub zero_word : (w : ℕ) → w < 2 ^ 64 → eqZ (to_z w64 w) (pos 0) ≡ eqb w 0
+pub zero_word : (w : ℕ) → w < 2 ^ 64 → eq_z (to_z w64 w) (pos 0) ≡ eqb w 0
 zero_word w h =
     let f : Fits w64 w = record { fits = h } in
-    sym (bits-eqZ (to_z-Fits w64 w f) zero-fits) ∙ ap (λ (n : ℕ). eqb n 0) (of_z-to_z w64 w f)
+    sym (bits-eq_z (to_z-Fits w64 w f) zero-fits) ∙ ap (λ (n : ℕ). eqb n 0) (of_z-to_z w64 w f)
 
-pub word-zero : {z : ℤ} → SFits w64 z → eqb (of_z w64 z) 0 ≡ eqZ z (pos 0)
-word-zero f = bits-eqZ f zero-fits
+pub word-zero : {z : ℤ} → SFits w64 z → eqb (of_z w64 z) 0 ≡ eq_z z (pos 0)
+word-zero f = bits-eq_z f zero-fits
 
-pub apart : {a b : ℤ} → SFits w64 a → SFits w64 b → eqZ (to_z w64 (bit_xor (of_z w64 a) (of_z w64 b))) (pos 0) ≡ eqZ a b
+pub apart : {a b : ℤ} → SFits w64 a → SFits w64 b → eq_z (to_z w64 (bit_xor (of_z w64 a) (of_z w64 b))) (pos 0) ≡ eq_z a b
 apart {a} {b} f g =
-    zero_word (bit_xor (of_z w64 a) (of_z w64 b)) (xor_lt 64 (of_z w64 a) (of_z w64 b) (word_below f) (word_below g)) ∙ xor-none (of_z w64 a) (of_z w64 b) ∙ bits-eqZ f g
+    zero_word (bit_xor (of_z w64 a) (of_z w64 b)) (xor_lt 64 (of_z w64 a) (of_z w64 b) (word_below f) (word_below g)) ∙ xor-none (of_z w64 a) (of_z w64 b) ∙ bits-eq_z f g
 
 -- four numbers joined
 pub four-joined : {a b c d : ℤ} → SFits w64 a → SFits w64 b → SFits w64 c → SFits w64 d
-    → eqZ (to_z w64 (bit_or (bit_or (bit_or (of_z w64 a) (of_z w64 b)) (of_z w64 c)) (of_z w64 d))) (pos 0)
-    ≡ (eqZ a (pos 0) && eqZ b (pos 0) && eqZ c (pos 0) && eqZ d (pos 0))
+    → eq_z (to_z w64 (bit_or (bit_or (bit_or (of_z w64 a) (of_z w64 b)) (of_z w64 c)) (of_z w64 d))) (pos 0)
+    ≡ (eq_z a (pos 0) && eq_z b (pos 0) && eq_z c (pos 0) && eq_z d (pos 0))
 four-joined {a} {b} {c} {d} f g h k =
     let two = or_lt 64 (of_z w64 a) (of_z w64 b) (word_below f) (word_below g) in
     let three = or_lt 64 (bit_or (of_z w64 a) (of_z w64 b)) (of_z w64 c) two (word_below h) in
@@ -125,45 +125,45 @@ four-joined {a} {b} {c} {d} f g h k =
 
 -- ---- nodes: what is joined, and what is tested at each
 abbrev pub named : List ℤ → ℕ → Bool
-named nodes n = unsigned 16 (layerAt nodes n) && unsigned 32 (componentAt nodes n)
+named nodes n = unsigned 16 (layer_at nodes n) && unsigned 32 (component_at nodes n)
 
 abbrev pub placed : List ℤ → ℕ → Bool
-placed nodes n = in_range (xAt nodes n) && in_range (yAt nodes n)
+placed nodes n = in_range (x_at nodes n) && in_range (y_at nodes n)
 
-node-both : (nodes : List ℤ) (n : ℕ) → soundNode nodes n ≡ (named nodes n && placed nodes n)
-unfolding soundNode
-node-both nodes n = and_assoc (named nodes n) (in_range (xAt nodes n)) (in_range (yAt nodes n))
+node-both : (nodes : List ℤ) (n : ℕ) → sound_node nodes n ≡ (named nodes n && placed nodes n)
+unfolding sound_node
+node-both nodes n = and_assoc (named nodes n) (in_range (x_at nodes n)) (in_range (y_at nodes n))
 
-pub nodes-both : (nodes : List ℤ) (n : ℕ) → all_below (soundNode nodes) n ≡ (all_below (named nodes) n && all_below (placed nodes) n)
-nodes-both nodes = all_both (named nodes) (placed nodes) (soundNode nodes) (node-both nodes)
+pub nodes-both : (nodes : List ℤ) (n : ℕ) → all_below (sound_node nodes) n ≡ (all_below (named nodes) n && all_below (placed nodes) n)
+nodes-both nodes = all_both (named nodes) (placed nodes) (sound_node nodes) (node-both nodes)
 
-pub not-placed : (nodes : List ℤ) (n : ℕ) → placed nodes n ≡ false → soundNode nodes n ≡ false
+pub not-placed : (nodes : List ℤ) (n : ℕ) → placed nodes n ≡ false → sound_node nodes n ≡ false
 not-placed nodes n e = node-both nodes n ∙ ap (λ (b : Bool). named nodes n && b) e ∙ never (named nodes n)
   where
     never : (b : Bool) → (b && false) ≡ false
     never true = refl
     never false = refl
 
-pub name-more : (nodes : List ℤ) (n layers components : ℕ) → SFits w64 (layerAt nodes n) → SFits w64 (componentAt nodes n)
+pub name-more : (nodes : List ℤ) (n layers components : ℕ) → SFits w64 (layer_at nodes n) → SFits w64 (component_at nodes n)
     → (ltb layers (2 ^ 16) && ltb components (2 ^ 32)) ≡ all_below (named nodes) n
-    → (ltb (bit_or layers (of_z w64 (layerAt nodes n))) (2 ^ 16) && ltb (bit_or components (of_z w64 (componentAt nodes n))) (2 ^ 32)) ≡ all_below (named nodes) (n + 1)
+    → (ltb (bit_or layers (of_z w64 (layer_at nodes n))) (2 ^ 16) && ltb (bit_or components (of_z w64 (component_at nodes n))) (2 ^ 32)) ≡ all_below (named nodes) (n + 1)
 name-more nodes n layers components f g e =
-    both-more 16 32 layers components (of_z w64 (layerAt nodes n)) (of_z w64 (componentAt nodes n)) e
-    ∙ ap₂ (λ (a b : Bool). all_below (named nodes) n && (a && b)) (sym (word_in (2 ^ 16) (omega arith) (layerAt nodes n) f)) (sym (word_in (2 ^ 32) (omega arith) (componentAt nodes n) g))
+    both-more 16 32 layers components (of_z w64 (layer_at nodes n)) (of_z w64 (component_at nodes n)) e
+    ∙ ap₂ (λ (a b : Bool). all_below (named nodes) n && (a && b)) (sym (word_in (2 ^ 16) (omega arith) (layer_at nodes n) f)) (sym (word_in (2 ^ 32) (omega arith) (component_at nodes n) g))
     ∙ sym (all_more (named nodes) n)
 
 pub join-below : (w : ℕ) {z : ℤ} → w < 2 ^ 64 → SFits w64 z → bit_or w (of_z w64 z) < 2 ^ 64
 join-below w {z} h f = or_lt 64 w (of_z w64 z) h (word_below f)
 
 -- the edges by their ends, one by one
-pub edge_ends : (count : ℕ) (ends : List ℕ) (n : ℕ) → all_below (soundEdge count ends) n ≡ all_below (λ i. ltb (get_or ends i 0) count) (n * 2)
-unfolding soundEdge
-edge_ends count ends zero = sym (all_none (soundEdge count ends)) ∙ all_none (λ i. ltb (get_or ends i 0) count)
+pub edge_ends : (count : ℕ) (ends : List ℕ) (n : ℕ) → all_below (sound_edge count ends) n ≡ all_below (λ i. ltb (get_or ends i 0) count) (n * 2)
+unfolding sound_edge
+edge_ends count ends zero = sym (all_none (sound_edge count ends)) ∙ all_none (λ i. ltb (get_or ends i 0) count)
 edge_ends count ends (suc n) =
     let p : ℕ → Bool = λ i. ltb (get_or ends i 0) count in
     let e : suc n * 2 ≡ n * 2 + 1 + 1 = omega arith in
     let f : suc n ≡ n + 1 = omega arith in
-    ap (all_below (soundEdge count ends)) f
-    ∙ all_more (soundEdge count ends) n
+    ap (all_below (sound_edge count ends)) f
+    ∙ all_more (sound_edge count ends) n
     ∙ ap (λ (b : Bool). b && (p (n * 2) && p (n * 2 + 1))) (edge_ends count ends n)
     ∙ sym (ap (all_below p) e ∙ all_more p (n * 2 + 1) ∙ ap (λ (b : Bool). b && p (n * 2 + 1)) (all_more p (n * 2)) ∙ and_assoc (all_below p (n * 2)) (p (n * 2)) (p (n * 2 + 1)))

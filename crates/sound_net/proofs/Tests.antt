@@ -7,7 +7,7 @@ use lib.Ieee.Fits.{and_l, and_r, and_i}
 use Rattle.std.specs.List.{list_all, range_with_len}
 use Rattle.std.proofs.lemmas.List.Folds.{list_all-append, list_all-map}
 use Rattle.std.proofs.lemmas.List.FromFn.{map-range_with_len_more}
-use Rattle.sound_net.specs.Nets.{all_below, eqZ}
+use Rattle.sound_net.specs.Nets.{all_below, eq_z}
 
 -- ---- a test that is true, as a fact
 pub yes : {b : Bool} → b ≡ true → T b
@@ -86,24 +86,24 @@ all_both p q r e zero = refl
 all_both p q r e (suc n) = rw (all_both p q r e n, e n) (turn (all_below p n) (p n) (all_below q n) (q n))
 
 -- ---- equal signed numbers
-pub eqZ-true : (a b : ℤ) → T (eqZ a b) → a ≡ b
-unfolding eqZ
-eqZ-true (pos a) (pos b) t = ap pos (lib.Dec.eqb→eq a b t)
-eqZ-true (pos a) (negsuc b) t = absurd t
-eqZ-true (negsuc a) (pos b) t = absurd t
-eqZ-true (negsuc a) (negsuc b) t = ap negsuc (lib.Dec.eqb→eq a b t)
+pub eq_z-true : (a b : ℤ) → T (eq_z a b) → a ≡ b
+unfolding eq_z
+eq_z-true (pos a) (pos b) t = ap pos (lib.Dec.eqb→eq a b t)
+eq_z-true (pos a) (negsuc b) t = absurd t
+eq_z-true (negsuc a) (pos b) t = absurd t
+eq_z-true (negsuc a) (negsuc b) t = ap negsuc (lib.Dec.eqb→eq a b t)
 
-pub eqZ-refl : (a : ℤ) → T (eqZ a a)
-unfolding eqZ
-eqZ-refl (pos a) = eqb_refl a
-eqZ-refl (negsuc a) = eqb_refl a
+pub eq_z-refl : (a : ℤ) → T (eq_z a a)
+unfolding eq_z
+eq_z-refl (pos a) = eqb_refl a
+eq_z-refl (negsuc a) = eqb_refl a
 
-pub eqZ-of : {a b : ℤ} → a ≡ b → T (eqZ a b)
-eqZ-of {a} {b} e = subst (λ (z : ℤ). T (eqZ a z)) e (eqZ-refl a)
+pub eq_z-of : {a b : ℤ} → a ≡ b → T (eq_z a b)
+eq_z-of {a} {b} e = subst (λ (z : ℤ). T (eq_z a z)) e (eq_z-refl a)
 
 -- numbers of 64 bits are equal where their bits are
-pub bits-eqZ : {a b : ℤ} → SFits w64 a → SFits w64 b → eqb (of_z w64 a) (of_z w64 b) ≡ eqZ a b
-bits-eqZ {a} {b} f g =
-    same (eqb (of_z w64 a) (of_z w64 b)) (eqZ a b)
-    (λ (t : T (eqb (of_z w64 a) (of_z w64 b))). eqZ-of (sym (to_z-of_z f) ∙ ap (to_z w64) (lib.Dec.eqb→eq (of_z w64 a) (of_z w64 b) t) ∙ to_z-of_z g))
-    (λ (t : T (eqZ a b)). subst (λ (z : ℤ). T (eqb (of_z w64 a) (of_z w64 z))) (eqZ-true a b t) (eqb_refl (of_z w64 a)))
+pub bits-eq_z : {a b : ℤ} → SFits w64 a → SFits w64 b → eqb (of_z w64 a) (of_z w64 b) ≡ eq_z a b
+bits-eq_z {a} {b} f g =
+    same (eqb (of_z w64 a) (of_z w64 b)) (eq_z a b)
+    (λ (t : T (eqb (of_z w64 a) (of_z w64 b))). eq_z-of (sym (to_z-of_z f) ∙ ap (to_z w64) (lib.Dec.eqb→eq (of_z w64 a) (of_z w64 b) t) ∙ to_z-of_z g))
+    (λ (t : T (eq_z a b)). subst (λ (z : ℤ). T (eqb (of_z w64 a) (of_z w64 z))) (eq_z-true a b t) (eqb_refl (of_z w64 a)))

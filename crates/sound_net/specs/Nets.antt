@@ -1,4 +1,4 @@
--- A net as a caller lends it, in five rows, and document 01's "A net is bad (7) if ..".
+-- A net as a caller lends it, in five rows, and the rules' "A net is bad (7) if ..".
 --   nodes         four numbers a node: layer, component, x, y
 --   ends          two numbers an edge: its two nodes
 --   conductances  one an edge
@@ -15,90 +15,90 @@ pub record Net : Type 0 where
   pub sheets : List Float
 
 -- the rows as one net
-abbrev pub netOf : List ℤ → List ℕ → List Float → List ℕ → List Float → Net
-netOf nodes ends conductances corners sheets = record { nodes = nodes; ends = ends; conductances = conductances; corners = corners; sheets = sheets }
+abbrev pub net_of : List ℤ → List ℕ → List Float → List ℕ → List Float → Net
+net_of nodes ends conductances corners sheets = record { nodes = nodes; ends = ends; conductances = conductances; corners = corners; sheets = sheets }
 
 -- the test holds of every index below n
 unfoldable pub all_below : (ℕ → Bool) → ℕ → Bool
 all_below p zero = true
 all_below p (suc n) = all_below p n && p n
 
-unfoldable pub eqZ : ℤ → ℤ → Bool
-eqZ (pos a) (pos b) = a == b
-eqZ (pos a) (negsuc b) = false
-eqZ (negsuc a) (pos b) = false
-eqZ (negsuc a) (negsuc b) = a == b
+unfoldable pub eq_z : ℤ → ℤ → Bool
+eq_z (pos a) (pos b) = a == b
+eq_z (pos a) (negsuc b) = false
+eq_z (negsuc a) (pos b) = false
+eq_z (negsuc a) (negsuc b) = a == b
 
 -- ---- nodes
-abbrev pub nodeCount : List ℤ → ℕ
-nodeCount nodes = length nodes / 4
+abbrev pub node_count : List ℤ → ℕ
+node_count nodes = length nodes / 4
 
-abbrev pub layerAt : List ℤ → ℕ → ℤ
-layerAt nodes n = slice_index_or nodes (n * 4) (pos 0)
+abbrev pub layer_at : List ℤ → ℕ → ℤ
+layer_at nodes n = slice_index_or nodes (n * 4) (pos 0)
 
-abbrev pub componentAt : List ℤ → ℕ → ℤ
-componentAt nodes n = slice_index_or nodes (n * 4 + 1) (pos 0)
+abbrev pub component_at : List ℤ → ℕ → ℤ
+component_at nodes n = slice_index_or nodes (n * 4 + 1) (pos 0)
 
-abbrev pub xAt : List ℤ → ℕ → ℤ
-xAt nodes n = slice_index_or nodes (n * 4 + 2) (pos 0)
+abbrev pub x_at : List ℤ → ℕ → ℤ
+x_at nodes n = slice_index_or nodes (n * 4 + 2) (pos 0)
 
-abbrev pub yAt : List ℤ → ℕ → ℤ
-yAt nodes n = slice_index_or nodes (n * 4 + 3) (pos 0)
+abbrev pub y_at : List ℤ → ℕ → ℤ
+y_at nodes n = slice_index_or nodes (n * 4 + 3) (pos 0)
 
 -- an unsigned number of k bits
 abbrev pub unsigned : ℕ → ℤ → Bool
 unsigned k z = int_le (pos 0) z && int_lt z (pos (2 ^ k))
 
--- document 01's ranges: layer of 16 bits, component of 32 bits, and the coordinates
-unfoldable pub soundNode : List ℤ → ℕ → Bool
-soundNode nodes n = unsigned 16 (layerAt nodes n) && unsigned 32 (componentAt nodes n) && in_range (xAt nodes n) && in_range (yAt nodes n)
+-- the rules' ranges: layer of 16 bits, component of 32 bits, and the coordinates
+unfoldable pub sound_node : List ℤ → ℕ → Bool
+sound_node nodes n = unsigned 16 (layer_at nodes n) && unsigned 32 (component_at nodes n) && in_range (x_at nodes n) && in_range (y_at nodes n)
 
 -- ---- edges
-abbrev pub fromAt : List ℕ → ℕ → ℕ
-fromAt ends e = slice_index ends (e * 2)
+abbrev pub from_at : List ℕ → ℕ → ℕ
+from_at ends e = slice_index ends (e * 2)
 
 abbrev pub to_at : List ℕ → ℕ → ℕ
 to_at ends e = slice_index ends (e * 2 + 1)
 
 -- both ends are nodes of the net
-unfoldable pub soundEdge : ℕ → List ℕ → ℕ → Bool
-soundEdge count ends e = nat_lt (fromAt ends e) count && nat_lt (to_at ends e) count
+unfoldable pub sound_edge : ℕ → List ℕ → ℕ → Bool
+sound_edge count ends e = nat_lt (from_at ends e) count && nat_lt (to_at ends e) count
 
 -- ---- cells
-abbrev pub swAt : List ℕ → ℕ → ℕ
-swAt corners c = slice_index corners (c * 4)
+abbrev pub sw_at : List ℕ → ℕ → ℕ
+sw_at corners c = slice_index corners (c * 4)
 
-abbrev pub seAt : List ℕ → ℕ → ℕ
-seAt corners c = slice_index corners (c * 4 + 1)
+abbrev pub se_at : List ℕ → ℕ → ℕ
+se_at corners c = slice_index corners (c * 4 + 1)
 
-abbrev pub neAt : List ℕ → ℕ → ℕ
-neAt corners c = slice_index corners (c * 4 + 2)
+abbrev pub ne_at : List ℕ → ℕ → ℕ
+ne_at corners c = slice_index corners (c * 4 + 2)
 
-abbrev pub nwAt : List ℕ → ℕ → ℕ
-nwAt corners c = slice_index corners (c * 4 + 3)
+abbrev pub nw_at : List ℕ → ℕ → ℕ
+nw_at corners c = slice_index corners (c * 4 + 3)
 
 -- four nodes are SW, SE, NE, NW of a rectangle with positive sides
 unfoldable pub rectangle : List ℤ → ℕ → ℕ → ℕ → ℕ → Bool
 rectangle nodes sw se ne nw =
-    int_lt (xAt nodes sw) (xAt nodes se) && int_lt (yAt nodes sw) (yAt nodes nw)
-    && eqZ (yAt nodes se) (yAt nodes sw) && eqZ (xAt nodes ne) (xAt nodes se)
-    && eqZ (yAt nodes ne) (yAt nodes nw) && eqZ (xAt nodes nw) (xAt nodes sw)
+    int_lt (x_at nodes sw) (x_at nodes se) && int_lt (y_at nodes sw) (y_at nodes nw)
+    && eq_z (y_at nodes se) (y_at nodes sw) && eq_z (x_at nodes ne) (x_at nodes se)
+    && eq_z (y_at nodes ne) (y_at nodes nw) && eq_z (x_at nodes nw) (x_at nodes sw)
 
 -- all four corners are nodes of the net
 abbrev pub known : ℕ → ℕ → ℕ → ℕ → ℕ → Bool
 known count sw se ne nw = nat_lt sw count && nat_lt se count && nat_lt ne count && nat_lt nw count
 
-unfoldable pub soundCell : List ℤ → List ℕ → ℕ → Bool
-soundCell nodes corners c =
-    known (nodeCount nodes) (swAt corners c) (seAt corners c) (neAt corners c) (nwAt corners c)
-    && rectangle nodes (swAt corners c) (seAt corners c) (neAt corners c) (nwAt corners c)
+unfoldable pub sound_cell : List ℤ → List ℕ → ℕ → Bool
+sound_cell nodes corners c =
+    known (node_count nodes) (sw_at corners c) (se_at corners c) (ne_at corners c) (nw_at corners c)
+    && rectangle nodes (sw_at corners c) (se_at corners c) (ne_at corners c) (nw_at corners c)
 
 -- ---- the net: its rows have the lengths of one net, and each node, edge and cell is sound
-unfoldable pub soundNet : Net → Bool
-soundNet n =
+unfoldable pub sound_net : Net → Bool
+sound_net n =
     (length n.nodes % 4 == 0)
     && length n.ends == length n.conductances * 2
     && length n.corners == length n.sheets * 4
-    && all_below (soundNode n.nodes) (nodeCount n.nodes)
-    && all_below (soundEdge (nodeCount n.nodes) n.ends) (length n.conductances)
-    && all_below (soundCell n.nodes n.corners) (length n.sheets)
+    && all_below (sound_node n.nodes) (node_count n.nodes)
+    && all_below (sound_edge (node_count n.nodes) n.ends) (length n.conductances)
+    && all_below (sound_cell n.nodes n.corners) (length n.sheets)

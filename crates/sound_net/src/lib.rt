@@ -6,7 +6,7 @@
 
 ghost use Rattle.std.specs.Prelude.{◌≡◌, ◌+◌, ◌*◌, ◌/◌, ◌^◌, ◌<◌, ◌≤◌, ◌&&◌, length, pos, int_lt, nat_lt, slice_index, slice_index_or};
 ghost use Rattle.cell.specs.Ticks.{in_range};
-ghost use Rattle.sound_net.specs.Nets.{netOf, all_below, nodeCount, xAt, yAt, eqZ, soundNode, known, soundCell, soundNet};
+ghost use Rattle.sound_net.specs.Nets.{net_of, all_below, node_count, x_at, y_at, eq_z, sound_node, known, sound_cell, sound_net};
 
 // Past the last layer and the last component, which have 16 and 32 bits.
 const LAYERS: i64 = 65536;
@@ -21,16 +21,16 @@ const MANY: u64 = 1152921504606846976;
 // Internal: the node stands in the row.
 fn is_placed(nodes: &[i64], n: usize) -> bool
     requires { n * 4 + 4 ≤ length nodes.now }
-    ensures { result ≡ (in_range (xAt nodes.now n) && in_range (yAt nodes.now n)) }
+    ensures { result ≡ (in_range (x_at nodes.now n) && in_range (y_at nodes.now n)) }
 {
     cell::ticks::in_range(nodes[n * 4 + 2]) && cell::ticks::in_range(nodes[n * 4 + 3])
 }
 
 // Internal: the node stands in the row.
-#[tactic(auto, unfolding(crate::specs::Nets::soundNode))]
+#[tactic(auto, unfolding(crate::specs::Nets::sound_node))]
 fn node_is_sound(nodes: &[i64], n: usize) -> bool
     requires { n * 4 + 4 ≤ length nodes.now }
-    ensures { result ≡ soundNode nodes.now n }
+    ensures { result ≡ sound_node nodes.now n }
 {
     let layer = nodes[n * 4];
     let component = nodes[n * 4 + 1];
@@ -44,7 +44,7 @@ fn node_is_sound(nodes: &[i64], n: usize) -> bool
 // Whether the first pairs of nodes are sound. Internal: they stand in the row.
 fn pairs_are_sound(nodes: &[i64], pairs: usize) -> bool
     requires { pairs * 8 ≤ length nodes.now }
-    ensures { result ≡ all_below (soundNode nodes.now) (pairs * 2) }
+    ensures { result ≡ all_below (sound_node nodes.now) (pairs * 2) }
 {
     let mut layers = 0i64;
     let mut components = 0i64;
@@ -66,7 +66,7 @@ fn pairs_are_sound(nodes: &[i64], pairs: usize) -> bool
 }
 
 fn nodes_are_sound(nodes: &[i64]) -> bool
-    ensures { result ≡ all_below (soundNode nodes.now) (nodeCount nodes.now) }
+    ensures { result ≡ all_below (sound_node nodes.now) (node_count nodes.now) }
 {
     let count = nodes.len() / 4;
     pairs_are_sound(nodes, count / 2) && (count % 2 == 0 || node_is_sound(nodes, count - 1))
@@ -110,8 +110,8 @@ fn are_known(count: usize, sw: usize, se: usize, ne: usize, nw: usize) -> bool
 
 // Whether the one node is to the west and to the south of the other. Internal: both stand in the row.
 fn is_southwest(nodes: &[i64], sw: usize, ne: usize) -> bool
-    requires { (sw < nodeCount nodes.now) × (ne < nodeCount nodes.now) }
-    ensures { result ≡ (int_lt (xAt nodes.now sw) (xAt nodes.now ne) && int_lt (yAt nodes.now sw) (yAt nodes.now ne)) }
+    requires { (sw < node_count nodes.now) × (ne < node_count nodes.now) }
+    ensures { result ≡ (int_lt (x_at nodes.now sw) (x_at nodes.now ne) && int_lt (y_at nodes.now sw) (y_at nodes.now ne)) }
 {
     nodes[sw * 4 + 2] < nodes[ne * 4 + 2] && nodes[sw * 4 + 3] < nodes[ne * 4 + 3]
 }
@@ -119,7 +119,7 @@ fn is_southwest(nodes: &[i64], sw: usize, ne: usize) -> bool
 // 0 exactly if two numbers of the row are equal. Internal: both stand in the row.
 fn differ(nodes: &[i64], i: usize, j: usize) -> i64
     requires { (i < length nodes.now) × (j < length nodes.now) }
-    ensures { eqZ result (pos 0) ≡ eqZ (slice_index_or nodes.now i (pos 0)) (slice_index_or nodes.now j (pos 0)) }
+    ensures { eq_z result (pos 0) ≡ eq_z (slice_index_or nodes.now i (pos 0)) (slice_index_or nodes.now j (pos 0)) }
 {
     nodes[i] ^ nodes[j]
 }
@@ -127,8 +127,8 @@ fn differ(nodes: &[i64], i: usize, j: usize) -> i64
 // 0 exactly if the nodes of the south and of the north side agree in y, and those of the east and of the west side in x. Internal:
 // they stand in the row.
 fn misfit(nodes: &[i64], sw: usize, se: usize, ne: usize, nw: usize) -> i64
-    requires { (sw < nodeCount nodes.now) × (se < nodeCount nodes.now) × (ne < nodeCount nodes.now) × (nw < nodeCount nodes.now) }
-    ensures { eqZ result (pos 0) ≡ (eqZ (yAt nodes.now se) (yAt nodes.now sw) && eqZ (xAt nodes.now ne) (xAt nodes.now se) && eqZ (yAt nodes.now ne) (yAt nodes.now nw) && eqZ (xAt nodes.now nw) (xAt nodes.now sw)) }
+    requires { (sw < node_count nodes.now) × (se < node_count nodes.now) × (ne < node_count nodes.now) × (nw < node_count nodes.now) }
+    ensures { eq_z result (pos 0) ≡ (eq_z (y_at nodes.now se) (y_at nodes.now sw) && eq_z (x_at nodes.now ne) (x_at nodes.now se) && eq_z (y_at nodes.now ne) (y_at nodes.now nw) && eq_z (x_at nodes.now nw) (x_at nodes.now sw)) }
 {
     differ(nodes, se * 4 + 3, sw * 4 + 3)
         | differ(nodes, ne * 4 + 2, se * 4 + 2)
@@ -139,7 +139,7 @@ fn misfit(nodes: &[i64], sw: usize, se: usize, ne: usize, nw: usize) -> i64
 // Internal: the row has four numbers for each of the cells.
 fn cells_are_sound(nodes: &[i64], corners: &[u64], cells: usize) -> bool
     requires { cells * 4 ≤ length corners.now }
-    ensures { result ≡ all_below (soundCell nodes.now corners.now) cells }
+    ensures { result ≡ all_below (sound_cell nodes.now corners.now) cells }
 {
     let count = nodes.len() / 4;
     let mut astray = 0i64;
@@ -157,8 +157,8 @@ fn cells_are_sound(nodes: &[i64], corners: &[u64], cells: usize) -> bool
     astray == 0
 }
 
-// Whether the rows are a sound net: document 01's refusal 7 of a net is that they are not.
-#[tactic(auto, using(crate::proofs::Marks::edge_ends), unfolding(crate::specs::Nets::soundNet))]
+// Whether the rows are a sound net: the rules' refusal 7 of a net is that they are not.
+#[tactic(auto, using(crate::proofs::Marks::edge_ends), unfolding(crate::specs::Nets::sound_net))]
 pub fn is_sound(
     nodes: &[i64],
     ends: &[u64],
@@ -166,7 +166,7 @@ pub fn is_sound(
     corners: &[u64],
     sheets: &[f64],
 ) -> bool
-    ensures { result ≡ soundNet (netOf nodes.now ends.now conductances.now corners.now sheets.now) }
+    ensures { result ≡ sound_net (net_of nodes.now ends.now conductances.now corners.now sheets.now) }
 {
     nodes.len() % 4 == 0
         && ends.len() == conductances.len() * 2

@@ -9,8 +9,8 @@ use borrow.Author.Tests.{ltb-true}
 use Rattle.cell.proofs.Offsets.{off-le}
 use Rattle.refusals.specs.Limits.{coordinate}
 use Rattle.strips.specs.Sorted.{up_to, picked, insert, sorted, distinct}
-use Rattle.strips.specs.Rings.{xAt, yAt}
-use Rattle.strips.specs.Strips.{levels, crossings, pairUp, banded, stripsOf}
+use Rattle.strips.specs.Rings.{x_at, y_at}
+use Rattle.strips.specs.Strips.{levels, crossings, pair_up, banded, strips_of}
 use Rattle.strips.specs.Walk.{Sound, AllSound}
 use Rattle.strips.specs.declared.walk.Strip.{Strip}
 use Rattle.strips.proofs.Picking.{split}
@@ -72,8 +72,8 @@ unfolding Under
 under-map f [] h = tt
 under-map f (i ∷ l) h = (h i, under-map f l h)
 
-sound-pairs : (lo hi : ℕ) (l : List ℕ) → lo < hi → hi ≤ coordinate + coordinate → Under l → AllSound (pairUp lo hi l)
-unfolding AllSound pairUp Under
+sound-pairs : (lo hi : ℕ) (l : List ℕ) → lo < hi → hi ≤ coordinate + coordinate → Under l → AllSound (pair_up lo hi l)
+unfolding AllSound pair_up Under
 sound-pairs lo hi [] h t u = tt
 sound-pairs lo hi (a ∷ []) h t u = tt
 sound-pairs lo hi (a ∷ b ∷ l) h t u =
@@ -84,20 +84,20 @@ sound-pairs lo hi (a ∷ b ∷ l) h t u =
 
 under-crossings : (ps : List (List ℤ)) (lo hi : ℕ) → Under (crossings ps lo hi)
 unfolding crossings
-under-crossings ps lo hi = under-sorted _ (under-picked _ (xAt ps) (up_to (length ps)) (λ i. off-le _))
+under-crossings ps lo hi = under-sorted _ (under-picked _ (x_at ps) (up_to (length ps)) (λ i. off-le _))
 
 sound-banded : (ps : List (List ℤ)) (hs : List ℕ) → Strict hs → Under hs → AllSound (banded ps hs)
 unfolding banded AllSound Strict Above Under
 sound-banded ps [] s u = tt
 sound-banded ps (lo ∷ []) s u = tt
 sound-banded ps (lo ∷ hi ∷ hs) s u =
-    sound-append (pairUp lo hi (crossings ps lo hi)) (banded ps (hi ∷ hs))
+    sound-append (pair_up lo hi (crossings ps lo hi)) (banded ps (hi ∷ hs))
     (sound-pairs lo hi (crossings ps lo hi) s.0.0 u.1.0 (under-crossings ps lo hi))
     (sound-banded ps (hi ∷ hs) s.1 u.1)
 
-pub strips-sound : (ps : List (List ℤ)) → AllSound (stripsOf ps)
-unfolding stripsOf levels AllSound
+pub strips-sound : (ps : List (List ℤ)) → AllSound (strips_of ps)
+unfolding strips_of levels AllSound
 strips-sound ps =
-    let ys = map (yAt ps) (up_to (length ps)) in
-    let r = sound-banded ps (distinct (sorted ys)) (strict-distinct (sorted ys) (rising-sorted ys)) (under-distinct (sorted ys) (under-sorted ys (under-map (yAt ps) (up_to (length ps)) (λ i. off-le _)))) in
+    let ys = map (y_at ps) (up_to (length ps)) in
+    let r = sound-banded ps (distinct (sorted ys)) (strict-distinct (sorted ys) (rising-sorted ys)) (under-distinct (sorted ys) (under-sorted ys (under-map (y_at ps) (up_to (length ps)) (λ i. off-le _)))) in
     split (ltb (length ps) 3) (λ e. rw e tt) (λ e. rw e r)

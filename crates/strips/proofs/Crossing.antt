@@ -1,4 +1,4 @@
--- The strips of document 01 are those that the code's walk meets: edges that are in order by x, passed by a band's test, give the band's
+-- The strips of the rules are those that the code's walk meets: edges that are in order by x, passed by a band's test, give the band's
 -- crossings in order; and the bands between distinct heights are those between neighbours that differ. Assumes nothing.
 use Prim.Native.Nat.{ℕ, zero, suc, ◌/◌, ◌%◌, ◌<◌, ◌≤◌}
 use mathlib.Core.Path.{◌≡◌, refl, sym, ap, ◌∙◌}
@@ -11,11 +11,11 @@ use lib.Dec.{eqb}
 use lib.ListN.{length}
 use borrow.Author.Tests.{lt-ltb, eqb-true, eqb-false}
 use Rattle.cell.proofs.Offsets.{below?}
-use Rattle.refusals.specs.Limits.{maxPoints}
+use Rattle.refusals.specs.Limits.{max_points}
 use Rattle.strips.specs.Sorted.{up_to, picked, insert, sorted, distinct}
-use Rattle.strips.specs.Rings.{yAt}
-use Rattle.strips.specs.Strips.{levels, crossings, pairUp, banded, stripsOf}
-use Rattle.strips.specs.Walk.{heightsOf, verticalAt, key_of, unsortedEdges, edgesOf, spans, crossed, walked, all_of, Ready}
+use Rattle.strips.specs.Rings.{y_at}
+use Rattle.strips.specs.Strips.{levels, crossings, pair_up, banded, strips_of}
+use Rattle.strips.specs.Walk.{heights_of, vertical_at, key_of, unsorted_edges, edges_of, spans, crossed, walked, all_of, Ready}
 use Rattle.strips.proofs.Picking.{split, picked-yes, picked-no, picked_none, picked-append}
 use Rattle.strips.proofs.Walks.{crossed-flat}
 use Rattle.strips.proofs.Orders.{insert-stop, insert-go, insert-none}
@@ -135,35 +135,35 @@ head-distinct v (w ∷ l) =
     (λ e. (i.0, rw e (i.1 ∙ ap (λ (x : ℕ). x ∷ i.0) (sym (eqb-true v w e)))))
     (λ e. (distinct (w ∷ l), rw e refl))
 
-module _ (ps : List (List ℤ)) (few : length ps ≤ maxPoints) where
-  pub crossed-all : (lo hi : ℕ) → lo < hi → crossed ps lo hi (edgesOf ps) ≡ crossings ps lo hi
-  unfolding crossed edgesOf unsortedEdges crossings spans
+module _ (ps : List (List ℤ)) (few : length ps ≤ max_points) where
+  pub crossed-all : (lo hi : ℕ) → lo < hi → crossed ps lo hi (edges_of ps) ≡ crossings ps lo hi
+  unfolding crossed edges_of unsorted_edges crossings spans
   crossed-all lo hi h =
-      picked-sorted (spans ps lo hi) (λ e. e / maxPoints) (λ a b k. omega arith) (unsortedEdges ps (length ps))
+      picked-sorted (spans ps lo hi) (λ e. e / max_points) (λ a b k. omega arith) (unsorted_edges ps (length ps))
       ∙ ap sorted
-      (picked-twice (spans ps lo hi) (λ e. e / maxPoints) (verticalAt ps) (key_of ps) (up_to (length ps))
+      (picked-twice (spans ps lo hi) (λ e. e / max_points) (vertical_at ps) (key_of ps) (up_to (length ps))
       ∙ picked_same _ _ _ _ (length ps)
-      (λ i k. let e : key_of ps i % maxPoints ≡ i = omega arith in rw (lt-ltb lo hi h, e) refl)
+      (λ i k. let e : key_of ps i % max_points ≡ i = omega arith in rw (lt-ltb lo hi h, e) refl)
       (λ i k. omega arith))
 
-  walked-banded : (hs : List ℕ) → Rising hs → walked ps (edgesOf ps) hs ≡ banded ps (distinct hs)
-  unfolding walked banded distinct Rising From pairUp
+  walked-banded : (hs : List ℕ) → Rising hs → walked ps (edges_of ps) hs ≡ banded ps (distinct hs)
+  unfolding walked banded distinct Rising From pair_up
   walked-banded [] r = refl
   walked-banded (lo ∷ []) r = refl
   walked-banded (lo ∷ hi ∷ hs) r =
       let i = walked-banded (hi ∷ hs) r.1 in
       let d = head-distinct hi hs in
       split (eqb lo hi)
-      (λ e. let q = eqb-true lo hi e in rw (e, crossed-flat ps lo hi (omega arith) (edgesOf ps)) i)
+      (λ e. let q = eqb-true lo hi e in rw (e, crossed-flat ps lo hi (omega arith) (edges_of ps)) i)
       (λ e.
       let n = eqb-false lo hi e in
       let h : lo < hi = ⊎_elim (λ (k : lo < hi). k) (λ (k : hi ≤ lo). absurd (n (omega arith))) (below? lo hi) in
       rw (e, crossed-all lo hi h, i, d.1) refl)
 
-  -- the law: what the code walks over are document 01's strips
-  pub all-strips : all_of ps (heightsOf ps) (edgesOf ps) ≡ stripsOf ps
-  unfolding all_of stripsOf heightsOf levels
-  all-strips = rw (walked-banded (heightsOf ps) (rising-sorted (map (yAt ps) (up_to (length ps))))) refl
+  -- the law: what the code walks over are the rules' strips
+  pub all-strips : all_of ps (heights_of ps) (edges_of ps) ≡ strips_of ps
+  unfolding all_of strips_of heights_of levels
+  all-strips = rw (walked-banded (heights_of ps) (rising-sorted (map (y_at ps) (up_to (length ps))))) refl
 
-pub ready-strips : (ps : List (List ℤ)) (hs es : List ℕ) → Ready ps hs es → all_of ps hs es ≡ stripsOf ps
+pub ready-strips : (ps : List (List ℤ)) (hs es : List ℕ) → Ready ps hs es → all_of ps hs es ≡ strips_of ps
 ready-strips ps hs es r = rw (r.heights, r.edges) (all-strips ps r.few)

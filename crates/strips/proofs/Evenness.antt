@@ -11,7 +11,7 @@ use lib.Dec.{ltb, leb, eqb}
 use lib.ListN.{length, length-append}
 use borrow.Author.Tests.{lt-ltb, le-ltb, le-leb, lt-leb, eqb-true, eqb-false, ne_eqb}
 use Rattle.strips.specs.Sorted.{up_to, picked, insert, sorted, distinct}
-use Rattle.strips.specs.Rings.{xAt, yAt, after, edge_at, vertical, reaches, slants, slantsAt, someBelow, ringSlants}
+use Rattle.strips.specs.Rings.{x_at, y_at, after, edge_at, vertical, reaches, slants, slants_at, some_below, ring_slants}
 use Rattle.strips.specs.Strips.{levels, crossings}
 use Rattle.strips.proofs.Picking.{split, more_yes, more_no}
 use Rattle.strips.proofs.Orders.{length-sorted}
@@ -28,7 +28,7 @@ bit false = 0
 
 -- no point of the ring lies inside the band
 abbrev pub Band : List (List ℤ) → ℕ → ℕ → Type 0
-Band ps lo hi = (lo < hi) × ((i : ℕ) → i < length ps → (yAt ps i ≤ lo) ⊎ (hi ≤ yAt ps i))
+Band ps lo hi = (lo < hi) × ((i : ℕ) → i < length ps → (y_at ps i ≤ lo) ⊎ (hi ≤ y_at ps i))
 
 or-false-left : (a b : Bool) → (a || b) ≡ false → a ≡ false
 or-false-left true b e = absurd (false≢true (sym e))
@@ -38,13 +38,13 @@ or-false-right : (a b : Bool) → (a || b) ≡ false → b ≡ false
 or-false-right true b e = absurd (false≢true (sym e))
 or-false-right false b e = e
 
-some-none : (p : ℕ → Bool) (n i : ℕ) → someBelow p n ≡ false → i < n → p i ≡ false
-unfolding someBelow
+some-none : (p : ℕ → Bool) (n i : ℕ) → some_below p n ≡ false → i < n → p i ≡ false
+unfolding some_below
 some-none p zero i e h = absurd (omega arith)
 some-none p (suc n) i e h =
-    let r = some-none p n i (or-false-left (someBelow p n) (p n) e) in
+    let r = some-none p n i (or-false-left (some_below p n) (p n) e) in
     split (eqb i n)
-    (λ q. let s : i ≡ n = eqb-true i n q in rw s (or-false-right (someBelow p n) (p n) e))
+    (λ q. let s : i ≡ n = eqb-true i n q in rw s (or-false-right (some_below p n) (p n) e))
     (λ q. let s = eqb-false i n q in r (⊎_elim (λ (k : i < n). k) (λ (k : n ≤ i). absurd (s (omega arith))) (below? i n)))
 
 upright : (x y : Bool) → (not x && not y) ≡ false → y ≡ false → x ≡ true
@@ -76,32 +76,32 @@ across xa ya xb yb lo hi h a b s =
     flat true = refl
     flat false = refl
 
-module _ (ps : List (List ℤ)) (lo hi : ℕ) (band : Band ps lo hi) (straight : ringSlants ps ≡ false) where
+module _ (ps : List (List ℤ)) (lo hi : ℕ) (band : Band ps lo hi) (straight : ring_slants ps ≡ false) where
   abbrev crosses : ℕ → Bool
   crosses i = vertical (edge_at ps i) && reaches lo hi (edge_at ps i)
 
   abbrev side : ℕ → Bool
-  side i = leb (yAt ps i) lo
+  side i = leb (y_at ps i) lo
 
   after-below : (i : ℕ) → i < length ps → after ps i < length ps
   after-below i h = split (ltb (i + 1) (length ps)) (λ e. rw e (borrow.Author.Tests.ltb-true (i + 1) (length ps) e)) (λ e. rw e (omega arith))
 
   crosses-is : (i : ℕ) → i < length ps → crosses i ≡ differ (side i) (side (after ps i))
-  unfolding vertical reaches edge_at ringSlants slants
+  unfolding vertical reaches edge_at ring_slants slants
   crosses-is i h =
-      across (xAt ps i) (yAt ps i) (xAt ps (after ps i)) (yAt ps (after ps i)) lo hi band.0 (band.1 i h) (band.1 (after ps i) (after-below i h))
-      (some-none (slantsAt ps) (length ps) i straight h)
+      across (x_at ps i) (y_at ps i) (x_at ps (after ps i)) (y_at ps (after ps i)) lo hi band.0 (band.1 i h) (band.1 (after ps i) (after-below i h))
+      (some-none (slants_at ps) (length ps) i straight h)
 
   count : ℕ → ℕ
-  count i = length (picked crosses (xAt ps) (up_to i))
+  count i = length (picked crosses (x_at ps) (up_to i))
 
   -- one edge more
   count-more : (i : ℕ) → count (i + 1) ≡ count i + bit (crosses i)
   unfolding count
   count-more i =
       split (crosses i)
-      (λ e. rw (more_yes crosses (xAt ps) i e, e) (length-append (picked crosses (xAt ps) (up_to i)) (xAt ps i ∷ [])))
-      (λ e. rw (more_no crosses (xAt ps) i e, e) (omega arith))
+      (λ e. rw (more_yes crosses (x_at ps) i e, e) (length-append (picked crosses (x_at ps) (up_to i)) (x_at ps i ∷ [])))
+      (λ e. rw (more_no crosses (x_at ps) i e, e) (omega arith))
 
   turn : (a b c : Bool) (n m : ℕ) → n % 2 ≡ bit (differ a b) → m ≡ n + bit (differ b c) → m % 2 ≡ bit (differ a c)
   turn true true true n m e f = omega arith
@@ -144,9 +144,9 @@ module _ (ps : List (List ℤ)) (lo hi : ℕ) (band : Band ps lo hi) (straight :
   pub even-crossings : length (crossings ps lo hi) % 2 ≡ 0
   unfolding crossings count
   even-crossings =
-      ap (λ (n : ℕ). n % 2) (length-sorted (picked crosses (xAt ps) (up_to (length ps)))) ∙ everywhere (length ps) refl
+      ap (λ (n : ℕ). n % 2) (length-sorted (picked crosses (x_at ps) (up_to (length ps)))) ∙ everywhere (length ps) refl
 
--- The bands of document 01 are such bands: every y value is among the levels, which rise strictly.
+-- The bands of the rules are such bands: every y value is among the levels, which rise strictly.
 unfoldable pub In : ℕ → List ℕ → Type 0
 In v [] = ⊥
 In v (w ∷ l) = (v ≡ w) ⊎ In v l
@@ -250,12 +250,12 @@ between lo hi (x ∷ pre) post s = between lo hi pre post s.1
 pub level-band : (ps : List (List ℤ)) (lo hi : ℕ) (pre post : List ℕ) → levels ps ≡ pre ++ (lo ∷ hi ∷ post) → Band ps lo hi
 unfolding levels
 level-band ps lo hi pre post e =
-    let ys = map (yAt ps) (up_to (length ps)) in
+    let ys = map (y_at ps) (up_to (length ps)) in
     let s = strict-distinct (sorted ys) (rising-sorted ys) in (
       between lo hi pre post (rw e at s),
-      λ i h. neighbours (yAt ps i) lo hi pre post (rw e at s) (rw e at (in-distinct (yAt ps i) (sorted ys) (in-sorted (yAt ps i) ys (in_map (yAt ps) (length ps) i h)))),
+      λ i h. neighbours (y_at ps i) lo hi pre post (rw e at s) (rw e at (in-distinct (y_at ps i) (sorted ys) (in-sorted (y_at ps i) ys (in_map (y_at ps) (length ps) i h)))),
     )
 
 -- the law: between neighbouring levels of a ring that isn't slanted the crossings pair up
-pub pairs-up : (ps : List (List ℤ)) (lo hi : ℕ) (pre post : List ℕ) → ringSlants ps ≡ false → levels ps ≡ pre ++ (lo ∷ hi ∷ post) → length (crossings ps lo hi) % 2 ≡ 0
+pub pairs-up : (ps : List (List ℤ)) (lo hi : ℕ) (pre post : List ℕ) → ring_slants ps ≡ false → levels ps ≡ pre ++ (lo ∷ hi ∷ post) → length (crossings ps lo hi) % 2 ≡ 0
 pairs-up ps lo hi pre post s e = even-crossings ps lo hi (level-band ps lo hi pre post e) s

@@ -10,17 +10,17 @@ use lib.Seq.{take-suc-set, drop-set-lt, drop-drop}
 use mathlib.Core.Bool.{true}
 use borrow.Author.Tests.{leb-true}
 use Rattle.cell.proofs.Contact.{and_left}
-use Rattle.refusals.specs.Limits.{maxPoints}
-use Rattle.strips.specs.Rings.{ringInRange, pointInRange, all_below}
-use Rattle.strips.specs.Said.{laid, stripRow, laying}
+use Rattle.refusals.specs.Limits.{max_points}
+use Rattle.strips.specs.Rings.{ring_in_range, point_in_range, all_below}
+use Rattle.strips.specs.Said.{laid, strip_row, laying}
 use Rattle.strips.specs.declared.walk.Strip.{Strip}
 
-pub laid_one : (out : List (List ℤ)) (k : ℕ) (s : Strip) (ss : List Strip) → k < length out → laying (set out k (stripRow s)) (k + 1) ss ≡ laying out k (s ∷ ss)
+pub laid_one : (out : List (List ℤ)) (k : ℕ) (s : Strip) (ss : List Strip) → k < length out → laying (set out k (strip_row s)) (k + 1) ss ≡ laying out k (s ∷ ss)
 unfolding laid
 laid_one out k s ss h =
     let q : suc k + length ss ≡ k + suc (length ss) = omega arith in
     let e : drop (length ss) (drop (suc k) out) ≡ drop (suc (length ss)) (drop k out) = drop-drop (length ss) (suc k) out ∙ ap (λ (n : ℕ). drop n out) q ∙ sym (drop-drop (suc (length ss)) k out) in
-    rw (add-one k, take-suc-set out k (stripRow s) h, drop-set-lt (suc k) out k (stripRow s) (omega arith), append_assoc, e) refl
+    rw (add-one k, take-suc-set out k (strip_row s) h, drop-set-lt (suc k) out k (strip_row s) (omega arith), append_assoc, e) refl
 
 pub laid_none : (out : List (List ℤ)) (k : ℕ) → laying out k [] ≡ out
 unfolding laid
@@ -30,11 +30,11 @@ pub laid_more : (out : List (List ℤ)) (k : ℕ) (ss ts : List Strip) → k + l
 laid_more out k [] ts h = let e : k + 0 ≡ k = omega arith in rw (e, laid_none out k) refl
 laid_more out k (s ∷ ss) ts h =
     let e : k + suc (length ss) ≡ k + 1 + length ss = omega arith in
-    let n : k + 1 + length ss ≤ length (set out k (stripRow s)) = simp length-set (omega arith) in
-    let i = laid_more (set out k (stripRow s)) (k + 1) ss ts n in
+    let n : k + 1 + length ss ≤ length (set out k (strip_row s)) = simp length-set (omega arith) in
+    let i = laid_more (set out k (strip_row s)) (k + 1) ss ts n in
     rw (← laid_one out k s ss (omega arith), e) i ∙ laid_one out k s (ss ++ ts) (omega arith)
 
 -- a ring that was judged has no more points than the limit
-pub few-points : (ps : List (List ℤ)) → ringInRange ps ≡ true → length ps ≤ maxPoints
-unfolding ringInRange
-few-points ps e = leb-true _ _ (and_left _ (all_below (pointInRange ps) (length ps)) e)
+pub few-points : (ps : List (List ℤ)) → ring_in_range ps ≡ true → length ps ≤ max_points
+unfolding ring_in_range
+few-points ps e = leb-true _ _ (and_left _ (all_below (point_in_range ps) (length ps)) e)

@@ -9,11 +9,11 @@ use lib.IntN.{ℤ, pos, negsuc, sub_ℕ}
 use lib.Signed.{le_z}
 use lib.Dec.{leb, ltb, eqb}
 use borrow.Author.Tests.{lt-ltb, le-ltb, le-leb, lt-leb, ltb-true, ltb-false, leb-true, leb-false, eq-eqb, ne_eqb}
-use Rattle.refusals.specs.Limits.{coordinate, maxPoints}
+use Rattle.refusals.specs.Limits.{coordinate, max_points}
 use Rattle.cell.specs.Ticks.{off, on, in_range}
 use Rattle.cell.proofs.Offsets.{below?, on-is, off-le}
-use Rattle.strips.specs.Rings.{after, edge_at, reaches, slants, slantsAt, all_below, pointInRange, ringInRange}
-use Rattle.strips.specs.Levels.{levelAt, crosses, apart}
+use Rattle.strips.specs.Rings.{after, edge_at, reaches, slants, slants_at, all_below, point_in_range, ring_in_range}
+use Rattle.strips.specs.Levels.{level_at, crosses, apart}
 use Rattle.strips.specs.Walk.{spans, crossed, left}
 use Rattle.cell.proofs.Contact.{and_left, and_right}
 use lib.ListN.{length, drop, get_or}
@@ -66,12 +66,12 @@ above-is (negsuc n) hi z h =
     (below? hi coordinate)
 
 -- an edge spans a band by its heights as they are lent
-pub spans-is : (ps : List (List ℤ)) (i lo hi : ℕ) → lo < hi → hi ≤ coordinate + coordinate → crosses (on lo) (on hi) (levelAt ps i) (levelAt ps (after ps i)) ≡ reaches lo hi (edge_at ps i)
+pub spans-is : (ps : List (List ℤ)) (i lo hi : ℕ) → lo < hi → hi ≤ coordinate + coordinate → crosses (on lo) (on hi) (level_at ps i) (level_at ps (after ps i)) ≡ reaches lo hi (edge_at ps i)
 unfolding crosses reaches edge_at
 spans-is ps i lo hi h g =
     let l : lo < coordinate + coordinate = omega arith in
     let z : 0 < hi = omega arith in
-    rw (below-is (levelAt ps i) lo l, above-is (levelAt ps (after ps i)) hi z g, below-is (levelAt ps (after ps i)) lo l, above-is (levelAt ps i) hi z g) refl
+    rw (below-is (level_at ps i) lo l, above-is (level_at ps (after ps i)) hi z g, below-is (level_at ps (after ps i)) lo l, above-is (level_at ps i) hi z g) refl
 
 -- no edge goes above all coordinates
 neither : (a b : Bool) → (a && false) || (b && false) ≡ false
@@ -83,9 +83,9 @@ neither false false = refl
 never : (ps : List (List ℤ)) (i lo hi : ℕ) → coordinate + coordinate < hi → reaches lo hi (edge_at ps i) ≡ false
 unfolding reaches edge_at
 never ps i lo hi h =
-    let a : leb hi (off (levelAt ps i)) ≡ false = lt-leb hi (off (levelAt ps i)) (omega (arith, off-le (levelAt ps i))) in
-    let b : leb hi (off (levelAt ps (after ps i))) ≡ false = lt-leb hi (off (levelAt ps (after ps i))) (omega (arith, off-le (levelAt ps (after ps i)))) in
-    rw (a, b) (neither (leb (off (levelAt ps i)) lo) (leb (off (levelAt ps (after ps i))) lo))
+    let a : leb hi (off (level_at ps i)) ≡ false = lt-leb hi (off (level_at ps i)) (omega (arith, off-le (level_at ps i))) in
+    let b : leb hi (off (level_at ps (after ps i))) ≡ false = lt-leb hi (off (level_at ps (after ps i))) (omega (arith, off-le (level_at ps (after ps i)))) in
+    rw (a, b) (neither (leb (off (level_at ps i)) lo) (leb (off (level_at ps (after ps i))) lo))
 
 and_no : (a b : Bool) → b ≡ false → (a && b) ≡ false
 and_no true b e = e
@@ -93,8 +93,8 @@ and_no false b e = refl
 
 pub crossed-high : (ps : List (List ℤ)) (lo hi : ℕ) → coordinate + coordinate < hi → (es : List ℕ) → crossed ps lo hi es ≡ []
 unfolding crossed spans
-crossed-high ps lo hi h [] = picked_none (spans ps lo hi) (λ e. e / maxPoints)
-crossed-high ps lo hi h (e ∷ es) = picked-no (spans ps lo hi) (λ e. e / maxPoints) e es (and_no (ltb lo hi) _ (never ps (e % maxPoints) lo hi h)) ∙ crossed-high ps lo hi h es
+crossed-high ps lo hi h [] = picked_none (spans ps lo hi) (λ e. e / max_points)
+crossed-high ps lo hi h (e ∷ es) = picked-no (spans ps lo hi) (λ e. e / max_points) e es (and_no (ltb lo hi) _ (never ps (e % max_points) lo hi h)) ∙ crossed-high ps lo hi h es
 
 -- the test of a band, by its answers
 pub band-yes : (lo hi : ℕ) → (ltb lo hi && leb hi (coordinate + coordinate)) ≡ true → (lo < hi) × (hi ≤ coordinate + coordinate)
@@ -157,9 +157,9 @@ all-at p (suc n) i e h =
     (λ (g : n ≤ i). let q : i ≡ n = omega arith in rw q (and_right (all_below p n) (p n) e))
     (below? i n)
 
-point-in : (ps : List (List ℤ)) (i : ℕ) → ringInRange ps ≡ true → i < length ps → pointInRange ps i ≡ true
-unfolding ringInRange
-point-in ps i e h = all-at (pointInRange ps) (length ps) i (and_right (leb (length ps) maxPoints) (all_below (pointInRange ps) (length ps)) e) h
+point-in : (ps : List (List ℤ)) (i : ℕ) → ring_in_range ps ≡ true → i < length ps → point_in_range ps i ≡ true
+unfolding ring_in_range
+point-in ps i e h = all-at (point_in_range ps) (length ps) i (and_right (leb (length ps) max_points) (all_below (point_in_range ps) (length ps)) e) h
 
 pub after-inside : (ps : List (List ℤ)) (i : ℕ) → i < length ps → after ps i < length ps
 after-inside ps i h =
@@ -168,7 +168,7 @@ after-inside ps i h =
     (λ (g : length ps ≤ i + 1). rw (le-ltb (i + 1) (length ps) g) (omega arith))
     (below? (i + 1) (length ps))
 
-pub slants-is : (ps : List (List ℤ)) (i : ℕ) → ringInRange ps ≡ true → i < length ps → (apart (get_or (get_or ps i []) 0 (pos 0)) (get_or (get_or ps (after ps i) []) 0 (pos 0)) && apart (levelAt ps i) (levelAt ps (after ps i))) ≡ slantsAt ps i
+pub slants-is : (ps : List (List ℤ)) (i : ℕ) → ring_in_range ps ≡ true → i < length ps → (apart (get_or (get_or ps i []) 0 (pos 0)) (get_or (get_or ps (after ps i) []) 0 (pos 0)) && apart (level_at ps i) (level_at ps (after ps i))) ≡ slants_at ps i
 unfolding slants edge_at
 slants-is ps i e h =
     let x0 = get_or (get_or ps i []) 0 (pos 0) in
@@ -176,5 +176,5 @@ slants-is ps i e h =
     let a = point-in ps i e h in
     let b = point-in ps (after ps i) e (after-inside ps i h) in
     ap₂ (λ (t u : Bool). t && u)
-    (apart-is x0 x1 (and_left (in_range x0) (in_range (levelAt ps i)) a) (and_left (in_range x1) (in_range (levelAt ps (after ps i))) b))
-    (apart-is (levelAt ps i) (levelAt ps (after ps i)) (and_right (in_range x0) (in_range (levelAt ps i)) a) (and_right (in_range x1) (in_range (levelAt ps (after ps i))) b))
+    (apart-is x0 x1 (and_left (in_range x0) (in_range (level_at ps i)) a) (and_left (in_range x1) (in_range (level_at ps (after ps i))) b))
+    (apart-is (level_at ps i) (level_at ps (after ps i)) (and_right (in_range x0) (in_range (level_at ps i)) a) (and_right (in_range x1) (in_range (level_at ps (after ps i))) b))

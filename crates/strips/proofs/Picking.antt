@@ -8,24 +8,24 @@ use native.Mathlib.Numerals.{add-one}
 use lib.ListN.{length, take, set, length-append}
 use lib.Seq.{take-suc-set}
 use Rattle.strips.specs.Sorted.{up_to, picked}
-use Rattle.strips.specs.Rings.{all_below, someBelow}
+use Rattle.strips.specs.Rings.{all_below, some_below}
 
 pub all_more : (p : ℕ → Bool) (i : ℕ) → all_below p (i + 1) ≡ (all_below p i && p i)
 unfolding all_below
 all_more p i = rw (add-one i) refl
 
-pub some_more : (p : ℕ → Bool) (i : ℕ) → someBelow p (i + 1) ≡ (someBelow p i || p i)
-unfolding someBelow
+pub some_more : (p : ℕ → Bool) (i : ℕ) → some_below p (i + 1) ≡ (some_below p i || p i)
+unfolding some_below
 some_more p i = rw (add-one i) refl
 
-pub upTo-more : (i : ℕ) → up_to (i + 1) ≡ up_to i ++ (i ∷ [])
+pub up_to-more : (i : ℕ) → up_to (i + 1) ≡ up_to i ++ (i ∷ [])
 unfolding up_to
-upTo-more i = rw (add-one i) refl
+up_to-more i = rw (add-one i) refl
 
-pub length-upTo : (n : ℕ) → length (up_to n) ≡ n
+pub length-up_to : (n : ℕ) → length (up_to n) ≡ n
 unfolding up_to
-length-upTo zero = refl
-length-upTo (suc n) = length-append (up_to n) (n ∷ []) ∙ omega (arith, length-upTo n)
+length-up_to zero = refl
+length-up_to (suc n) = length-append (up_to n) (n ∷ []) ∙ omega (arith, length-up_to n)
 
 pub picked-yes : (p : ℕ → Bool) (f : ℕ → ℕ) (i : ℕ) (l : List ℕ) → p i ≡ true → picked p f (i ∷ l) ≡ f i ∷ picked p f l
 unfolding picked
@@ -53,10 +53,10 @@ picked-append p f (i ∷ l) m =
     (λ e. rw (picked-no p f i (l ++ m) e, picked-no p f i l e, r) refl)
 
 pub more_yes : (p : ℕ → Bool) (f : ℕ → ℕ) (i : ℕ) → p i ≡ true → picked p f (up_to (i + 1)) ≡ picked p f (up_to i) ++ (f i ∷ [])
-more_yes p f i e = rw (upTo-more i, picked-append p f (up_to i) (i ∷ []), picked-yes p f i [] e, picked_none p f) refl
+more_yes p f i e = rw (up_to-more i, picked-append p f (up_to i) (i ∷ []), picked-yes p f i [] e, picked_none p f) refl
 
 pub more_no : (p : ℕ → Bool) (f : ℕ → ℕ) (i : ℕ) → p i ≡ false → picked p f (up_to (i + 1)) ≡ picked p f (up_to i)
-more_no p f i e = rw (upTo-more i, picked-append p f (up_to i) (i ∷ []), picked-no p f i [] e, picked_none p f, append-nil) refl
+more_no p f i e = rw (up_to-more i, picked-append p f (up_to i) (i ∷ []), picked-no p f i [] e, picked_none p f, append-nil) refl
 
 -- a row that is written from the front
 pub front : (row : List ℕ) (l : List ℕ) (n x : ℕ) → n < length row → take n row ≡ l → take (n + 1) (set row n x) ≡ l ++ (x ∷ [])

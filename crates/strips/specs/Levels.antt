@@ -2,8 +2,8 @@
 use Rattle.std.specs.Prelude.{ℕ, Bool, ◌&&◌, ◌||◌, List, [], get_or, ℤ, pos}
 use Rattle.std.specs.Int.Signed.{le_z, lt_z}
 
-abbrev pub levelAt : List (List ℤ) → ℕ → ℤ
-levelAt ps i = get_or (get_or ps i []) 1 (pos 0)
+abbrev pub level_at : List (List ℤ) → ℕ → ℤ
+level_at ps i = get_or (get_or ps i []) 1 (pos 0)
 
 -- one of two heights is at lo or below, and the other at hi or above
 unfoldable pub crosses : ℤ → ℤ → ℤ → ℤ → Bool

@@ -3,41 +3,41 @@ use Rattle.std.specs.Prelude.{ℕ, cond, List, [], ◌∷◌, ◌++◌, map, len
 use Rattle.refusals.specs.declared.Refusal.{Refusal}
 use Rattle.refusals.specs.Said.{Said, accepted, refused, said}
 use Rattle.cell.specs.Ticks.{on}
-use Rattle.strips.specs.Rings.{ringInRange, ringSlants}
-use Rattle.strips.specs.Strips.{stripsOf}
+use Rattle.strips.specs.Rings.{ring_in_range, ring_slants}
+use Rattle.strips.specs.Strips.{strips_of}
 use Rattle.strips.specs.declared.walk.Strip.{Strip}
 
-abbrev pub strippedSaid : Result ℕ Refusal → Said
-strippedSaid = said (λ n. n ∷ [])
+abbrev pub stripped_said : Result ℕ Refusal → Said
+stripped_said = said (λ n. n ∷ [])
 
 -- a strip as the caller reads it, in signed ticks: x0, y0, x1, y1
-abbrev pub stripRow : Strip → List ℤ
-stripRow s = on s.x0 ∷ on s.y0 ∷ on s.x1 ∷ on s.y1 ∷ []
+abbrev pub strip_row : Strip → List ℤ
+strip_row s = on s.x0 ∷ on s.y0 ∷ on s.x1 ∷ on s.y1 ∷ []
 
 -- a ring out of range is refused with 3, a slanted one with 4, at the place given; of any other ring `otherwise` is said
 abbrev pub judged : ℕ → List (List ℤ) → Said → Said
-judged place ps otherwise = cond (ringInRange ps) (cond (ringSlants ps) (refused 4 place) otherwise) (refused 3 place)
+judged place ps otherwise = cond (ring_in_range ps) (cond (ring_slants ps) (refused 4 place) otherwise) (refused 3 place)
 
 -- 6 for too little room; otherwise the number
 abbrev pub counted : ℕ → ℕ → Said
 counted n room = cond (ltb room n) (refused 6 0) (accepted (n ∷ []))
 
 -- 3, 4, 6, each with place 0; otherwise the number of strips
-unfoldable pub stripsSays : List (List ℤ) → ℕ → Said
-stripsSays ps room = judged 0 ps (counted (length (stripsOf ps)) room)
+unfoldable pub strips_says : List (List ℤ) → ℕ → Said
+strips_says ps room = judged 0 ps (counted (length (strips_of ps)) room)
 
 -- what is written only if the call is accepted
-abbrev pub ifAccepted : {A : Type 0} → Said → A → A → A
-ifAccepted (accepted vs) new old = new
-ifAccepted (refused n place) new old = old
+abbrev pub if_accepted : {A : Type 0} → Said → A → A → A
+if_accepted (accepted vs) new old = new
+if_accepted (refused n place) new old = old
 
 -- strips at the front of a row, and behind them what the row held
 unfoldable pub laid : List Strip → List (List ℤ) → List (List ℤ)
-laid ss row = map stripRow ss ++ drop (length ss) row
+laid ss row = map strip_row ss ++ drop (length ss) row
 
 -- the row below k, and the strips from k on
 abbrev pub laying : List (List ℤ) → ℕ → List Strip → List (List ℤ)
 laying out k ss = take k out ++ laid ss (drop k out)
 
-unfoldable pub stripsLeave : List (List ℤ) → List (List ℤ) → List (List ℤ)
-stripsLeave ps row = ifAccepted (stripsSays ps (length row)) (laid (stripsOf ps) row) row
+unfoldable pub strips_leave : List (List ℤ) → List (List ℤ) → List (List ℤ)
+strips_leave ps row = if_accepted (strips_says ps (length row)) (laid (strips_of ps) row) row

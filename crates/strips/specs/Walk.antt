@@ -1,29 +1,29 @@
 -- How the code goes over a ring: the y values and the vertical edges are put in order once; each band then takes from the edges, in
 -- their order, those that span it. Internal: the public promise is about Strips alone.
 use Rattle.std.specs.Prelude.{ℕ, ◌+◌, ◌*◌, ◌/◌, ◌%◌, ◌<◌, ◌≤◌, min, ◌≡◌, Bool, cond, ◌&&◌, List, [], ◌∷◌, ◌++◌, map, length, take, drop, get_or, ℤ, ltb}
-use Rattle.refusals.specs.Limits.{coordinate, maxPoints}
+use Rattle.refusals.specs.Limits.{coordinate, max_points}
 use Rattle.strips.specs.Sorted.{up_to, picked, sorted}
-use Rattle.strips.specs.Rings.{xAt, yAt, edge_at, vertical, reaches}
-use Rattle.strips.specs.Strips.{pairUp}
+use Rattle.strips.specs.Rings.{x_at, y_at, edge_at, vertical, reaches}
+use Rattle.strips.specs.Strips.{pair_up}
 use Rattle.strips.specs.declared.walk.Strip.{Strip}
 use Rattle.strips.specs.declared.walk.Ahead.{Ahead}
 use Rattle.strips.specs.declared.walk.Ahead.TheVariants.{Found, End}
 
-unfoldable pub heightsOf : List (List ℤ) → List ℕ
-heightsOf ps = sorted (map (yAt ps) (up_to (length ps)))
+unfoldable pub heights_of : List (List ℤ) → List ℕ
+heights_of ps = sorted (map (y_at ps) (up_to (length ps)))
 
 -- a vertical edge as one number: by x, then by its first point
 abbrev pub key_of : List (List ℤ) → ℕ → ℕ
-key_of ps i = xAt ps i * maxPoints + i
+key_of ps i = x_at ps i * max_points + i
 
-abbrev pub verticalAt : List (List ℤ) → ℕ → Bool
-verticalAt ps i = vertical (edge_at ps i)
+abbrev pub vertical_at : List (List ℤ) → ℕ → Bool
+vertical_at ps i = vertical (edge_at ps i)
 
-unfoldable pub unsortedEdges : List (List ℤ) → ℕ → List ℕ
-unsortedEdges ps n = picked (verticalAt ps) (key_of ps) (up_to n)
+unfoldable pub unsorted_edges : List (List ℤ) → ℕ → List ℕ
+unsorted_edges ps n = picked (vertical_at ps) (key_of ps) (up_to n)
 
-unfoldable pub edgesOf : List (List ℤ) → List ℕ
-edgesOf ps = sorted (unsortedEdges ps (length ps))
+unfoldable pub edges_of : List (List ℤ) → List ℕ
+edges_of ps = sorted (unsorted_edges ps (length ps))
 
 -- a list stands at the front of a row, and this is its length
 pub record Gathered (l row : List ℕ) (n : ℕ) : Type 0 where
@@ -33,24 +33,24 @@ pub record Gathered (l row : List ℕ) (n : ℕ) : Type 0 where
 
 -- both rows of a ring are ready, with m vertical edges
 pub record Prepared (ps : List (List ℤ)) (hs es : List ℕ) (m : ℕ) : Type 0 where
-  pub heights : Gathered (heightsOf ps) hs (length ps)
-  pub edges : Gathered (edgesOf ps) es m
+  pub heights : Gathered (heights_of ps) hs (length ps)
+  pub edges : Gathered (edges_of ps) es m
 
 -- an edge spans a band
 unfoldable pub spans : List (List ℤ) → ℕ → ℕ → ℕ → Bool
-spans ps lo hi e = ltb lo hi && reaches lo hi (edge_at ps (e % maxPoints))
+spans ps lo hi e = ltb lo hi && reaches lo hi (edge_at ps (e % max_points))
 
 -- the x values of those edges of a list that span a band
 unfoldable pub crossed : List (List ℤ) → ℕ → ℕ → List ℕ → List ℕ
-crossed ps lo hi es = picked (spans ps lo hi) (λ e. e / maxPoints) es
+crossed ps lo hi es = picked (spans ps lo hi) (λ e. e / max_points) es
 
 -- the strips of one band
-abbrev pub inBand : List (List ℤ) → ℕ → ℕ → List ℕ → List Strip
-inBand ps lo hi es = pairUp lo hi (crossed ps lo hi es)
+abbrev pub in_band : List (List ℤ) → ℕ → ℕ → List ℕ → List Strip
+in_band ps lo hi es = pair_up lo hi (crossed ps lo hi es)
 
 -- the crossings from the edge at j on, where `find` answers j: none at the end
 unfoldable pub from : List (List ℤ) → ℕ → ℕ → List ℕ → ℕ → List ℕ
-from ps lo hi es j = cond (ltb j (length es)) (get_or es j 0 / maxPoints ∷ crossed ps lo hi (drop (j + 1) es)) []
+from ps lo hi es j = cond (ltb j (length es)) (get_or es j 0 / max_points ∷ crossed ps lo hi (drop (j + 1) es)) []
 
 -- r is the first edge from j on that spans the band, or the number of edges
 pub record Finds (ps : List (List ℤ)) (lo hi : ℕ) (es : List ℕ) (j r : ℕ) : Type 0 where
@@ -62,13 +62,13 @@ pub record Finds (ps : List (List ℤ)) (lo hi : ℕ) (es : List ℕ) (j r : ℕ
 unfoldable pub walked : List (List ℤ) → List ℕ → List ℕ → List Strip
 walked ps es [] = []
 walked ps es (lo ∷ []) = []
-walked ps es (lo ∷ hi ∷ hs) = pairUp lo hi (crossed ps lo hi es) ++ walked ps es (hi ∷ hs)
+walked ps es (lo ∷ hi ∷ hs) = pair_up lo hi (crossed ps lo hi es) ++ walked ps es (hi ∷ hs)
 
 -- the strips that are left where the first band has got as far as the edge at j
 unfoldable pub left : List (List ℤ) → List ℕ → ℕ → List ℕ → List Strip
 left ps es j [] = []
 left ps es j (lo ∷ []) = []
-left ps es j (lo ∷ hi ∷ hs) = pairUp lo hi (crossed ps lo hi (drop j es)) ++ walked ps es (hi ∷ hs)
+left ps es j (lo ∷ hi ∷ hs) = pair_up lo hi (crossed ps lo hi (drop j es)) ++ walked ps es (hi ∷ hs)
 
 -- from band r on there is as much to come as from band k on
 pub record Skips (hs : List ℕ) (k r : ℕ) : Type 0 where
@@ -80,8 +80,8 @@ unfoldable pub all_of : List (List ℤ) → List ℕ → List ℕ → List Strip
 all_of ps hs es = cond (ltb (length ps) 3) [] (walked ps es hs)
 
 -- the band to start with: the end where there are too few points
-abbrev pub startBand : List (List ℤ) → List ℕ → ℕ
-startBand ps hs = cond (ltb (length ps) 3) (length hs) 0
+abbrev pub start_band : List (List ℤ) → List ℕ → ℕ
+start_band ps hs = cond (ltb (length ps) 3) (length hs) 0
 
 -- what an answer of `next` leaves to come
 abbrev pub ahead : List (List ℤ) → List ℕ → List ℕ → Ahead → List Strip
@@ -90,13 +90,13 @@ ahead ps hs es End = []
 
 -- a ring within the limit, and work rows that it fits
 pub record Roomy (ps : List (List ℤ)) (hs es : List ℕ) : Type 0 where
-  pub few : length ps ≤ maxPoints
+  pub few : length ps ≤ max_points
   pub heights : length ps ≤ length hs
   pub edges : length ps ≤ length es
 
 -- a ring of at most so many points has short work rows
-abbrev pub fewPoints : ℕ
-fewPoints = 16
+abbrev pub few_points : ℕ
+few_points = 16
 
 -- a strip has a positive width and height and lies in the frame of coordinates
 pub record Sound (s : Strip) : Type 0 where
@@ -111,6 +111,6 @@ AllSound (s ∷ ss) = Sound s × AllSound ss
 
 -- what `prepare` has made ready of a ring within the limit
 pub record Ready (ps : List (List ℤ)) (hs es : List ℕ) : Type 0 where
-  pub few : length ps ≤ maxPoints
-  pub heights : hs ≡ heightsOf ps
-  pub edges : es ≡ edgesOf ps
+  pub few : length ps ≤ max_points
+  pub heights : hs ≡ heights_of ps
+  pub edges : es ≡ edges_of ps

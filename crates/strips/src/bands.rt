@@ -1,8 +1,8 @@
 // The strips of a ring band by band: each band goes over the edges once, from left to right.
 ghost use Rattle.std.specs.Prelude.{◌≡◌, ◌<◌, ◌≤◌, ◌+◌, ◌^◌, min, length, set};
 ghost use Rattle.refusals.specs.Limits.{coordinate};
-ghost use Rattle.strips.specs.Said.{stripRow, laid, laying};
-ghost use Rattle.strips.specs.Walk.{all_of, inBand};
+ghost use Rattle.strips.specs.Said.{strip_row, laid, laying};
+ghost use Rattle.strips.specs.Walk.{all_of, in_band};
 
 use crate::walk;
 use crate::walk::{COORDINATES, Strip};
@@ -12,7 +12,7 @@ use refusals::limits::RING_POINTS;
 // How many strips a band has. Internal, as all of this module: the band has a height and is in range.
 fn count_band(points: &[[i64; 2]], edges: &[u64], lo: u64, hi: u64) -> usize
     requires { (lo < hi) × (hi ≤ coordinate + coordinate) }
-    ensures { (result ≡ length (inBand points.now lo hi edges.now)) × (result ≤ length edges.now) }
+    ensures { (result ≡ length (in_band points.now lo hi edges.now)) × (result ≤ length edges.now) }
 {
     let mut n = 0;
     let mut j = 0;
@@ -61,7 +61,7 @@ pub fn count(points: &[[i64; 2]], heights: &[u64], edges: &[u64], room: usize) -
 // One strip, in the caller's ticks.
 fn put(out: &mut [[i64; 4]], k: usize, s: Strip)
     requires { k < length out.old }
-    ensures { out.new ≡ set out.old k (stripRow s) }
+    ensures { out.new ≡ set out.old k (strip_row s) }
 {
     out[k] = [
         ticks::ticks(s.x0),
@@ -80,8 +80,8 @@ fn put_band(
     out: &mut [[i64; 4]],
     at: usize,
 ) -> usize
-    requires { ((lo < hi) × (hi ≤ coordinate + coordinate)) × (at + length (inBand points.now lo hi edges.now) ≤ length out.old) }
-    ensures { (result ≡ at + length (inBand points.now lo hi edges.now)) × (out.new ≡ laying out.old at (inBand points.now lo hi edges.now)) }
+    requires { ((lo < hi) × (hi ≤ coordinate + coordinate)) × (at + length (in_band points.now lo hi edges.now) ≤ length out.old) }
+    ensures { (result ≡ at + length (in_band points.now lo hi edges.now)) × (out.new ≡ laying out.old at (in_band points.now lo hi edges.now)) }
 {
     let mut n = at;
     let mut j = 0;

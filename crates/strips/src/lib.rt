@@ -2,10 +2,10 @@
 #![tactic(auto)]
 
 ghost use Rattle.std.specs.Prelude.{◌≡◌, ◌≤◌, length};
-ghost use Rattle.refusals.specs.Limits.{maxPoints};
-ghost use Rattle.strips.specs.Said.{strippedSaid, stripsSays, stripsLeave, laid, counted, ifAccepted};
-ghost use Rattle.strips.specs.Strips.{stripsOf};
-ghost use Rattle.strips.specs.Walk.{all_of, edgesOf, fewPoints};
+ghost use Rattle.refusals.specs.Limits.{max_points};
+ghost use Rattle.strips.specs.Said.{stripped_said, strips_says, strips_leave, laid, counted, if_accepted};
+ghost use Rattle.strips.specs.Strips.{strips_of};
+ghost use Rattle.strips.specs.Walk.{all_of, edges_of, few_points};
 
 use refusals::Refusal;
 use refusals::limits::RING_POINTS;
@@ -25,8 +25,8 @@ fn lay(
     edges: &[u64],
     out: &mut [[i64; 4]],
 ) -> Result<usize, Refusal>
-    ensures result_value { strippedSaid result ≡ counted (length (all_of points.now heights.now edges.now)) (length out.old) }
-    ensures out_after { out.new ≡ ifAccepted (strippedSaid result) (laid (all_of points.now heights.now edges.now) out.old) out.old }
+    ensures result_value { stripped_said result ≡ counted (length (all_of points.now heights.now edges.now)) (length out.old) }
+    ensures out_after { out.new ≡ if_accepted (stripped_said result) (laid (all_of points.now heights.now edges.now) out.old) out.old }
 {
     let room = out.len();
     let n = bands::count(points, heights, edges, room);
@@ -44,10 +44,10 @@ fn cut(
     edges: &[u64],
     out: &mut [[i64; 4]],
 ) -> Result<usize, Refusal>
-    requires fits { (length points.now ≤ maxPoints) × (length points.now ≤ length heights.old) }
-    requires in_order { edges.now ≡ edgesOf points.now }
-    ensures result_value { strippedSaid result ≡ counted (length (stripsOf points.now)) (length out.old) }
-    ensures out_after { out.new ≡ ifAccepted (strippedSaid result) (laid (stripsOf points.now) out.old) out.old }
+    requires fits { (length points.now ≤ max_points) × (length points.now ≤ length heights.old) }
+    requires in_order { edges.now ≡ edges_of points.now }
+    ensures result_value { stripped_said result ≡ counted (length (strips_of points.now)) (length out.old) }
+    ensures out_after { out.new ≡ if_accepted (stripped_said result) (laid (strips_of points.now) out.old) out.old }
 {
     let n = points.len();
     walk::sort_heights(points, &mut heights[..n]);
@@ -56,9 +56,9 @@ fn cut(
 
 // Short work rows. Long ones stand in frames of their own, below, so that a ring of few points takes no stack for them.
 fn cut_few(points: &[[i64; 2]], out: &mut [[i64; 4]]) -> Result<usize, Refusal>
-    requires { length points.now ≤ fewPoints }
-    ensures result_value { strippedSaid result ≡ counted (length (stripsOf points.now)) (length out.old) }
-    ensures out_after { out.new ≡ ifAccepted (strippedSaid result) (laid (stripsOf points.now) out.old) out.old }
+    requires { length points.now ≤ few_points }
+    ensures result_value { stripped_said result ≡ counted (length (strips_of points.now)) (length out.old) }
+    ensures out_after { out.new ≡ if_accepted (stripped_said result) (laid (strips_of points.now) out.old) out.old }
 {
     let mut heights = [0u64; FEW];
     let mut edges = [0u64; FEW];
@@ -68,9 +68,9 @@ fn cut_few(points: &[[i64; 2]], out: &mut [[i64; 4]]) -> Result<usize, Refusal>
 
 #[inline(never)]
 fn cut_bands(points: &[[i64; 2]], edges: &[u64], out: &mut [[i64; 4]]) -> Result<usize, Refusal>
-    requires { (length points.now ≤ maxPoints) × (edges.now ≡ edgesOf points.now) }
-    ensures result_value { strippedSaid result ≡ counted (length (stripsOf points.now)) (length out.old) }
-    ensures out_after { out.new ≡ ifAccepted (strippedSaid result) (laid (stripsOf points.now) out.old) out.old }
+    requires { (length points.now ≤ max_points) × (edges.now ≡ edges_of points.now) }
+    ensures result_value { stripped_said result ≡ counted (length (strips_of points.now)) (length out.old) }
+    ensures out_after { out.new ≡ if_accepted (stripped_said result) (laid (strips_of points.now) out.old) out.old }
 {
     let mut heights = [0u64; RING_POINTS];
     cut(points, &mut heights, edges, out)
@@ -79,9 +79,9 @@ fn cut_bands(points: &[[i64; 2]], edges: &[u64], out: &mut [[i64; 4]]) -> Result
 // Long work rows. The edges are sorted before there is a row of heights, so that the sort's stack isn't added to it.
 #[inline(never)]
 fn cut_many(points: &[[i64; 2]], out: &mut [[i64; 4]]) -> Result<usize, Refusal>
-    requires { length points.now ≤ maxPoints }
-    ensures result_value { strippedSaid result ≡ counted (length (stripsOf points.now)) (length out.old) }
-    ensures out_after { out.new ≡ ifAccepted (strippedSaid result) (laid (stripsOf points.now) out.old) out.old }
+    requires { length points.now ≤ max_points }
+    ensures result_value { stripped_said result ≡ counted (length (strips_of points.now)) (length out.old) }
+    ensures out_after { out.new ≡ if_accepted (stripped_said result) (laid (strips_of points.now) out.old) out.old }
 {
     let mut edges = [0u64; RING_POINTS];
     let m = walk::sort_edges(points, &mut edges[..points.len()]);
@@ -90,8 +90,8 @@ fn cut_many(points: &[[i64; 2]], out: &mut [[i64; 4]]) -> Result<usize, Refusal>
 
 // The strips of a ring, by band from the bottom, then left to right: x0, y0, x1, y1 in each row.
 pub fn strips(points: &[[i64; 2]], out: &mut [[i64; 4]]) -> Result<usize, Refusal>
-    ensures result_value { strippedSaid result ≡ stripsSays points.now (length out.old) }
-    ensures out_after { out.new ≡ stripsLeave points.now out.old }
+    ensures result_value { stripped_said result ≡ strips_says points.now (length out.old) }
+    ensures out_after { out.new ≡ strips_leave points.now out.old }
 {
     if !ring::in_range(points) {
         return Err(Refusal::OutOfRange(0));

@@ -1,7 +1,7 @@
 // A ring of points, every point joined to the next and the last to the first.
 ghost use Rattle.std.specs.Prelude.{◌≡◌, ◌<◌, ◌^◌, true, ◌&&◌, length};
-ghost use Rattle.strips.specs.Rings.{xAt, yAt, after, edge_at, vertical, slantsAt, pointInRange, ringInRange, ringSlants};
-ghost use Rattle.strips.specs.Levels.{levelAt, crosses, apart};
+ghost use Rattle.strips.specs.Rings.{x_at, y_at, after, edge_at, vertical, slants_at, point_in_range, ring_in_range, ring_slants};
+ghost use Rattle.strips.specs.Levels.{level_at, crosses, apart};
 
 use cell::ticks;
 use refusals::limits::RING_POINTS;
@@ -17,20 +17,20 @@ pub struct Edge {
 
 // Coordinates of point i, offset. A point past the end is read as the middle, so that nothing is asked of a caller.
 pub fn x_at(points: &[[i64; 2]], i: usize) -> u64
-    ensures { result ≡ xAt points.now i }
+    ensures { result ≡ x_at points.now i }
 {
     ticks::offset(points.get(i).map_or(0, |p| p[0]))
 }
 
 pub fn y_at(points: &[[i64; 2]], i: usize) -> u64
-    ensures { result ≡ yAt points.now i }
+    ensures { result ≡ y_at points.now i }
 {
     ticks::offset(level_at(points, i))
 }
 
 // The y of point i as it is lent.
 fn level_at(points: &[[i64; 2]], i: usize) -> i64
-    ensures { result ≡ levelAt points.now i }
+    ensures { result ≡ level_at points.now i }
 {
     points.get(i).map_or(0, |p| p[1])
 }
@@ -53,7 +53,7 @@ fn next_point(points: &[[i64; 2]], i: usize) -> usize
 // Whether the edge from point i goes from lo, or below, to hi, or above, or the other way, all as lent.
 pub fn spans(points: &[[i64; 2]], i: usize, lo: i64, hi: i64) -> bool
     requires { i < 2 ^ 63 }
-    ensures { result ≡ crosses lo hi (levelAt points.now i) (levelAt points.now (after points.now i)) }
+    ensures { result ≡ crosses lo hi (level_at points.now i) (level_at points.now (after points.now i)) }
 {
     let j = next_point(points, i);
     crosses(level_at(points, i), level_at(points, j), lo, hi)
@@ -84,14 +84,14 @@ impl Edge {
 // Whether both coordinates of point i are in range. Internal.
 fn point_in_range(points: &[[i64; 2]], i: usize) -> bool
     requires { i < length points.now }
-    ensures { result ≡ pointInRange points.now i }
+    ensures { result ≡ point_in_range points.now i }
 {
     ticks::in_range(points[i][0]) & ticks::in_range(points[i][1])
 }
 
-// Document 01's ranges for a ring: the number of its points, and each coordinate.
+// The rules' ranges for a ring: the number of its points, and each coordinate.
 pub fn in_range(points: &[[i64; 2]]) -> bool
-    ensures { result ≡ ringInRange points.now }
+    ensures { result ≡ ring_in_range points.now }
 {
     let mut ok = points.len() <= RING_POINTS;
     for i in 0..points.len() {
@@ -110,8 +110,8 @@ fn differ(x0: i64, y0: i64, x1: i64, y1: i64) -> bool
 // Whether the edge from point i differs in both. Internal, as the next: coordinates are in range, so that they differ
 // as offset ones do.
 fn slants_at(points: &[[i64; 2]], i: usize) -> bool
-    requires { (i < length points.now) × (ringInRange points.now ≡ true) }
-    ensures { result ≡ slantsAt points.now i }
+    requires { (i < length points.now) × (ring_in_range points.now ≡ true) }
+    ensures { result ≡ slants_at points.now i }
 {
     let j = next_point(points, i);
     differ(points[i][0], points[i][1], points[j][0], points[j][1])
@@ -119,8 +119,8 @@ fn slants_at(points: &[[i64; 2]], i: usize) -> bool
 
 // Whether some edge differs in both x and y from end to end.
 pub fn slanted(points: &[[i64; 2]]) -> bool
-    requires { ringInRange points.now ≡ true }
-    ensures { result ≡ ringSlants points.now }
+    requires { ring_in_range points.now ≡ true }
+    ensures { result ≡ ring_slants points.now }
 {
     let mut found = false;
     for i in 0..points.len() {

@@ -1,9 +1,9 @@
 // The strips of a ring one after another. The y values and the vertical edges are put in order once; a band then meets
 // the edges that span it from left to right, so that no band sorts anything.
 ghost use Rattle.std.specs.Prelude.{◌≡◌, ◌+◌, ◌<◌, ◌≤◌, length, drop};
-ghost use Rattle.refusals.specs.Limits.{coordinate, maxPoints};
+ghost use Rattle.refusals.specs.Limits.{coordinate, max_points};
 ghost use Rattle.strips.specs.Tally.{Tallied};
-ghost use Rattle.strips.specs.Walk.{heightsOf, unsortedEdges, edgesOf, Gathered, Prepared, Roomy, Finds, Skips, left, startBand, ahead};
+ghost use Rattle.strips.specs.Walk.{heights_of, unsorted_edges, edges_of, Gathered, Prepared, Roomy, Finds, Skips, left, start_band, ahead};
 
 use crate::{ring, tally};
 use cell::ticks;
@@ -30,8 +30,8 @@ pub enum Ahead {
 // The y values, each that differs once, with how often it stands there. Answers how many differ. Internal: the row is
 // as long as the ring, which is within the limit.
 fn tally_heights(points: &[[i64; 2]], row: &mut [u64]) -> usize
-    requires { (length row.old ≡ length points.now) × (length points.now ≤ maxPoints) }
-    ensures { Tallied (heightsOf points.now) row.new result }
+    requires { (length row.old ≡ length points.now) × (length points.now ≤ max_points) }
+    ensures { Tallied (heights_of points.now) row.new result }
 {
     let mut k = 0;
     let mut i = points.len();
@@ -46,8 +46,8 @@ fn tally_heights(points: &[[i64; 2]], row: &mut [u64]) -> usize
 // gone before the walk begins.
 #[inline(never)]
 pub fn sort_heights(points: &[[i64; 2]], row: &mut [u64])
-    requires { (length row.old ≡ length points.now) × (length points.now ≤ maxPoints) }
-    ensures { row.new ≡ heightsOf points.now }
+    requires { (length row.old ≡ length points.now) × (length points.now ≤ max_points) }
+    ensures { row.new ≡ heights_of points.now }
 {
     let k = tally_heights(points, row);
     tally::unpack(row, k);
@@ -57,7 +57,7 @@ pub fn sort_heights(points: &[[i64; 2]], row: &mut [u64])
 // long as the ring.
 fn gather_edges(points: &[[i64; 2]], row: &mut [u64]) -> usize
     requires { length row.old ≡ length points.now }
-    ensures { Gathered (unsortedEdges points.now (length points.now)) row.new result }
+    ensures { Gathered (unsorted_edges points.now (length points.now)) row.new result }
 {
     let mut n = 0;
     for i in 0..points.len() {
@@ -74,7 +74,7 @@ fn gather_edges(points: &[[i64; 2]], row: &mut [u64]) -> usize
 #[inline(never)]
 pub fn sort_edges(points: &[[i64; 2]], row: &mut [u64]) -> usize
     requires { length row.old ≡ length points.now }
-    ensures { Gathered (edgesOf points.now) row.new result }
+    ensures { Gathered (edges_of points.now) row.new result }
 {
     let n = gather_edges(points, row);
     row[..n].sort_unstable();
@@ -112,7 +112,7 @@ pub fn find(points: &[[i64; 2]], edges: &[u64], j: usize, lo: u64, hi: u64) -> u
 
 // The band to start with: the end where the ring has fewer than 3 points.
 pub fn start(points: &[[i64; 2]], heights: &[u64]) -> usize
-    ensures { result ≡ startBand points.now heights.now }
+    ensures { result ≡ start_band points.now heights.now }
 {
     if points.len() < 3 { heights.len() } else { 0 }
 }

@@ -7,7 +7,7 @@ use native.Mathlib.Omega.{arith}
 use native.Mathlib.Numerals.{add-one}
 use lib.Dec.{eqb}
 use borrow.Author.Tests.{eqb-true, eqb-false}
-use Rattle.table.specs.Formed.{allTo}
+use Rattle.table.specs.Formed.{all_to}
 
 pub and_left : (x y : Bool) → (x && y) ≡ true → x ≡ true
 and_left true y e = refl
@@ -39,25 +39,25 @@ top? i n h = by (eqb i n) refl
     by false e = inl (let d = eqb-false i n e in omega arith)
 
 module _ (f : ℕ → Bool) where
-  pub all-next : (n : ℕ) → allTo f n ≡ true → f n ≡ true → allTo f (n + 1) ≡ true
-  all-next n a h = rw (add-one n) (and_both (allTo f n) (f n) a h)
+  pub all-next : (n : ℕ) → all_to f n ≡ true → f n ≡ true → all_to f (n + 1) ≡ true
+  all-next n a h = rw (add-one n) (and_both (all_to f n) (f n) a h)
 
-  pub all-at : (n : ℕ) → allTo f n ≡ true → (i : ℕ) → i < n → f i ≡ true
+  pub all-at : (n : ℕ) → all_to f n ≡ true → (i : ℕ) → i < n → f i ≡ true
   all-at zero a i h = absurd (omega arith)
   all-at (suc n) a i h =
       ⊎_elim
-      (λ (l : i < n). all-at n (and_left (allTo f n) (f n) a) i l)
-      (λ (e : i ≡ n). rw e (and_right (allTo f n) (f n) a))
+      (λ (l : i < n). all-at n (and_left (all_to f n) (f n) a) i l)
+      (λ (e : i ≡ n). rw e (and_right (all_to f n) (f n) a))
       (top? i n h)
 
-  pub all_of : (n : ℕ) → ((i : ℕ) → i < n → f i ≡ true) → allTo f n ≡ true
+  pub all_of : (n : ℕ) → ((i : ℕ) → i < n → f i ≡ true) → all_to f n ≡ true
   all_of zero h = refl
-  all_of (suc n) h = and_both (allTo f n) (f n) (all_of n (λ i l. h i (omega arith))) (h n (omega arith))
+  all_of (suc n) h = and_both (all_to f n) (f n) (all_of n (λ i l. h i (omega arith))) (h n (omega arith))
 
-  pub all-fails : (n i : ℕ) → i < n → f i ≡ false → allTo f n ≡ false
+  pub all-fails : (n i : ℕ) → i < n → f i ≡ false → all_to f n ≡ false
   all-fails zero i h e = absurd (omega arith)
   all-fails (suc n) i h e =
       ⊎_elim
       (λ (l : i < n). ap (λ (b : Bool). b && f n) (all-fails n i l e))
-      (λ (d : i ≡ n). and-false (allTo f n) (f n) (rw d at e))
+      (λ (d : i ≡ n). and-false (all_to f n) (f n) (rw d at e))
       (top? i n h)

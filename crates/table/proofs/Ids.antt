@@ -9,48 +9,48 @@ use native.Mathlib.Nat.{add-zero, add-suc, suc-add}
 use native.Mathlib.Numerals.{add-one}
 use lib.ListN.{length, drop, length-append, set}
 use lib.Seq.{sets, sets-eq}
-use Rattle.table.specs.Leaves.{oneIf, idsTo, written}
+use Rattle.table.specs.Leaves.{one_if, ids_to, written}
 use Rattle.table.proofs.All.{top?}
 
 module _ (f : ℕ → Bool) where
-  pub ids-none : idsTo f 0 ≡ []
-  unfolding idsTo
+  pub ids-none : ids_to f 0 ≡ []
+  unfolding ids_to
   ids-none = refl
 
-  pub ids-yes : (n : ℕ) → f n ≡ true → idsTo f (n + 1) ≡ idsTo f n ++ (n ∷ [])
-  unfolding idsTo
+  pub ids-yes : (n : ℕ) → f n ≡ true → ids_to f (n + 1) ≡ ids_to f n ++ (n ∷ [])
+  unfolding ids_to
   ids-yes n e = rw (add-one, e)
 
-  pub ids-no : (n : ℕ) → f n ≡ false → idsTo f (n + 1) ≡ idsTo f n
-  unfolding idsTo
-  ids-no n e = rw (add-one, e) (append-nil (idsTo f n))
+  pub ids-no : (n : ℕ) → f n ≡ false → ids_to f (n + 1) ≡ ids_to f n
+  unfolding ids_to
+  ids-no n e = rw (add-one, e) (append-nil (ids_to f n))
 
-  pub ids-yes-length : (n : ℕ) → f n ≡ true → length (idsTo f (n + 1)) ≡ length (idsTo f n) + 1
-  ids-yes-length n e = rw (ids-yes n e) (length-append (idsTo f n) (n ∷ []))
+  pub ids-yes-length : (n : ℕ) → f n ≡ true → length (ids_to f (n + 1)) ≡ length (ids_to f n) + 1
+  ids-yes-length n e = rw (ids-yes n e) (length-append (ids_to f n) (n ∷ []))
 
   -- the list only grows
-  pub ids-most : (n m : ℕ) → n ≤ m → length (idsTo f n) ≤ length (idsTo f m)
-  unfolding idsTo
+  pub ids-most : (n m : ℕ) → n ≤ m → length (ids_to f n) ≤ length (ids_to f m)
+  unfolding ids_to
   ids-most n zero h = let e : n ≡ 0 = omega arith in rw e (omega arith)
   ids-most n (suc m) h =
       ⊎_elim
-      (λ (l : n < suc m). let r = ids-most n m (omega arith) in omega (arith, length-append (idsTo f m) (oneIf (f m) m)))
+      (λ (l : n < suc m). let r = ids-most n m (omega arith) in omega (arith, length-append (ids_to f m) (one_if (f m) m)))
       (λ (e : n ≡ suc m). rw e (omega arith))
       (top? n (suc m) (omega arith))
 
   -- at most one an index
-  pub ids-few : (n : ℕ) → length (idsTo f n) ≤ n
-  unfolding idsTo
+  pub ids-few : (n : ℕ) → length (ids_to f n) ≤ n
+  unfolding ids_to
   ids-few zero = omega arith
-  ids-few (suc n) = omega (arith, ids-few n, length-append (idsTo f n) (oneIf (f n) n), one (f n))
+  ids-few (suc n) = omega (arith, ids-few n, length-append (ids_to f n) (one_if (f n) n), one (f n))
     where
-      one : (b : Bool) → length (oneIf b n) ≤ 1
+      one : (b : Bool) → length (one_if b n) ≤ 1
       one true = omega arith
       one false = omega arith
 
 -- two tests that agree below n list the same
-pub ids-same : (f g : ℕ → Bool) (n : ℕ) → ((i : ℕ) → i < n → f i ≡ g i) → idsTo f n ≡ idsTo g n
-unfolding idsTo
+pub ids-same : (f g : ℕ → Bool) (n : ℕ) → ((i : ℕ) → i < n → f i ≡ g i) → ids_to f n ≡ ids_to g n
+unfolding ids_to
 ids-same f g zero h = refl
 ids-same f g (suc n) h =
     rw (ids-same f g n (λ i l. h i (omega arith)), h n (omega arith))
@@ -68,13 +68,13 @@ sets-written out ids h =
     subst (λ (k : ℕ). sets out 0 ids ≡ ids ++ drop k out) e (sets-eq ids out 0 (omega arith))
 
 -- an id that is still to come needs room
-pub ids-room : (f : ℕ → Bool) (i n : ℕ) → i < n → f i ≡ true → length (idsTo f i) < length (idsTo f n)
+pub ids-room : (f : ℕ → Bool) (i n : ℕ) → i < n → f i ≡ true → length (ids_to f i) < length (ids_to f n)
 ids-room f i n h e = let r = ids-most f (i + 1) n (omega arith) in omega (arith, ids-yes-length f i e)
 
 -- a turn of the loop that lists: the id is stored, or nothing is done
 pub list-turn : (f : ℕ → Bool) (out : List ℕ) (k i : ℕ) → f i ≡ true
-    → set (sets out k (idsTo f i)) (k + length (idsTo f i)) i ≡ sets out k (idsTo f (i + 1))
-list-turn f out k i e = rw (ids-yes f i e) (sets_more out k (idsTo f i) (i ∷ []))
+    → set (sets out k (ids_to f i)) (k + length (ids_to f i)) i ≡ sets out k (ids_to f (i + 1))
+list-turn f out k i e = rw (ids-yes f i e) (sets_more out k (ids_to f i) (i ∷ []))
 
 -- what a loop that counts or lists needs
 pub ruleset turns = (ids-none, ids-yes-length, ids-no, ids-few, ids-room, list-turn)

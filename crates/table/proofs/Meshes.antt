@@ -9,7 +9,7 @@ use native.Mathlib.Decide.{dec_lt, ℕ_discrete}
 use lib.ListN.{length, get_or, set, length-append, length-set, get_or-append, get_or-eq_default}
 use lib.Seq.{get_or-append-add, get_or-set_same, get_or-set_other}
 use Rattle.cell.specs.Boxes.{Box, Quad, sw, se, nw, ne, num, quadrant}
-use Rattle.table.specs.Mesh.{Cell, past, at, child, withKids, brood, split}
+use Rattle.table.specs.Mesh.{Cell, past, at, child, with_kids, brood, split}
 use Rattle.table.specs.Formed.{Kid, Split, Born, Root, Formed}
 
 pub not_some : {A : Type 0} (o : Option ℕ) (f : ℕ) → o ≡ none → o ≡ some f → A
@@ -49,14 +49,14 @@ module _ (t : List Cell) (c : ℕ) (inside : c < length t) where
   pub at_old : (i : ℕ) → i < length t → i ≢ c → at (split t c) i ≡ at t i
   unfolding split
   at_old i h other =
-      get_or-append (set t c (withKids (at t c) (length t))) (brood c (at t c)) past i (rw length-set h)
-      ∙ get_or-set_other t c i (withKids (at t c) (length t)) past other
+      get_or-append (set t c (with_kids (at t c) (length t))) (brood c (at t c)) past i (rw length-set h)
+      ∙ get_or-set_other t c i (with_kids (at t c) (length t)) past other
 
-  pub at_self : at (split t c) c ≡ withKids (at t c) (length t)
+  pub at_self : at (split t c) c ≡ with_kids (at t c) (length t)
   unfolding split
   at_self =
-      get_or-append (set t c (withKids (at t c) (length t))) (brood c (at t c)) past c (rw length-set inside)
-      ∙ get_or-set_same t c (withKids (at t c) (length t)) past inside
+      get_or-append (set t c (with_kids (at t c) (length t))) (brood c (at t c)) past c (rw length-set inside)
+      ∙ get_or-set_same t c (with_kids (at t c) (length t)) past inside
 
   in-brood : (q : Quad) → get_or (brood c (at t c)) (num q) past ≡ child c (at t c) q
   in-brood sw = refl
@@ -67,13 +67,13 @@ module _ (t : List Cell) (c : ℕ) (inside : c < length t) where
   pub at_new : (q : Quad) → at (split t c) (length t + num q) ≡ child c (at t c) q
   unfolding split
   at_new q =
-      ap (λ (n : ℕ). get_or (split t c) (n + num q) past) (sym (length-set t c (withKids (at t c) (length t))))
-      ∙ get_or-append-add (set t c (withKids (at t c) (length t))) (brood c (at t c)) (num q) past
+      ap (λ (n : ℕ). get_or (split t c) (n + num q) past) (sym (length-set t c (with_kids (at t c) (length t))))
+      ∙ get_or-append-add (set t c (with_kids (at t c) (length t))) (brood c (at t c)) (num q) past
       ∙ in-brood q
 
   pub data View (i : ℕ) : Type 0 where
     old : i < length t → i ≢ c → at (split t c) i ≡ at t i → View i
-    self : i ≡ c → at (split t c) i ≡ withKids (at t i) (length t) → View i
+    self : i ≡ c → at (split t c) i ≡ with_kids (at t i) (length t) → View i
     new : (q : Quad) → i ≡ length t + num q → at (split t c) i ≡ child c (at t c) q → View i
     out : length t + 4 ≤ i → at (split t c) i ≡ past → View i
 

@@ -8,12 +8,12 @@ use Rattle.refusals.specs.Said.{Said}
 use Rattle.refusals.specs.declared.Refusal.{Refusal}
 use Rattle.refusals.proofs.Settled.{one-said}
 use Rattle.table.specs.declared.Head.{Head}
-use Rattle.table.specs.Leaves.{listedSaid}
-use Rattle.table.specs.Refine.{refinedSaid}
+use Rattle.table.specs.Leaves.{listed_said}
+use Rattle.table.specs.Refine.{refined_said}
 
-pub one_list : (what : Said) (r q : Result ℕ Refusal) → listedSaid r ≡ what → listedSaid q ≡ what → r ≡ q
+pub one_list : (what : Said) (r q : Result ℕ Refusal) → listed_said r ≡ what → listed_said q ≡ what → r ≡ q
 one_list = one-said (λ n. n ∷ []) (λ vs. get_or vs 0 0) (λ n. refl)
 
-pub one-refined : (what : Said) (r q : Result Head Refusal) → refinedSaid r ≡ what → refinedSaid q ≡ what → r ≡ q
+pub one-refined : (what : Said) (r q : Result Head Refusal) → refined_said r ≡ what → refined_said q ≡ what → r ≡ q
 one-refined =
     one-said (λ h. h.count ∷ h.max_level ∷ []) (λ vs. record { count = get_or vs 0 0; max_level = get_or vs 1 0 }) (λ h. refl)

@@ -13,26 +13,26 @@ use Rattle.refusals.specs.Said.{accepted, refusal}
 use Rattle.refusals.specs.declared.Refusal.TheVariants.{BadTable, NoSuchCell, AlreadySplit, FinestLevel, NoRoom}
 use Rattle.table.specs.Slots.{cell_at}
 use Rattle.table.specs.Mesh.{split, table}
-use Rattle.table.specs.Formed.{wellFormed}
-use Rattle.table.specs.Leaves.{leafAt}
-use Rattle.table.specs.Refine.{splitRow, isAccepted, refineSays, refineRow}
+use Rattle.table.specs.Formed.{well_formed}
+use Rattle.table.specs.Leaves.{leaf_at}
+use Rattle.table.specs.Refine.{split_row, is_accepted, refine_says, refine_row}
 use Rattle.table.proofs.Wellformed.{formed-facts}
 use Rattle.table.proofs.Splits.{refine-formed, split-table}
 
 pub record Refinable (t : List ℤ) (n M id : ℕ) : Type 0 where
-  pub formed : wellFormed t n M ≡ true
+  pub formed : well_formed t n M ≡ true
   pub inside : id < n
-  pub leaf : leafAt t id ≡ true
+  pub leaf : leaf_at t id ≡ true
   pub finer : (cell_at t id).level < M
   pub room : n + 4 ≤ length t / 8
 
 module _ (t : List ℤ) (n M id : ℕ) where
-  pub accepted-facts : isAccepted (refineSays t n M id) ≡ true → Refinable t n M id
-  unfolding refineSays
-  accepted-facts e = by (wellFormed t n M) (ltb id n) (leafAt t id) (ltb (cell_at t id).level M) (leb 4 (length t / 8 - n)) refl refl refl refl refl e
+  pub accepted-facts : is_accepted (refine_says t n M id) ≡ true → Refinable t n M id
+  unfolding refine_says
+  accepted-facts e = by (well_formed t n M) (ltb id n) (leaf_at t id) (ltb (cell_at t id).level M) (leb 4 (length t / 8 - n)) refl refl refl refl refl e
     where
-      by : (a b c d f : Bool) → wellFormed t n M ≡ a → ltb id n ≡ b → leafAt t id ≡ c → ltb (cell_at t id).level M ≡ d → leb 4 (length t / 8 - n) ≡ f
-          → isAccepted (cond a (cond b (cond c (cond d (cond f (accepted ((n + 4) ∷ M ∷ [])) (refusal NoRoom)) (refusal (FinestLevel id))) (refusal (AlreadySplit id))) (refusal (NoSuchCell id))) (refusal BadTable)) ≡ true
+      by : (a b c d f : Bool) → well_formed t n M ≡ a → ltb id n ≡ b → leaf_at t id ≡ c → ltb (cell_at t id).level M ≡ d → leb 4 (length t / 8 - n) ≡ f
+          → is_accepted (cond a (cond b (cond c (cond d (cond f (accepted ((n + 4) ∷ M ∷ [])) (refusal NoRoom)) (refusal (FinestLevel id))) (refusal (AlreadySplit id))) (refusal (NoSuchCell id))) (refusal BadTable)) ≡ true
           → Refinable t n M id
       by true true true true true a b c d f e =
           record { formed = a; inside = ltb-true id n b; leaf = c; finer = ltb-true (cell_at t id).level M d; room = (let h = leb-true 4 (length t / 8 - n) f in omega arith) }
@@ -42,17 +42,17 @@ module _ (t : List ℤ) (n M id : ℕ) where
       by true false c d f a b c' d' f' e = absurd (false≢true e)
       by false b c d f a b' c' d' f' e = absurd (false≢true e)
 
-  module _ (ok : isAccepted (refineSays t n M id) ≡ true) where
-    row-split : refineRow t n M id ≡ splitRow t n id
-    unfolding refineRow
-    row-split = ap (λ (b : Bool). cond b (splitRow t n id) t) ok
+  module _ (ok : is_accepted (refine_says t n M id) ≡ true) where
+    row-split : refine_row t n M id ≡ split_row t n id
+    unfolding refine_row
+    row-split = ap (λ (b : Bool). cond b (split_row t n id) t) ok
 
-    pub accepted-formed : wellFormed (refineRow t n M id) (n + 4) M ≡ true
+    pub accepted-formed : well_formed (refine_row t n M id) (n + 4) M ≡ true
     accepted-formed =
         let r = accepted-facts ok in
         rw row-split (refine-formed t n M id r.formed r.inside r.leaf r.finer r.room)
 
-    pub accepted-table : table (refineRow t n M id) (n + 4) ≡ split (table t n) id
+    pub accepted-table : table (refine_row t n M id) (n + 4) ≡ split (table t n) id
     accepted-table =
         let r = accepted-facts ok in
         rw row-split (split-table t n M id (formed-facts t n M r.formed) r.inside r.leaf r.finer r.room)

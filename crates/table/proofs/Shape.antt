@@ -8,61 +8,61 @@ use lib.IntN.{ℤ}
 use lib.ListN.{length}
 use mathlib.Core.List.{List}
 use borrow.Author.Tests.{leb-true, ltb-true, eqb-true, le-leb, eq-eqb}
-use Rattle.refusals.specs.Limits.{maxLevel, maxSlots, maxPolygons}
+use Rattle.refusals.specs.Limits.{widest_level, max_slots, max_polygons}
 use Rattle.table.specs.Slots.{cell_at, in_slot}
-use Rattle.table.specs.Formed.{shapeOk, restZero, allTo, placeOk, kidsOk, cellOk, wellFormed}
+use Rattle.table.specs.Formed.{shape_ok, rest_zero, all_to, place_ok, kids_ok, cell_ok, well_formed}
 use Rattle.table.proofs.All.{and_left, and_right, all-at}
 
 pub record Shape (size n M : ℕ) : Type 0 where
-  pub range : M ≤ maxLevel
+  pub range : M ≤ widest_level
   pub whole : size % 8 ≡ 0
-  pub slots : size / 8 ≤ maxSlots
+  pub slots : size / 8 ≤ max_slots
   pub count : n ≤ size / 8
 
 module _ (size n M : ℕ) where
-  pub shape_of : shapeOk size n M ≡ true → Shape size n M
-  unfolding shapeOk
+  pub shape_of : shape_ok size n M ≡ true → Shape size n M
+  unfolding shape_ok
   shape_of e =
-      let a = and_left (leb M maxLevel && eqb (size % 8) 0 && leb (size / 8) maxSlots) (leb n (size / 8)) e in
-      let b = and_left (leb M maxLevel && eqb (size % 8) 0) (leb (size / 8) maxSlots) a in
+      let a = and_left (leb M widest_level && eqb (size % 8) 0 && leb (size / 8) max_slots) (leb n (size / 8)) e in
+      let b = and_left (leb M widest_level && eqb (size % 8) 0) (leb (size / 8) max_slots) a in
       record {
-        range = leb-true M maxLevel (and_left (leb M maxLevel) (eqb (size % 8) 0) b);
-        whole = eqb-true (size % 8) 0 (and_right (leb M maxLevel) (eqb (size % 8) 0) b);
-        slots = leb-true (size / 8) maxSlots (and_right (leb M maxLevel && eqb (size % 8) 0) (leb (size / 8) maxSlots) a);
-        count = leb-true n (size / 8) (and_right (leb M maxLevel && eqb (size % 8) 0 && leb (size / 8) maxSlots) (leb n (size / 8)) e);
+        range = leb-true M widest_level (and_left (leb M widest_level) (eqb (size % 8) 0) b);
+        whole = eqb-true (size % 8) 0 (and_right (leb M widest_level) (eqb (size % 8) 0) b);
+        slots = leb-true (size / 8) max_slots (and_right (leb M widest_level && eqb (size % 8) 0) (leb (size / 8) max_slots) a);
+        count = leb-true n (size / 8) (and_right (leb M widest_level && eqb (size % 8) 0 && leb (size / 8) max_slots) (leb n (size / 8)) e);
       }
 
-  pub of-shape : Shape size n M → shapeOk size n M ≡ true
-  unfolding shapeOk
-  of-shape s = simp (le-leb M maxLevel s.range, eq-eqb (size % 8) 0 s.whole, le-leb (size / 8) maxSlots s.slots, le-leb n (size / 8) s.count)
+  pub of-shape : Shape size n M → shape_ok size n M ≡ true
+  unfolding shape_ok
+  of-shape s = simp (le-leb M widest_level s.range, eq-eqb (size % 8) 0 s.whole, le-leb (size / 8) max_slots s.slots, le-leb n (size / 8) s.count)
 
 -- the count's slots lie in the row
 pub within : (size n M : ℕ) → Shape size n M → n * 8 ≤ size
 within size n M s = omega arith
 
 -- past the test of well-formedness
-pub formed-shape : (t : List ℤ) (n M : ℕ) → wellFormed t n M ≡ true → Shape (length t) n M
-unfolding wellFormed
-formed-shape t n M e = shape_of (length t) n M (and_left (shapeOk (length t) n M) (restZero t n && allTo (cellOk t n M) n) e)
+pub formed-shape : (t : List ℤ) (n M : ℕ) → well_formed t n M ≡ true → Shape (length t) n M
+unfolding well_formed
+formed-shape t n M e = shape_of (length t) n M (and_left (shape_ok (length t) n M) (rest_zero t n && all_to (cell_ok t n M) n) e)
 
-pub formed-within : (t : List ℤ) (n M : ℕ) → wellFormed t n M ≡ true → n * 8 ≤ length t
+pub formed-within : (t : List ℤ) (n M : ℕ) → well_formed t n M ≡ true → n * 8 ≤ length t
 formed-within t n M e = within (length t) n M (formed-shape t n M e)
 
-pub formed-poly : (t : List ℤ) (n M : ℕ) → wellFormed t n M ≡ true → (i : ℕ) → i < n → (cell_at t i).poly < maxPolygons
-unfolding wellFormed cellOk
+pub formed-poly : (t : List ℤ) (n M : ℕ) → well_formed t n M ≡ true → (i : ℕ) → i < n → (cell_at t i).poly < max_polygons
+unfolding well_formed cell_ok
 formed-poly t n M e i h =
     let c = cell_at t i in
-    let all = and_right (restZero t n) (allTo (cellOk t n M) n) (and_right (shapeOk (length t) n M) (restZero t n && allTo (cellOk t n M) n) e) in
-    let ok = all-at (cellOk t n M) n all i h in
-    let placed = and_left (in_slot t i && leb c.level M && ltb c.poly maxPolygons && placeOk t n (2 ^ (M + 1)) i c) (kidsOk t n M i c) ok in
-    let small = and_left (in_slot t i && leb c.level M && ltb c.poly maxPolygons) (placeOk t n (2 ^ (M + 1)) i c) placed in
-    ltb-true c.poly maxPolygons (and_right (in_slot t i && leb c.level M) (ltb c.poly maxPolygons) small)
+    let all = and_right (rest_zero t n) (all_to (cell_ok t n M) n) (and_right (shape_ok (length t) n M) (rest_zero t n && all_to (cell_ok t n M) n) e) in
+    let ok = all-at (cell_ok t n M) n all i h in
+    let placed = and_left (in_slot t i && leb c.level M && ltb c.poly max_polygons && place_ok t n (2 ^ (M + 1)) i c) (kids_ok t n M i c) ok in
+    let small = and_left (in_slot t i && leb c.level M && ltb c.poly max_polygons) (place_ok t n (2 ^ (M + 1)) i c) placed in
+    ltb-true c.poly max_polygons (and_right (in_slot t i && leb c.level M) (ltb c.poly max_polygons) small)
 
 -- the bounds, in a form that the prover takes up where the test stands
-pub shape_bounds : (size n M : ℕ) → shapeOk size n M ≡ true
-    → (shapeOk size n M ≡ true) × (n * 8 ≤ size) × (n ≤ maxSlots) × (M ≤ maxLevel) × (size % 8 ≡ 0)
+pub shape_bounds : (size n M : ℕ) → shape_ok size n M ≡ true
+    → (shape_ok size n M ≡ true) × (n * 8 ≤ size) × (n ≤ max_slots) × (M ≤ widest_level) × (size % 8 ≡ 0)
 shape_bounds size n M e = let s = shape_of size n M e in (e, within size n M s, omega arith, s.range, s.whole)
 
-pub formed_bounds : (t : List ℤ) (n M : ℕ) → wellFormed t n M ≡ true
-    → (wellFormed t n M ≡ true) × (n * 8 ≤ length t) × (n ≤ length t / 8) × (M ≤ maxLevel)
+pub formed_bounds : (t : List ℤ) (n M : ℕ) → well_formed t n M ≡ true
+    → (well_formed t n M ≡ true) × (n * 8 ≤ length t) × (n ≤ length t / 8) × (M ≤ widest_level)
 formed_bounds t n M e = let s = formed-shape t n M e in (e, within (length t) n M s, s.count, s.range)

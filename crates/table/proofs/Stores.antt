@@ -16,7 +16,7 @@ use Rattle.refusals.specs.Limits.{coordinate}
 use Rattle.cell.specs.declared.Cell.{Cell}
 use Rattle.cell.specs.Ticks.{off, on, in_range}
 use Rattle.cell.proofs.Offsets.{off-on, off-le, below?}
-use Rattle.table.specs.Slots.{counted, kept, number, start, cell_at, stored, putCell, putFirst, in_slot}
+use Rattle.table.specs.Slots.{counted, kept, number, start, cell_at, stored, put_cell, put_first, in_slot}
 use Rattle.table.proofs.Numbers.{counted-kept}
 
 -- ---- a run of stores: the values vs at b + k, b + (k + 1), ..
@@ -132,14 +132,14 @@ read-corners t i = (off-le (start t i), off-le (number t i 1), off-le (number t 
 rest : Cell → List ℤ
 rest c = on c.y0 ∷ on c.x1 ∷ on c.y1 ∷ kept c.level ∷ kept c.parent ∷ kept c.first ∷ kept c.poly ∷ []
 
-pub length-put : (t : List ℤ) (i : ℕ) (c : Cell) → length (putCell t i c) ≡ length t
-unfolding putCell stored
+pub length-put : (t : List ℤ) (i : ℕ) (c : Cell) → length (put_cell t i c) ≡ length t
+unfolding put_cell stored
 length-put t i c = simp length-set
 
 module _ (t : List ℤ) (i : ℕ) (c : Cell) where
   -- a number outside the slot is as it was
-  pub put-elsewhere : (j : ℕ) → (j < i * 8) ⊎ (i * 8 + 8 ≤ j) → get_or (putCell t i c) j (pos 0) ≡ get_or t j (pos 0)
-  unfolding putCell stored rest
+  pub put-elsewhere : (j : ℕ) → (j < i * 8) ⊎ (i * 8 + 8 ≤ j) → get_or (put_cell t i c) j (pos 0) ≡ get_or t j (pos 0)
+  unfolding put_cell stored rest
   put-elsewhere j (inl h) =
       puts-under (pos 0) (rest c) (set t (i * 8) (on c.x0)) (i * 8) 1 j (omega arith)
       ∙ get_or-set_other t (i * 8) j (on c.x0) (pos 0) (λ q. omega arith)
@@ -147,27 +147,27 @@ module _ (t : List ℤ) (i : ℕ) (c : Cell) where
       puts-over (pos 0) (rest c) (set t (i * 8) (on c.x0)) (i * 8) 1 j (omega arith)
       ∙ get_or-set_other t (i * 8) j (on c.x0) (pos 0) (λ q. omega arith)
 
-  other-slot : (j : ℕ) → j ≢ i → (k : ℕ) → k < 8 → number (putCell t i c) j k ≡ number t j k
+  other-slot : (j : ℕ) → j ≢ i → (k : ℕ) → k < 8 → number (put_cell t i c) j k ≡ number t j k
   other-slot j o k h = put-elsewhere (j * 8 + k) (by_cases (dec_lt j i) (λ l. inl (omega arith)) (λ l. inr (omega arith)))
 
-  pub put_other : (j : ℕ) → j ≢ i → cell_at (putCell t i c) j ≡ cell_at t j
-  put_other j o = same-cell t (putCell t i c) j j (other-slot j o)
+  pub put_other : (j : ℕ) → j ≢ i → cell_at (put_cell t i c) j ≡ cell_at t j
+  put_other j o = same-cell t (put_cell t i c) j j (other-slot j o)
 
-  pub put-other-held : (j : ℕ) → j ≢ i → in_slot (putCell t i c) j ≡ in_slot t j
-  put-other-held j o = same-held t (putCell t i c) j j (other-slot j o)
+  pub put-other-held : (j : ℕ) → j ≢ i → in_slot (put_cell t i c) j ≡ in_slot t j
+  put-other-held j o = same-held t (put_cell t i c) j j (other-slot j o)
 
   module _ (h : i * 8 + 8 ≤ length t) where
-    at-start : start (putCell t i c) i ≡ on c.x0
-    unfolding putCell stored rest
+    at-start : start (put_cell t i c) i ≡ on c.x0
+    unfolding put_cell stored rest
     at-start =
         puts-under (pos 0) (rest c) (set t (i * 8) (on c.x0)) (i * 8) 1 (i * 8) (omega arith)
         ∙ get_or-set_same t (i * 8) (on c.x0) (pos 0) (omega arith)
 
-    at_rest : (m j : ℕ) → j ≡ i * 8 + 1 + m → m < 7 → get_or (putCell t i c) j (pos 0) ≡ get_or (rest c) m (pos 0)
-    unfolding putCell stored rest
+    at_rest : (m j : ℕ) → j ≡ i * 8 + 1 + m → m < 7 → get_or (put_cell t i c) j (pos 0) ≡ get_or (rest c) m (pos 0)
+    unfolding put_cell stored rest
     at_rest m j e f = puts-at (pos 0) (rest c) (set t (i * 8) (on c.x0)) (i * 8) 1 m j e f (simp length-set (omega arith))
 
-    pub put_same : Fits c → cell_at (putCell t i c) i ≡ c
+    pub put_same : Fits c → cell_at (put_cell t i c) i ≡ c
     unfolding cell_at rest
     put_same w =
         λ x. record {
@@ -181,7 +181,7 @@ module _ (t : List ℤ) (i : ℕ) (c : Cell) where
           poly = (ap counted (at_rest 6 (i * 8 + 7) (omega arith) (omega arith)) ∙ counted-kept c.poly w.poly) x;
         }
 
-    pub put-held : in_slot (putCell t i c) i ≡ true
+    pub put-held : in_slot (put_cell t i c) i ≡ true
     unfolding in_slot rest
     put-held =
         simp (
@@ -199,33 +199,33 @@ module _ (t : List ℤ) (i : ℕ) (c : Cell) where
 
 -- ---- another first child for the cell in a slot
 
-abbrev pub withFirst : Cell → ℕ → Cell
-withFirst c f = record { x0 = c.x0; y0 = c.y0; x1 = c.x1; y1 = c.y1; level = c.level; parent = c.parent; first = f; poly = c.poly }
+abbrev pub with_first : Cell → ℕ → Cell
+with_first c f = record { x0 = c.x0; y0 = c.y0; x1 = c.x1; y1 = c.y1; level = c.level; parent = c.parent; first = f; poly = c.poly }
 
-pub length-first : (t : List ℤ) (i f : ℕ) → length (putFirst t i f) ≡ length t
-unfolding putFirst stored
+pub length-first : (t : List ℤ) (i f : ℕ) → length (put_first t i f) ≡ length t
+unfolding put_first stored
 length-first t i f = length-set t (i * 8 + 6) (kept f)
 
 module _ (t : List ℤ) (i f : ℕ) where
-  pub first-elsewhere : (j : ℕ) → j ≢ i * 8 + 6 → get_or (putFirst t i f) j (pos 0) ≡ get_or t j (pos 0)
-  unfolding putFirst stored
+  pub first-elsewhere : (j : ℕ) → j ≢ i * 8 + 6 → get_or (put_first t i f) j (pos 0) ≡ get_or t j (pos 0)
+  unfolding put_first stored
   first-elsewhere j o = get_or-set_other t (i * 8 + 6) j (kept f) (pos 0) o
 
-  other-first : (j : ℕ) → j ≢ i → (k : ℕ) → k < 8 → number (putFirst t i f) j k ≡ number t j k
+  other-first : (j : ℕ) → j ≢ i → (k : ℕ) → k < 8 → number (put_first t i f) j k ≡ number t j k
   other-first j o k h = first-elsewhere (j * 8 + k) (by_cases (dec_lt j i) (λ l. omega arith) (λ l. omega arith))
 
-  pub first-other : (j : ℕ) → j ≢ i → cell_at (putFirst t i f) j ≡ cell_at t j
-  first-other j o = same-cell t (putFirst t i f) j j (other-first j o)
+  pub first-other : (j : ℕ) → j ≢ i → cell_at (put_first t i f) j ≡ cell_at t j
+  first-other j o = same-cell t (put_first t i f) j j (other-first j o)
 
-  pub first-other-held : (j : ℕ) → j ≢ i → in_slot (putFirst t i f) j ≡ in_slot t j
-  first-other-held j o = same-held t (putFirst t i f) j j (other-first j o)
+  pub first-other-held : (j : ℕ) → j ≢ i → in_slot (put_first t i f) j ≡ in_slot t j
+  first-other-held j o = same-held t (put_first t i f) j j (other-first j o)
 
   module _ (h : i * 8 + 8 ≤ length t) where
-    at-six : number (putFirst t i f) i 6 ≡ kept f
-    unfolding putFirst stored
+    at-six : number (put_first t i f) i 6 ≡ kept f
+    unfolding put_first stored
     at-six = get_or-set_same t (i * 8 + 6) (kept f) (pos 0) (omega arith)
 
-    pub first-same : f ≤ largest → cell_at (putFirst t i f) i ≡ withFirst (cell_at t i) f
+    pub first-same : f ≤ largest → cell_at (put_first t i f) i ≡ with_first (cell_at t i) f
     unfolding cell_at
     first-same w =
         λ x. record {
@@ -239,7 +239,7 @@ module _ (t : List ℤ) (i f : ℕ) where
           poly = counted (first-elsewhere (i * 8 + 7) (omega arith) x);
         }
 
-    pub first-held : in_slot t i ≡ true → in_slot (putFirst t i f) i ≡ true
+    pub first-held : in_slot t i ≡ true → in_slot (put_first t i f) i ≡ true
     unfolding in_slot
     first-held e =
         simp (

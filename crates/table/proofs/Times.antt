@@ -8,10 +8,10 @@ use native.Mathlib.Nat.{zero-add, add-zero, add_assoc}
 use lib.Dec.{ltb, eqb}
 use lib.IntN.{ℤ}
 use borrow.Author.Tests.{ltb-true, ltb-false, lt-ltb, le-ltb, eqb-true, eqb-false}
-use Rattle.refusals.specs.Limits.{maxPolygons}
+use Rattle.refusals.specs.Limits.{max_polygons}
 use Rattle.refusals.specs.Said.{bit}
 use Rattle.table.specs.Slots.{cell_at}
-use Rattle.table.specs.Leaves.{oneIf, idsTo, leafAt, leafOf, leafIds, orderTo, orderIds}
+use Rattle.table.specs.Leaves.{one_if, ids_to, leaf_at, leaf_of, leaf_ids, order_to, order_ids}
 
 -- how often an id stands in a list
 unfoldable pub times : ℕ → List ℕ → ℕ
@@ -49,7 +49,7 @@ behind b x y z e = rw (and-swap x b, and-swap y b, and-swap z b) (beside b x y z
 
 -- the ids below n that pass a test: each once, and no other
 module _ (f : ℕ → Bool) (i : ℕ) where
-  one_time : (n : ℕ) (b : Bool) → times i (oneIf b n) ≡ bit (eqb i n && b)
+  one_time : (n : ℕ) (b : Bool) → times i (one_if b n) ≡ bit (eqb i n && b)
   unfolding times
   one_time n true = add-zero (bit (eqb i n)) ∙ ap bit (and-swap true (eqb i n))
   one_time n false = ap bit (and-swap false (eqb i n))
@@ -61,41 +61,41 @@ module _ (f : ℕ → Bool) (i : ℕ) where
       by true d = ap (λ (k : ℕ). bit (f k)) (sym (eqb-true i n d))
       by false d = refl
 
-  pub times-ids : (n : ℕ) → times i (idsTo f n) ≡ bit (ltb i n && f i)
-  unfolding idsTo times
+  pub times-ids : (n : ℕ) → times i (ids_to f n) ≡ bit (ltb i n && f i)
+  unfolding ids_to times
   times-ids zero = sym (ap (λ (b : Bool). bit (b && f i)) (le-ltb i 0 (omega arith)))
   times-ids (suc n) =
-      times-append i (idsTo f n) (oneIf (f n) n)
+      times-append i (ids_to f n) (one_if (f n) n)
       ∙ ap₂ ◌+◌ (times-ids n) (one_time n (f n) ∙ this-time n)
       ∙ sym (behind (f i) (ltb i n) (eqb i n) (ltb i (suc n)) (one_more i n))
 
 module _ (t : List ℤ) (n i : ℕ) where
   -- every leaf once, and nothing else
-  pub times-leaves : times i (leafIds t n) ≡ bit (ltb i n && leafAt t i)
-  unfolding leafIds
-  times-leaves = times-ids (leafAt t) i n
+  pub times-leaves : times i (leaf_ids t n) ≡ bit (ltb i n && leaf_at t i)
+  unfolding leaf_ids
+  times-leaves = times-ids (leaf_at t) i n
 
-  times-under : (p : ℕ) → times i (orderTo t n p) ≡ bit (ltb i n && (leafAt t i && ltb (cell_at t i).poly p))
-  unfolding orderTo times leafOf
+  times-under : (p : ℕ) → times i (order_to t n p) ≡ bit (ltb i n && (leaf_at t i && ltb (cell_at t i).poly p))
+  unfolding order_to times leaf_of
   times-under zero =
-      sym (ap (λ (b : Bool). bit (ltb i n && (leafAt t i && b))) (le-ltb (cell_at t i).poly 0 (omega arith)) ∙ none (ltb i n) (leafAt t i))
+      sym (ap (λ (b : Bool). bit (ltb i n && (leaf_at t i && b))) (le-ltb (cell_at t i).poly 0 (omega arith)) ∙ none (ltb i n) (leaf_at t i))
     where
       none : (x y : Bool) → bit (x && (y && false)) ≡ 0
       none true true = refl
       none true false = refl
       none false y = refl
   times-under (suc p) =
-      times-append i (orderTo t n p) (idsTo (leafOf t p) n)
-      ∙ ap₂ ◌+◌ (times-under p) (times-ids (leafOf t p) i n)
+      times-append i (order_to t n p) (ids_to (leaf_of t p) n)
+      ∙ ap₂ ◌+◌ (times-under p) (times-ids (leaf_of t p) i n)
       ∙ sym (
-      beside (ltb i n) (leafAt t i && ltb (cell_at t i).poly p) (leafAt t i && eqb (cell_at t i).poly p) (leafAt t i && ltb (cell_at t i).poly (suc p))
-      (beside (leafAt t i) (ltb (cell_at t i).poly p) (eqb (cell_at t i).poly p) (ltb (cell_at t i).poly (suc p)) (one_more (cell_at t i).poly p)))
+      beside (ltb i n) (leaf_at t i && ltb (cell_at t i).poly p) (leaf_at t i && eqb (cell_at t i).poly p) (leaf_at t i && ltb (cell_at t i).poly (suc p))
+      (beside (leaf_at t i) (ltb (cell_at t i).poly p) (eqb (cell_at t i).poly p) (ltb (cell_at t i).poly (suc p)) (one_more (cell_at t i).poly p)))
 
   -- the order by polygon has the same ids
-  pub times-order : ((j : ℕ) → j < n → (cell_at t j).poly < maxPolygons) → times i (orderIds t n) ≡ times i (leafIds t n)
-  unfolding orderIds
-  times-order h = times-under maxPolygons ∙ by (ltb i n) refl ∙ sym times-leaves
+  pub times-order : ((j : ℕ) → j < n → (cell_at t j).poly < max_polygons) → times i (order_ids t n) ≡ times i (leaf_ids t n)
+  unfolding order_ids
+  times-order h = times-under max_polygons ∙ by (ltb i n) refl ∙ sym times-leaves
     where
-      by : (b : Bool) → ltb i n ≡ b → bit (b && (leafAt t i && ltb (cell_at t i).poly maxPolygons)) ≡ bit (b && leafAt t i)
-      by true d = ap (λ (x : Bool). bit (leafAt t i && x)) (lt-ltb (cell_at t i).poly maxPolygons (h i (ltb-true i n d))) ∙ ap bit (and-swap (leafAt t i) true)
+      by : (b : Bool) → ltb i n ≡ b → bit (b && (leaf_at t i && ltb (cell_at t i).poly max_polygons)) ≡ bit (b && leaf_at t i)
+      by true d = ap (λ (x : Bool). bit (leaf_at t i && x)) (lt-ltb (cell_at t i).poly max_polygons (h i (ltb-true i n d))) ∙ ap bit (and-swap (leaf_at t i) true)
       by false d = refl

@@ -13,16 +13,16 @@ use lib.Dec.{ltb, leb, eqb}
 use lib.IntN.{ℤ, pos, negsuc}
 use lib.Signed.{non_neg}
 use borrow.Author.Tests.{ltb-true, leb-true, eqb-true, eqb-false, lt-ltb, le-leb, eq-eqb, ne_eqb}
-use Rattle.refusals.specs.Limits.{coordinate, maxSlots, maxPolygons}
-use Rattle.cell.specs.Boxes.{Quad, sw, se, nw, ne, num, quadAt}
+use Rattle.refusals.specs.Limits.{coordinate, max_slots, max_polygons}
+use Rattle.cell.specs.Boxes.{Quad, sw, se, nw, ne, num, quad_at}
 use Rattle.cell.specs.declared.Cell as Held
-use Rattle.cell.specs.Cells.{noCell, childOf}
+use Rattle.cell.specs.Cells.{no_cell, child_of}
 use Rattle.cell.specs.Ticks.{on, off, in_range}
 use Rattle.cell.proofs.Offsets.{off-on}
-use Rattle.table.specs.Slots.{counted, sameZ, number, start, cell_at, in_slot}
+use Rattle.table.specs.Slots.{counted, same_z, number, start, cell_at, in_slot}
 use Rattle.table.specs.Mesh.{table}
-use Rattle.table.specs.Formed.{Kid, allTo, sideOk, rootOk, bornOk, placeOk, kidsOk, cellOk}
-use Rattle.table.specs.Walk.{kidAt, kidsAt, ledAt, rootAt, fourAt, past_at}
+use Rattle.table.specs.Formed.{Kid, all_to, side_ok, root_ok, born_ok, place_ok, kids_ok, cell_ok}
+use Rattle.table.specs.Walk.{kid_at, kids_at, led_at, root_at, four_at, past_at}
 use Rattle.table.proofs.All.{and_left, and_right, all_of}
 use Rattle.table.proofs.Numbers.{same_true, true_same}
 use Rattle.table.proofs.Stores.{on-range, read-corners}
@@ -44,7 +44,7 @@ pos-is a b e = cc
 
 -- the corners of a child lie where its parent's do
 module _ (i : ℕ) (c : Held.Cell) (w : ℕ) (x0 : c.x0 ≤ w) (y0 : c.y0 ≤ w) (x1 : c.x1 ≤ w) (y1 : c.y1 ≤ w) where
-  corners : (q : Quad) → ((childOf i q c).x0 ≤ w) × ((childOf i q c).y0 ≤ w) × ((childOf i q c).x1 ≤ w) × ((childOf i q c).y1 ≤ w)
+  corners : (q : Quad) → ((child_of i q c).x0 ≤ w) × ((child_of i q c).y0 ≤ w) × ((child_of i q c).x1 ≤ w) × ((child_of i q c).y1 ≤ w)
   corners sw = (omega arith, omega arith, omega arith, omega arith)
   corners se = (omega arith, omega arith, omega arith, omega arith)
   corners nw = (omega arith, omega arith, omega arith, omega arith)
@@ -53,28 +53,28 @@ module _ (i : ℕ) (c : Held.Cell) (w : ℕ) (x0 : c.x0 ≤ w) (y0 : c.y0 ≤ w)
 -- ---- child k of cell i in slot j, number by number
 
 pub record KidAt (t : List ℤ) (i j k : ℕ) : Type 0 where
-  pub x0 : start t j ≡ on (childOf i (quadAt k) (cell_at t i)).x0
-  pub y0 : number t j 1 ≡ on (childOf i (quadAt k) (cell_at t i)).y0
-  pub x1 : number t j 2 ≡ on (childOf i (quadAt k) (cell_at t i)).x1
-  pub y1 : number t j 3 ≡ on (childOf i (quadAt k) (cell_at t i)).y1
+  pub x0 : start t j ≡ on (child_of i (quad_at k) (cell_at t i)).x0
+  pub y0 : number t j 1 ≡ on (child_of i (quad_at k) (cell_at t i)).y0
+  pub x1 : number t j 2 ≡ on (child_of i (quad_at k) (cell_at t i)).x1
+  pub y1 : number t j 3 ≡ on (child_of i (quad_at k) (cell_at t i)).y1
   pub level : number t j 4 ≡ pos ((cell_at t i).level + 1)
   pub parent : number t j 5 ≡ pos i
   pub poly : number t j 7 ≡ number t i 7
 
 module _ (t : List ℤ) (i j k : ℕ) where
   abbrev kid : Held.Cell
-  kid = childOf i (quadAt k) (cell_at t i)
+  kid = child_of i (quad_at k) (cell_at t i)
 
-  kid-facts : kidAt t i (cell_at t i) j k ≡ true → KidAt t i j k
-  unfolding kidAt
+  kid-facts : kid_at t i (cell_at t i) j k ≡ true → KidAt t i j k
+  unfolding kid_at
   kid-facts e =
-      let b0 = sameZ (start t j) (on kid.x0) in
-      let b1 = sameZ (number t j 1) (on kid.y0) in
-      let b2 = sameZ (number t j 2) (on kid.x1) in
-      let b3 = sameZ (number t j 3) (on kid.y1) in
-      let b4 = sameZ (number t j 4) (pos kid.level) in
-      let b5 = sameZ (number t j 5) (pos i) in
-      let b7 = sameZ (number t j 7) (number t i 7) in
+      let b0 = same_z (start t j) (on kid.x0) in
+      let b1 = same_z (number t j 1) (on kid.y0) in
+      let b2 = same_z (number t j 2) (on kid.x1) in
+      let b3 = same_z (number t j 3) (on kid.y1) in
+      let b4 = same_z (number t j 4) (pos kid.level) in
+      let b5 = same_z (number t j 5) (pos i) in
+      let b7 = same_z (number t j 7) (number t i 7) in
       let e5 = and_left (b0 && b1 && b2 && b3 && b4 && b5) b7 e in
       let e4 = and_left (b0 && b1 && b2 && b3 && b4) b5 e5 in
       let e3 = and_left (b0 && b1 && b2 && b3) b4 e4 in
@@ -90,8 +90,8 @@ module _ (t : List ℤ) (i j k : ℕ) where
         poly = same_true (number t j 7) (number t i 7) (and_right (b0 && b1 && b2 && b3 && b4 && b5) b7 e);
       }
 
-  facts-kid : KidAt t i j k → kidAt t i (cell_at t i) j k ≡ true
-  unfolding kidAt
+  facts-kid : KidAt t i j k → kid_at t i (cell_at t i) j k ≡ true
+  unfolding kid_at
   facts-kid w =
       simp (
         true_same (start t j) (on kid.x0) w.x0,
@@ -108,7 +108,7 @@ module _ (t : List ℤ) (i j k : ℕ) where
   unfolding cell_at counted
   kid-read w =
       let c = read-corners t i in
-      let b = corners i (cell_at t i) (coordinate + coordinate) c.0 c.1 c.2 c.3 (quadAt k) in
+      let b = corners i (cell_at t i) (coordinate + coordinate) c.0 c.1 c.2 c.3 (quad_at k) in
       record {
         x0 = ap off w.x0 ∙ off-on kid.x0 b.0;
         y0 = ap off w.y0 ∙ off-on kid.y0 b.1;
@@ -150,14 +150,14 @@ pub record Four (t : List ℤ) (M p f : ℕ) : Type 0 where
   pub kids : (k : ℕ) → k < 4 → KidAt t p (f + k) k
 
 module _ (t : List ℤ) (M p f : ℕ) where
-  kids-facts : kidsAt t M p f ≡ true → ((cell_at t p).level < M) × ((k : ℕ) → k < 4 → KidAt t p (f + k) k)
-  unfolding kidsAt
+  kids-facts : kids_at t M p f ≡ true → ((cell_at t p).level < M) × ((k : ℕ) → k < 4 → KidAt t p (f + k) k)
+  unfolding kids_at
   kids-facts e =
       let l = ltb (cell_at t p).level M in
-      let b0 = kidAt t p (cell_at t p) f 0 in
-      let b1 = kidAt t p (cell_at t p) (f + 1) 1 in
-      let b2 = kidAt t p (cell_at t p) (f + 2) 2 in
-      let b3 = kidAt t p (cell_at t p) (f + 3) 3 in
+      let b0 = kid_at t p (cell_at t p) f 0 in
+      let b1 = kid_at t p (cell_at t p) (f + 1) 1 in
+      let b2 = kid_at t p (cell_at t p) (f + 2) 2 in
+      let b3 = kid_at t p (cell_at t p) (f + 3) 3 in
       let e3 = and_right l (b0 && b1 && b2 && b3) e in
       let e2 = and_left (b0 && b1 && b2) b3 e3 in
       let e1 = and_left (b0 && b1) b2 e2 in (
@@ -165,7 +165,7 @@ module _ (t : List ℤ) (M p f : ℕ) where
         by (and_left b0 b1 e1) (and_right b0 b1 e1) (and_right (b0 && b1) b2 e2) (and_right (b0 && b1 && b2) b3 e3),
       )
     where
-      by : kidAt t p (cell_at t p) f 0 ≡ true → kidAt t p (cell_at t p) (f + 1) 1 ≡ true → kidAt t p (cell_at t p) (f + 2) 2 ≡ true → kidAt t p (cell_at t p) (f + 3) 3 ≡ true
+      by : kid_at t p (cell_at t p) f 0 ≡ true → kid_at t p (cell_at t p) (f + 1) 1 ≡ true → kid_at t p (cell_at t p) (f + 2) 2 ≡ true → kid_at t p (cell_at t p) (f + 3) 3 ≡ true
           → (k : ℕ) → k < 4 → KidAt t p (f + k) k
       by a b c d zero h = subst (λ (j : ℕ). KidAt t p j 0) (sym (add-zero f)) (kid-facts t p f 0 a)
       by a b c d (suc zero) h = kid-facts t p (f + 1) 1 b
@@ -173,8 +173,8 @@ module _ (t : List ℤ) (M p f : ℕ) where
       by a b c d (suc (suc (suc zero))) h = kid-facts t p (f + 3) 3 d
       by a b c d (suc (suc (suc (suc k)))) h = absurd (omega arith)
 
-  facts-kids : Four t M p f → kidsAt t M p f ≡ true
-  unfolding kidsAt
+  facts-kids : Four t M p f → kids_at t M p f ≡ true
+  unfolding kids_at
   facts-kids w =
       simp (
         lt-ltb (cell_at t p).level M w.finer,
@@ -187,10 +187,10 @@ module _ (t : List ℤ) (M p f : ℕ) where
 -- ---- what the walk finds of cell i: a root, or one of four that end at e or before; its first child, if any, names it
 
 pub record RootAt (t : List ℤ) (M i : ℕ) : Type 0 where
-  pub parent : number t i 5 ≡ pos noCell
+  pub parent : number t i 5 ≡ pos no_cell
   pub held : in_slot t i ≡ true
-  pub polygon : (cell_at t i).poly < maxPolygons
-  pub sides : rootOk (2 ^ (M + 1)) (cell_at t i) ≡ true
+  pub polygon : (cell_at t i).poly < max_polygons
+  pub sides : root_ok (2 ^ (M + 1)) (cell_at t i) ≡ true
 
 pub record ChildAt (t : List ℤ) (M e i : ℕ) : Type 0 where
   pub parent : ℕ
@@ -208,7 +208,7 @@ pub record NamedAt (t : List ℤ) (n i : ℕ) : Type 0 where
 
 pub record Found (t : List ℤ) (n M e i : ℕ) : Type 0 where
   pub place : RootAt t M i ⊎ ChildAt t M e i
-  pub led : (number t i 6 ≡ pos noCell) ⊎ NamedAt t n i
+  pub led : (number t i 6 ≡ pos no_cell) ⊎ NamedAt t n i
 
 -- its own number says which child of whom it is
 module _ (t : List ℤ) (M e i : ℕ) (c : ChildAt t M e i) where
@@ -228,34 +228,34 @@ module _ (t : List ℤ) (n i : ℕ) where
   abbrev f : ℕ
   f = (cell_at t i).first
 
-  led-facts : ledAt t n i ≡ true → (number t i 6 ≡ pos noCell) ⊎ NamedAt t n i
-  unfolding ledAt cell_at
-  led-facts e = by (eqb f noCell) refl (ltb f n) refl
+  led-facts : led_at t n i ≡ true → (number t i 6 ≡ pos no_cell) ⊎ NamedAt t n i
+  unfolding led_at cell_at
+  led-facts e = by (eqb f no_cell) refl (ltb f n) refl
     where
-      named : ltb i f ≡ true → sameZ (number t f 5) (pos i) ≡ true → f < n → NamedAt t n i
+      named : ltb i f ≡ true → same_z (number t f 5) (pos i) ≡ true → f < n → NamedAt t n i
       named l b h =
           let a = ltb-true i f l in
           record { first = f; here = positive (number t i 6) (omega arith); below = h; back = same_true (number t f 5) (pos i) b }
 
-      by : (x : Bool) → eqb f noCell ≡ x → (y : Bool) → ltb f n ≡ y → (number t i 6 ≡ pos noCell) ⊎ NamedAt t n i
-      by true d y g = let c = eqb-true f noCell d in inl (positive (number t i 6) (omega arith) ∙ ap pos c)
+      by : (x : Bool) → eqb f no_cell ≡ x → (y : Bool) → ltb f n ≡ y → (number t i 6 ≡ pos no_cell) ⊎ NamedAt t n i
+      by true d y g = let c = eqb-true f no_cell d in inl (positive (number t i 6) (omega arith) ∙ ap pos c)
       by false d true g =
-          let b : (ltb i f && sameZ (number t f 5) (pos i)) ≡ true = rw (d, g) at e in
-          inr (named (and_left (ltb i f) (sameZ (number t f 5) (pos i)) b) (and_right (ltb i f) (sameZ (number t f 5) (pos i)) b) (ltb-true f n g))
+          let b : (ltb i f && same_z (number t f 5) (pos i)) ≡ true = rw (d, g) at e in
+          inr (named (and_left (ltb i f) (same_z (number t f 5) (pos i)) b) (and_right (ltb i f) (same_z (number t f 5) (pos i)) b) (ltb-true f n g))
       by false d false g =
-          let b : (ltb i i && sameZ (number t i 5) (pos i)) ≡ true = rw (d, g) at e in
-          let a = ltb-true i i (and_left (ltb i i) (sameZ (number t i 5) (pos i)) b) in
+          let b : (ltb i i && same_z (number t i 5) (pos i)) ≡ true = rw (d, g) at e in
+          let a = ltb-true i i (and_left (ltb i i) (same_z (number t i 5) (pos i)) b) in
           absurd (omega arith)
 
-  none-led : (cell_at t i).first ≡ noCell → ledAt t n i ≡ true
-  unfolding ledAt
-  none-led e = rw (eq-eqb (cell_at t i).first noCell e)
+  none-led : (cell_at t i).first ≡ no_cell → led_at t n i ≡ true
+  unfolding led_at
+  none-led e = rw (eq-eqb (cell_at t i).first no_cell e)
 
-  named-led : i < (cell_at t i).first → (cell_at t i).first < n → number t (cell_at t i).first 5 ≡ pos i → ledAt t n i ≡ true
-  unfolding ledAt
+  named-led : i < (cell_at t i).first → (cell_at t i).first < n → number t (cell_at t i).first 5 ≡ pos i → led_at t n i ≡ true
+  unfolding led_at
   named-led l h e =
       let f = (cell_at t i).first in
-      rw (lt-ltb f n h, lt-ltb i f l, true_same (number t f 5) (pos i) e) (either (eqb f noCell))
+      rw (lt-ltb f n h, lt-ltb i f l, true_same (number t f 5) (pos i) e) (either (eqb f no_cell))
     where
       either : (x : Bool) → (x || true) ≡ true
       either true = refl
@@ -263,21 +263,21 @@ module _ (t : List ℤ) (n i : ℕ) where
 
 -- ---- from what the walk finds to the test of every cell
 
-module _ (t : List ℤ) (n M : ℕ) (small : n ≤ maxSlots) (all : (i : ℕ) → i < n → Found t n M n i) where
+module _ (t : List ℤ) (n M : ℕ) (small : n ≤ max_slots) (all : (i : ℕ) → i < n → Found t n M n i) where
   natural-first : (i : ℕ) → i < n → non_neg (number t i 6) ≡ true
   natural-first i h =
-      ⊎_elim (λ (e : number t i 6 ≡ pos noCell). rw e refl) (λ (w : NamedAt t n i). rw w.here refl) (all i h).led
+      ⊎_elim (λ (e : number t i 6 ≡ pos no_cell). rw e refl) (λ (w : NamedAt t n i). rw w.here refl) (all i h).led
 
   -- a cell that the first child names has four
-  four-of : (i : ℕ) → i < n → (cell_at t i).first ≢ noCell → Four t M i (cell_at t i).first × ((cell_at t i).first + 4 ≤ n)
+  four-of : (i : ℕ) → i < n → (cell_at t i).first ≢ no_cell → Four t M i (cell_at t i).first × ((cell_at t i).first + 4 ≤ n)
   unfolding cell_at counted
   four-of i h o =
       ⊎_elim
-      (λ (e : number t i 6 ≡ pos noCell). absurd (o (ap counted e)))
+      (λ (e : number t i 6 ≡ pos no_cell). absurd (o (ap counted e)))
       (λ (w : NamedAt t n i).
       let same : (cell_at t i).first ≡ w.first = ap counted w.here in
       ⊎_elim
-      (λ (r : RootAt t M w.first). let e : i ≡ noCell = pos-is i noCell (sym w.back ∙ r.parent) in absurd (omega arith))
+      (λ (r : RootAt t M w.first). let e : i ≡ no_cell = pos-is i no_cell (sym w.back ∙ r.parent) in absurd (omega arith))
       (λ (c : ChildAt t M n w.first).
       let p : c.parent ≡ i = pos-is c.parent i (sym (as-kid t M n w.first c).parent ∙ w.back) in
       let f : c.first ≡ (cell_at t i).first = pos-is c.first (cell_at t i).first (sym c.four.first ∙ ap (λ (j : ℕ). number t j 6) p ∙ w.here ∙ ap pos (sym same)) in
@@ -286,7 +286,7 @@ module _ (t : List ℤ) (n M : ℕ) (small : n ≤ maxSlots) (all : (i : ℕ) �
       (all w.first w.below).place)
       (all i h).led
 
-  kids-ok : (i : ℕ) → i < n → kidsOk t n M i (cell_at t i) ≡ true
+  kids-ok : (i : ℕ) → i < n → kids_ok t n M i (cell_at t i) ≡ true
   kids-ok i h =
       facts-split t n M small i h (λ o.
       let w = four-of i h o in
@@ -298,38 +298,38 @@ module _ (t : List ℤ) (n M : ℕ) (small : n ≤ maxSlots) (all : (i : ℕ) �
         kid = λ q.
             (let m = num-below q in
             but-kid t n M small i ((cell_at t i).first + num q) q h (let b = w.1 in omega arith)
-            (subst (λ (r : Quad). But (cell_at t ((cell_at t i).first + num q)) (childOf i r (cell_at t i))) (quad-num q)
+            (subst (λ (r : Quad). But (cell_at t ((cell_at t i).first + num q)) (child_of i r (cell_at t i))) (quad-num q)
             (kid-read t i ((cell_at t i).first + num q) (num q) (four.kids (num q) m))));
       })
 
-  place_ok : (i : ℕ) → i < n → placeOk t n (2 ^ (M + 1)) i (cell_at t i) ≡ true
-  unfolding placeOk bornOk cell_at counted
+  place_ok : (i : ℕ) → i < n → place_ok t n (2 ^ (M + 1)) i (cell_at t i) ≡ true
+  unfolding place_ok born_ok cell_at counted
   place_ok i h =
       ⊎_elim
-      (λ (r : RootAt t M i). rw (eq-eqb (cell_at t i).parent noCell (ap counted r.parent)) r.sides)
+      (λ (r : RootAt t M i). rw (eq-eqb (cell_at t i).parent no_cell (ap counted r.parent)) r.sides)
       (λ (c : ChildAt t M n i).
       let p : (cell_at t i).parent ≡ c.parent = ap counted (as-kid t M n i c).parent in
       let f : (cell_at t c.parent).first ≡ c.first = ap counted c.four.first in
       let a = c.four.above in
       let l = c.low in
       let g = c.high in
-      rw (p, f, ne_eqb c.parent noCell (λ e. omega arith), lt-ltb c.parent n (omega arith), le-leb c.first i l, lt-ltb i (c.first + 4) g))
+      rw (p, f, ne_eqb c.parent no_cell (λ e. omega arith), lt-ltb c.parent n (omega arith), le-leb c.first i l, lt-ltb i (c.first + 4) g))
       (all i h).place
 
   -- the rest of a cell's test; a child's comes from its parent's
   record Own (i : ℕ) : Type 0 where
     pub held : in_slot t i ≡ true
     pub level : (cell_at t i).level ≤ M
-    pub polygon : (cell_at t i).poly < maxPolygons
+    pub polygon : (cell_at t i).poly < max_polygons
 
   root-own : (i : ℕ) → RootAt t M i → Own i
-  unfolding rootOk
+  unfolding root_ok
   root-own i r =
       let c = cell_at t i in
       let s = 2 ^ (M + 1) in
       let z = eqb c.level 0 in
-      let x = sideOk s c.x0 c.x1 in
-      let y = sideOk s c.y0 c.y1 in
+      let x = side_ok s c.x0 c.x1 in
+      let y = side_ok s c.y0 c.y1 in
       let l = eqb-true c.level 0 (and_left z x (and_left (z && x) y r.sides)) in
       record { held = r.held; level = omega arith; polygon = r.polygon }
 
@@ -355,16 +355,16 @@ module _ (t : List ℤ) (n M : ℕ) (small : n ≤ maxSlots) (all : (i : ℕ) �
       child-own i l c (own b c.parent (omega arith) (omega arith)))
       (all i l).place
 
-  pub found-cells : allTo (cellOk t n M) n ≡ true
+  pub found-cells : all_to (cell_ok t n M) n ≡ true
   found-cells =
-      all_of (cellOk t n M) n (λ i h.
+      all_of (cell_ok t n M) n (λ i h.
       let w = own (suc i) i (omega arith) h in
       facts-cell t n M i (record { held = w.held; level = w.level; polygon = w.polygon; place = place_ok i h; kids = kids-ok i h }))
 
 -- ---- where every cell passes its test the walk goes on
 
-module _ (t : List ℤ) (n M : ℕ) (small : n ≤ maxSlots) (all : (i : ℕ) → i < n → CellFacts t n M i) where
-  split-four : (p : ℕ) → p < n → (cell_at t p).first ≢ noCell → Four t M p (cell_at t p).first × ((cell_at t p).first + 4 ≤ n)
+module _ (t : List ℤ) (n M : ℕ) (small : n ≤ max_slots) (all : (i : ℕ) → i < n → CellFacts t n M i) where
+  split-four : (p : ℕ) → p < n → (cell_at t p).first ≢ no_cell → Four t M p (cell_at t p).first × ((cell_at t p).first + 4 ≤ n)
   split-four p h o =
       let s = split-facts t n M small p h (all p h).kids o in
       let b : (cell_at t p).first + 4 ≤ n = rw length-table at s.below in (
@@ -375,41 +375,41 @@ module _ (t : List ℤ) (n M : ℕ) (small : n ≤ maxSlots) (all : (i : ℕ) �
           kids = λ k l.
               (let g : (cell_at t p).first + k < n = omega arith in
               read-kid t p ((cell_at t p).first + k) k (all p h).held (all ((cell_at t p).first + k) g).held
-              (kid-but t n M small p ((cell_at t p).first + k) (quadAt k) h g
-              (subst (λ (m : ℕ). Kid (table t n) p (quadAt k) ((cell_at t p).first + m)) (num-quad k l) (s.kid (quadAt k)))));
+              (kid-but t n M small p ((cell_at t p).first + k) (quad_at k) h g
+              (subst (λ (m : ℕ). Kid (table t n) p (quad_at k) ((cell_at t p).first + m)) (num-quad k l) (s.kid (quad_at k)))));
         },
         b,
       )
 
-  led : (i : ℕ) → i < n → ledAt t n i ≡ true
-  led i h = by (eqb (cell_at t i).first noCell) refl
+  led : (i : ℕ) → i < n → led_at t n i ≡ true
+  led i h = by (eqb (cell_at t i).first no_cell) refl
     where
-      by : (x : Bool) → eqb (cell_at t i).first noCell ≡ x → ledAt t n i ≡ true
-      by true e = none-led t n i (eqb-true (cell_at t i).first noCell e)
+      by : (x : Bool) → eqb (cell_at t i).first no_cell ≡ x → led_at t n i ≡ true
+      by true e = none-led t n i (eqb-true (cell_at t i).first no_cell e)
       by false e =
-          let w = split-four i h (eqb-false (cell_at t i).first noCell e) in
+          let w = split-four i h (eqb-false (cell_at t i).first no_cell e) in
           let b = w.1 in
           named-led t n i w.0.above (omega arith)
           (subst (λ (j : ℕ). number t j 5 ≡ pos i) (add-zero (cell_at t i).first) (w.0.kids 0 (omega arith)).parent)
 
-  root-here : (i : ℕ) → i < n → (cell_at t i).parent ≡ noCell → rootAt t n (2 ^ (M + 1)) i ≡ true
-  unfolding rootAt placeOk
+  root-here : (i : ℕ) → i < n → (cell_at t i).parent ≡ no_cell → root_at t n (2 ^ (M + 1)) i ≡ true
+  unfolding root_at place_ok
   root-here i h e =
       let c = all i h in
-      let s : rootOk (2 ^ (M + 1)) (cell_at t i) ≡ true = rw (eq-eqb (cell_at t i).parent noCell e) at c.place in
-      rw (c.held, lt-ltb (cell_at t i).poly maxPolygons c.polygon, s, led i h)
+      let s : root_ok (2 ^ (M + 1)) (cell_at t i) ≡ true = rw (eq-eqb (cell_at t i).parent no_cell e) at c.place in
+      rw (c.held, lt-ltb (cell_at t i).poly max_polygons c.polygon, s, led i h)
 
-  module _ (i : ℕ) (h : i < n) (o : (cell_at t i).parent ≢ noCell) (walked : (j : ℕ) → j < i → Found t n M i j) where
+  module _ (i : ℕ) (h : i < n) (o : (cell_at t i).parent ≢ no_cell) (walked : (j : ℕ) → j < i → Found t n M i j) where
     abbrev p : ℕ
     p = (cell_at t i).parent
 
     born : (p < n) × ((cell_at t p).first ≤ i) × (i < (cell_at t p).first + 4)
-    unfolding placeOk bornOk
+    unfolding place_ok born_ok
     born =
         let x = ltb p n in
         let y = leb (cell_at t p).first i in
         let z = ltb i ((cell_at t p).first + 4) in
-        let e : (x && y && z) ≡ true = rw (ne_eqb p noCell o) at (all i h).place in
+        let e : (x && y && z) ≡ true = rw (ne_eqb p no_cell o) at (all i h).place in
         let d = and_left (x && y) z e in
         (ltb-true p n (and_left x y d), leb-true (cell_at t p).first i (and_right x y d), ltb-true i ((cell_at t p).first + 4) (and_right (x && y) z e))
 
@@ -430,7 +430,7 @@ module _ (t : List ℤ) (n M : ℕ) (small : n ≤ maxSlots) (all : (i : ℕ) �
         let high = b.2 in
         by_cases (dec_lt f i)
         (λ l. ⊎_elim
-        (λ (r : RootAt t M f). absurd (o (pos-is p noCell (sym here ∙ r.parent))))
+        (λ (r : RootAt t M f). absurd (o (pos-is p no_cell (sym here ∙ r.parent))))
         (λ (c : ChildAt t M i f).
         let q : c.parent ≡ p = pos-is c.parent p (sym (as-kid t M i f c).parent ∙ here) in
         let e : c.first ≡ f = pos-is c.first f (sym c.four.first ∙ ap (λ (j : ℕ). number t j 6) q ∙ w.0.first) in
@@ -439,8 +439,8 @@ module _ (t : List ℤ) (n M : ℕ) (small : n ≤ maxSlots) (all : (i : ℕ) �
         (walked f l).place)
         (λ l. omega arith)
 
-    four-here : fourAt t n M i p ≡ true
-    unfolding fourAt
+    four-here : four_at t n M i p ≡ true
+    unfolding four_at
     four-here =
         let w = its-four in
         let e = begins in
@@ -460,14 +460,14 @@ module _ (t : List ℤ) (n M : ℕ) (small : n ≤ maxSlots) (all : (i : ℕ) �
 
   pub goes_on : (i : ℕ) → i < n → ((j : ℕ) → j < i → Found t n M i j) → past_at t n M (2 ^ (M + 1)) i ≢ 0
   unfolding past_at
-  goes_on i h walked z = by (eqb (cell_at t i).parent noCell) refl
+  goes_on i h walked z = by (eqb (cell_at t i).parent no_cell) refl
     where
-      by : (x : Bool) → eqb (cell_at t i).parent noCell ≡ x → ⊥
+      by : (x : Bool) → eqb (cell_at t i).parent no_cell ≡ x → ⊥
       by true d =
-          let e : i + 1 ≡ 0 = rw (d, root-here i h (eqb-true (cell_at t i).parent noCell d)) at z in
+          let e : i + 1 ≡ 0 = rw (d, root-here i h (eqb-true (cell_at t i).parent no_cell d)) at z in
           omega arith
       by false d =
-          let e : i + 4 ≡ 0 = rw (d, four-here i h (eqb-false (cell_at t i).parent noCell d) walked) at z in
+          let e : i + 4 ≡ 0 = rw (d, four-here i h (eqb-false (cell_at t i).parent no_cell d) walked) at z in
           omega arith
 
 -- ---- one step of the walk
@@ -486,13 +486,13 @@ module _ (t : List ℤ) (n M i : ℕ) (h : i < n) (walked : (j : ℕ) → j < i 
         led = w.led;
       }
 
-  root-next : rootAt t n (2 ^ (M + 1)) i ≡ true → (cell_at t i).parent ≡ noCell → Next t n M i (i + 1)
-  unfolding rootAt cell_at
+  root-next : root_at t n (2 ^ (M + 1)) i ≡ true → (cell_at t i).parent ≡ no_cell → Next t n M i (i + 1)
+  unfolding root_at cell_at
   root-next e p =
       let b0 = in_slot t i in
-      let b1 = ltb (cell_at t i).poly maxPolygons in
-      let b2 = rootOk (2 ^ (M + 1)) (cell_at t i) in
-      let b3 = ledAt t n i in
+      let b1 = ltb (cell_at t i).poly max_polygons in
+      let b2 = root_ok (2 ^ (M + 1)) (cell_at t i) in
+      let b3 = led_at t n i in
       let e2 = and_left (b0 && (b1 && b2)) b3 e in
       let e1 = and_right b0 (b1 && b2) e2 in
       let root : Found t n M (i + 1) i =
@@ -500,7 +500,7 @@ module _ (t : List ℤ) (n M i : ℕ) (h : i < n) (walked : (j : ℕ) → j < i 
         place = inl (record {
           parent = positive (number t i 5) (omega arith) ∙ ap pos p;
           held = and_left b0 (b1 && b2) e2;
-          polygon = ltb-true (cell_at t i).poly maxPolygons (and_left b1 b2 e1);
+          polygon = ltb-true (cell_at t i).poly max_polygons (and_left b1 b2 e1);
           sides = and_right b1 b2 e1;
         });
         led = led-facts t n i (and_right (b0 && (b1 && b2)) b3 e);
@@ -514,18 +514,18 @@ module _ (t : List ℤ) (n M i : ℕ) (h : i < n) (walked : (j : ℕ) → j < i 
             (λ l. subst (Found t n M (i + 1)) (let d : i ≡ j = omega arith in d) root);
       }
 
-  four-next : fourAt t n M i (cell_at t i).parent ≡ true → Next t n M i (i + 4)
-  unfolding fourAt
+  four-next : four_at t n M i (cell_at t i).parent ≡ true → Next t n M i (i + 4)
+  unfolding four_at
   four-next e =
       let p = (cell_at t i).parent in
       let b0 = leb (i + 4) n in
       let b1 = ltb p i in
-      let s = sameZ (number t p 6) (pos i) in
-      let k = kidsAt t M p i in
-      let l0 = ledAt t n i in
-      let l1 = ledAt t n (i + 1) in
-      let l2 = ledAt t n (i + 2) in
-      let l3 = ledAt t n (i + 3) in
+      let s = same_z (number t p 6) (pos i) in
+      let k = kids_at t M p i in
+      let l0 = led_at t n i in
+      let l1 = led_at t n (i + 1) in
+      let l2 = led_at t n (i + 2) in
+      let l3 = led_at t n (i + 3) in
       let front = and_left (b0 && b1 && (s && k)) (l0 && l1 && l2 && l3) e in
       let same = and_right (b0 && b1) (s && k) front in
       let low = and_left (b0 && b1) (s && k) front in
@@ -551,12 +551,12 @@ module _ (t : List ℤ) (n M i : ℕ) (h : i < n) (walked : (j : ℕ) → j < i 
             let d : i + (j - i) ≡ j = omega arith in
             record {
               place = inr (record { parent = p; first = i; low = omega arith; high = g; end = omega arith; four = four });
-              led = led-facts t n j (subst (λ (m : ℕ). ledAt t n m ≡ true) d (leds (j - i) (omega arith)));
+              led = led-facts t n j (subst (λ (m : ℕ). led_at t n m ≡ true) d (leds (j - i) (omega arith)));
             });
       }
     where
-      each : ledAt t n i ≡ true → ledAt t n (i + 1) ≡ true → ledAt t n (i + 2) ≡ true → ledAt t n (i + 3) ≡ true → (k : ℕ) → k < 4 → ledAt t n (i + k) ≡ true
-      each a b c d zero g = subst (λ (m : ℕ). ledAt t n m ≡ true) (sym (add-zero i)) a
+      each : led_at t n i ≡ true → led_at t n (i + 1) ≡ true → led_at t n (i + 2) ≡ true → led_at t n (i + 3) ≡ true → (k : ℕ) → k < 4 → led_at t n (i + k) ≡ true
+      each a b c d zero g = subst (λ (m : ℕ). led_at t n m ≡ true) (sym (add-zero i)) a
       each a b c d (suc zero) g = b
       each a b c d (suc (suc zero)) g = c
       each a b c d (suc (suc (suc zero))) g = d
@@ -564,13 +564,13 @@ module _ (t : List ℤ) (n M i : ℕ) (h : i < n) (walked : (j : ℕ) → j < i 
 
   pub past_next : (m : ℕ) → past_at t n M (2 ^ (M + 1)) i ≡ m → m ≢ 0 → Next t n M i m
   unfolding past_at
-  past_next m e o = by (eqb p noCell) refl (rootAt t n (2 ^ (M + 1)) i) refl (fourAt t n M i p) refl
+  past_next m e o = by (eqb p no_cell) refl (root_at t n (2 ^ (M + 1)) i) refl (four_at t n M i p) refl
     where
       p : ℕ
       p = (cell_at t i).parent
 
-      by : (x : Bool) → eqb p noCell ≡ x → (y : Bool) → rootAt t n (2 ^ (M + 1)) i ≡ y → (z : Bool) → fourAt t n M i p ≡ z → Next t n M i m
-      by true d true r z f = subst (Next t n M i) (rw (d, r) at e) (root-next r (eqb-true p noCell d))
+      by : (x : Bool) → eqb p no_cell ≡ x → (y : Bool) → root_at t n (2 ^ (M + 1)) i ≡ y → (z : Bool) → four_at t n M i p ≡ z → Next t n M i m
+      by true d true r z f = subst (Next t n M i) (rw (d, r) at e) (root-next r (eqb-true p no_cell d))
       by true d false r z f = absurd (o (sym (rw (d, r) at e)))
       by false d y r true f = subst (Next t n M i) (rw (d, f) at e) (four-next f)
       by false d y r false f = absurd (o (sym (rw (d, f) at e)))

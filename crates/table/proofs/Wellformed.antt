@@ -1,4 +1,4 @@
--- The test of well-formedness says yes exactly if document 01's definition holds. Assumes nothing.
+-- The test of well-formedness says yes exactly if the rules' definition holds. Assumes nothing.
 use Prim.Native.Nat.{ℕ, zero, suc, ◌+◌, ◌*◌, ◌-◌, ◌/◌, ◌%◌, ◌^◌, ◌<◌, ◌≤◌}
 use mathlib.Core.Path.{◌≡◌, refl, sym, ap, subst, ◌∙◌}
 use mathlib.Core.Bool.{Bool, true, false, ◌&&◌, cond}
@@ -12,13 +12,13 @@ use lib.Dec.{ltb, leb, eqb}
 use lib.IntN.{ℤ, pos, negsuc, nat_abs}
 use lib.ListN.{length, get_or}
 use borrow.Author.Tests.{ltb-true, leb-true, eqb-true, eqb-false, lt-ltb, le-leb, eq-eqb, ne_eqb}
-use Rattle.refusals.specs.Limits.{maxSlots}
-use Rattle.cell.specs.Boxes.{Box, Quad, sw, se, nw, ne, num, quadAt, quadrant}
+use Rattle.refusals.specs.Limits.{max_slots}
+use Rattle.cell.specs.Boxes.{Box, Quad, sw, se, nw, ne, num, quad_at, quadrant}
 use Rattle.cell.specs.declared.Cell as Held
-use Rattle.cell.specs.Cells.{noCell, boxOf, childOf}
+use Rattle.cell.specs.Cells.{no_cell, box_of, child_of}
 use Rattle.table.specs.Slots.{cell_at}
-use Rattle.table.specs.Mesh.{Cell, at, table, opt, optIf, meshCell}
-use Rattle.table.specs.Formed.{Kid, Split, Born, Root, Formed, WellFormed, zeroAt, restZero, sideOk, rootOk, bornOk, sameBut, kidOk, kidsOk, placeOk, wellFormed}
+use Rattle.table.specs.Mesh.{Cell, at, table, opt, opt_if, mesh_cell}
+use Rattle.table.specs.Formed.{Kid, Split, Born, Root, Formed, WellFormed, zero_at, rest_zero, side_ok, root_ok, born_ok, same_but, kid_ok, kids_ok, place_ok, well_formed}
 use Rattle.table.proofs.All.{and_left, and_right, and_both, all-at, all_of}
 use Rattle.table.proofs.Shape.{of-shape, formed-shape}
 use Rattle.table.proofs.Facts.{CellFacts, formed-cell, formed-rest, parts-formed}
@@ -27,33 +27,33 @@ use Rattle.table.proofs.Meshes.{not_some, some_is, num-below, kids-in, root_in}
 
 -- ---- small laws
 
-pub opt-some : (v : ℕ) → v ≢ noCell → opt v ≡ some v
-opt-some v h = ap (λ (b : Bool). optIf b v) (ne_eqb v noCell h)
+pub opt-some : (v : ℕ) → v ≢ no_cell → opt v ≡ some v
+opt-some v h = ap (λ (b : Bool). opt_if b v) (ne_eqb v no_cell h)
 
-pub opt_none : (v : ℕ) → v ≡ noCell → opt v ≡ none
-opt_none v h = ap (λ (b : Bool). optIf b v) (eq-eqb v noCell h)
+pub opt_none : (v : ℕ) → v ≡ no_cell → opt v ≡ none
+opt_none v h = ap (λ (b : Bool). opt_if b v) (eq-eqb v no_cell h)
 
-pub some-opt : (v f : ℕ) → opt v ≡ some f → (v ≡ f) × (v ≢ noCell)
-some-opt v f e = by (eqb v noCell) refl
+pub some-opt : (v f : ℕ) → opt v ≡ some f → (v ≡ f) × (v ≢ no_cell)
+some-opt v f e = by (eqb v no_cell) refl
   where
-    by : (b : Bool) → eqb v noCell ≡ b → (v ≡ f) × (v ≢ noCell)
-    by true d = not_some (opt v) f (opt_none v (eqb-true v noCell d)) e
-    by false d = let n = eqb-false v noCell d in (some_is (opt v) v f (opt-some v n) e, n)
+    by : (b : Bool) → eqb v no_cell ≡ b → (v ≡ f) × (v ≢ no_cell)
+    by true d = not_some (opt v) f (opt_none v (eqb-true v no_cell d)) e
+    by false d = let n = eqb-false v no_cell d in (some_is (opt v) v f (opt-some v n) e, n)
 
-pub none-opt : (v : ℕ) → opt v ≡ none → v ≡ noCell
-none-opt v e = by (eqb v noCell) refl
+pub none-opt : (v : ℕ) → opt v ≡ none → v ≡ no_cell
+none-opt v e = by (eqb v no_cell) refl
   where
-    by : (b : Bool) → eqb v noCell ≡ b → v ≡ noCell
-    by true d = eqb-true v noCell d
-    by false d = not_some (opt v) v e (opt-some v (eqb-false v noCell d))
+    by : (b : Bool) → eqb v no_cell ≡ b → v ≡ no_cell
+    by true d = eqb-true v no_cell d
+    by false d = not_some (opt v) v e (opt-some v (eqb-false v no_cell d))
 
-pub num-quad : (k : ℕ) → k < 4 → num (quadAt k) ≡ k
+pub num-quad : (k : ℕ) → k < 4 → num (quad_at k) ≡ k
 num-quad zero h = refl
 num-quad (suc zero) h = refl
 num-quad (suc (suc zero)) h = refl
 num-quad (suc (suc (suc k))) h = omega arith
 
-pub quad-num : (q : Quad) → quadAt (num q) ≡ q
+pub quad-num : (q : Quad) → quad_at (num q) ≡ q
 quad-num sw = refl
 quad-num se = refl
 quad-num nw = refl
@@ -66,8 +66,8 @@ no-magnitude (negsuc n) e = absurd (omega arith)
 -- ---- a root's sides
 
 module _ (step a b : ℕ) where
-  pub side-facts : sideOk step a b ≡ true → (m : ℕ) × (b ≡ a + suc m * step)
-  unfolding sideOk
+  pub side-facts : side_ok step a b ≡ true → (m : ℕ) × (b ≡ a + suc m * step)
+  unfolding side_ok
   side-facts e =
       let l = ltb-true a b (and_left (ltb a b) (eqb ((b - a) % step) 0) e) in
       let r = eqb-true ((b - a) % step) 0 (and_right (ltb a b) (eqb ((b - a) % step) 0) e) in
@@ -77,8 +77,8 @@ module _ (step a b : ℕ) where
       by l r zero d = absurd (omega (arith, div-add-mod' (b - a) step, ap (λ (x : ℕ). x * step) d, zero-mul step))
       by l r (suc m) d = (m, omega (arith, div-add-mod' (b - a) step, ap (λ (x : ℕ). x * step) d))
 
-  pub facts-side : 0 < step → (m : ℕ) × (b ≡ a + suc m * step) → sideOk step a b ≡ true
-  unfolding sideOk
+  pub facts-side : 0 < step → (m : ℕ) × (b ≡ a + suc m * step) → side_ok step a b ≡ true
+  unfolding side_ok
   facts-side h (m, e) =
       let d : b - a ≡ suc m * step = omega arith in
       and_both (ltb a b) (eqb ((b - a) % step) 0)
@@ -86,13 +86,13 @@ module _ (step a b : ℕ) where
       (eq-eqb ((b - a) % step) 0 (ap (λ (x : ℕ). x % step) d ∙ mul-mod_left (suc m) step))
 
 module _ (M : ℕ) (c : Held.Cell) where
-  pub root-facts : rootOk (2 ^ (M + 1)) c ≡ true → Root M (meshCell c)
-  unfolding rootOk
+  pub root-facts : root_ok (2 ^ (M + 1)) c ≡ true → Root M (mesh_cell c)
+  unfolding root_ok
   root-facts e =
       let s = 2 ^ (M + 1) in
       let z = eqb c.level 0 in
-      let x = sideOk s c.x0 c.x1 in
-      let y = sideOk s c.y0 c.y1 in
+      let x = side_ok s c.x0 c.x1 in
+      let y = side_ok s c.y0 c.y1 in
       let a = and_left (z && x) y e in
       record {
         level = eqb-true c.level 0 (and_left z x a);
@@ -100,8 +100,8 @@ module _ (M : ℕ) (c : Held.Cell) where
         high = side-facts s c.y0 c.y1 (and_right (z && x) y e);
       }
 
-  pub facts-root : Root M (meshCell c) → rootOk (2 ^ (M + 1)) c ≡ true
-  unfolding rootOk
+  pub facts-root : Root M (mesh_cell c) → root_ok (2 ^ (M + 1)) c ≡ true
+  unfolding root_ok
   facts-root r =
       let s = 2 ^ (M + 1) in
       let p = one-le-pow (M + 1) 2 (omega arith) in
@@ -119,8 +119,8 @@ pub record But (a b : Held.Cell) : Type 0 where
   pub poly : a.poly ≡ b.poly
 
 module _ (a b : Held.Cell) where
-  pub but-facts : sameBut a b ≡ true → But a b
-  unfolding sameBut
+  pub but-facts : same_but a b ≡ true → But a b
+  unfolding same_but
   but-facts e =
       let e1 = eqb a.x0 b.x0 in
       let e2 = eqb a.y0 b.y0 in
@@ -144,8 +144,8 @@ module _ (a b : Held.Cell) where
         poly = eqb-true a.poly b.poly (and_right (e1 && e2 && e3 && e4 && e5 && e6) e7 e);
       }
 
-  pub facts-but : But a b → sameBut a b ≡ true
-  unfolding sameBut
+  pub facts-but : But a b → same_but a b ≡ true
+  unfolding same_but
   facts-but f =
       simp (
         eq-eqb a.x0 b.x0 f.x0,
@@ -158,16 +158,16 @@ module _ (a b : Held.Cell) where
       )
 
 -- ---- the tests of one cell of the table
-module _ (t : List ℤ) (n M : ℕ) (small : n ≤ maxSlots) where
+module _ (t : List ℤ) (n M : ℕ) (small : n ≤ max_slots) where
   -- cell j as the child of cell i in a quadrant
   module _ (i j : ℕ) (q : Quad) (hi : i < n) (hj : j < n) where
-    here : at (table t n) i ≡ meshCell (cell_at t i)
+    here : at (table t n) i ≡ mesh_cell (cell_at t i)
     here = at_table t n i hi
 
-    there : at (table t n) j ≡ meshCell (cell_at t j)
+    there : at (table t n) j ≡ mesh_cell (cell_at t j)
     there = at_table t n j hj
 
-    pub but-kid : But (cell_at t j) (childOf i q (cell_at t i)) → Kid (table t n) i q j
+    pub but-kid : But (cell_at t j) (child_of i q (cell_at t i)) → Kid (table t n) i q j
     but-kid b =
         record {
           box = ap (λ (c : Cell). c.box) there ∙ (λ x. record { x0 = b.x0 x; y0 = b.y0 x; x1 = b.x1 x; y1 = b.y1 x }) ∙ ap (λ (c : Cell). quadrant c.box q) (sym here);
@@ -176,9 +176,9 @@ module _ (t : List ℤ) (n M : ℕ) (small : n ≤ maxSlots) where
           polygon = ap (λ (c : Cell). c.polygon) there ∙ b.poly ∙ ap (λ (c : Cell). c.polygon) (sym here);
         }
 
-    pub kid-but : Kid (table t n) i q j → But (cell_at t j) (childOf i q (cell_at t i))
+    pub kid-but : Kid (table t n) i q j → But (cell_at t j) (child_of i q (cell_at t i))
     kid-but k =
-        let e : boxOf (cell_at t j) ≡ quadrant (boxOf (cell_at t i)) q = sym (ap (λ (c : Cell). c.box) there) ∙ k.box ∙ ap (λ (c : Cell). quadrant c.box q) here in
+        let e : box_of (cell_at t j) ≡ quadrant (box_of (cell_at t i)) q = sym (ap (λ (c : Cell). c.box) there) ∙ k.box ∙ ap (λ (c : Cell). quadrant c.box q) here in
         record {
           x0 = ap (λ (b : Box). b.x0) e;
           y0 = ap (λ (b : Box). b.y0) e;
@@ -190,15 +190,15 @@ module _ (t : List ℤ) (n M : ℕ) (small : n ≤ maxSlots) where
         }
 
   module _ (i : ℕ) (hi : i < n) where
-    this : at (table t n) i ≡ meshCell (cell_at t i)
+    this : at (table t n) i ≡ mesh_cell (cell_at t i)
     this = at_table t n i hi
 
     abbrev first : ℕ
     first = (cell_at t i).first
 
-    split_parts : ltb i first ≡ true → leb (first + 4) n ≡ true → ltb (cell_at t i).level M ≡ true → ((q : Quad) → kidOk t i (cell_at t i) (num q) ≡ true)
+    split_parts : ltb i first ≡ true → leb (first + 4) n ≡ true → ltb (cell_at t i).level M ≡ true → ((q : Quad) → kid_ok t i (cell_at t i) (num q) ≡ true)
         → Split M (table t n) i first
-    unfolding kidOk
+    unfolding kid_ok
     split_parts a b l k =
         let below = leb-true (first + 4) n b in
         record {
@@ -207,46 +207,46 @@ module _ (t : List ℤ) (n M : ℕ) (small : n ≤ maxSlots) where
           finer = rw this (ltb-true (cell_at t i).level M l);
           kid = λ q.
               but-kid i (first + num q) q hi (let m = num-below q in omega arith)
-              (subst (λ (r : Quad). But (cell_at t (first + num q)) (childOf i r (cell_at t i))) (quad-num q)
-              (but-facts (cell_at t (first + num q)) (childOf i (quadAt (num q)) (cell_at t i)) (k q)));
+              (subst (λ (r : Quad). But (cell_at t (first + num q)) (child_of i r (cell_at t i))) (quad-num q)
+              (but-facts (cell_at t (first + num q)) (child_of i (quad_at (num q)) (cell_at t i)) (k q)));
         }
 
-    pub split-facts : kidsOk t n M i (cell_at t i) ≡ true → first ≢ noCell → Split M (table t n) i first
-    unfolding kidsOk
+    pub split-facts : kids_ok t n M i (cell_at t i) ≡ true → first ≢ no_cell → Split M (table t n) i first
+    unfolding kids_ok
     split-facts e o =
         let a = ltb i first in
         let b = leb (first + 4) n in
         let l = ltb (cell_at t i).level M in
-        let k0 = kidOk t i (cell_at t i) 0 in
-        let k1 = kidOk t i (cell_at t i) 1 in
-        let k2 = kidOk t i (cell_at t i) 2 in
-        let k3 = kidOk t i (cell_at t i) 3 in
-        let e7 : (a && b && l && k0 && k1 && k2 && k3) ≡ true = rw (ne_eqb first noCell o) at e in
+        let k0 = kid_ok t i (cell_at t i) 0 in
+        let k1 = kid_ok t i (cell_at t i) 1 in
+        let k2 = kid_ok t i (cell_at t i) 2 in
+        let k3 = kid_ok t i (cell_at t i) 3 in
+        let e7 : (a && b && l && k0 && k1 && k2 && k3) ≡ true = rw (ne_eqb first no_cell o) at e in
         let e6 = and_left (a && b && l && k0 && k1 && k2) k3 e7 in
         let e5 = and_left (a && b && l && k0 && k1) k2 e6 in
         let e4 = and_left (a && b && l && k0) k1 e5 in
         let e3 = and_left (a && b && l) k0 e4 in
         let e2 = and_left (a && b) l e3 in
-        let kid : (q : Quad) → kidOk t i (cell_at t i) (num q) ≡ true = elim [ sw ↦ and_right (a && b && l) k0 e4 | se ↦ and_right (a && b && l && k0) k1 e5 | nw ↦ and_right (a && b && l && k0 && k1) k2 e6 | ne ↦ and_right (a && b && l && k0 && k1 && k2) k3 e7 ] in
+        let kid : (q : Quad) → kid_ok t i (cell_at t i) (num q) ≡ true = elim [ sw ↦ and_right (a && b && l) k0 e4 | se ↦ and_right (a && b && l && k0) k1 e5 | nw ↦ and_right (a && b && l && k0 && k1) k2 e6 | ne ↦ and_right (a && b && l && k0 && k1 && k2) k3 e7 ] in
         split_parts (and_left a b e2) (and_right a b e2) (and_right (a && b) l e3) kid
 
-    facts-kid : Split M (table t n) i first → (k : ℕ) → k < 4 → kidOk t i (cell_at t i) k ≡ true
-    unfolding kidOk
+    facts-kid : Split M (table t n) i first → (k : ℕ) → k < 4 → kid_ok t i (cell_at t i) k ≡ true
+    unfolding kid_ok
     facts-kid s k h =
         let b = rw length-table at s.below in
         let e = num-quad k h in
-        facts-but (cell_at t (first + k)) (childOf i (quadAt k) (cell_at t i))
-        (kid-but i (first + k) (quadAt k) hi (omega arith) (subst (λ (m : ℕ). Kid (table t n) i (quadAt k) (first + m)) e (s.kid (quadAt k))))
+        facts-but (cell_at t (first + k)) (child_of i (quad_at k) (cell_at t i))
+        (kid-but i (first + k) (quad_at k) hi (omega arith) (subst (λ (m : ℕ). Kid (table t n) i (quad_at k) (first + m)) e (s.kid (quad_at k))))
 
-    pub facts-split : (first ≢ noCell → Split M (table t n) i first) → kidsOk t n M i (cell_at t i) ≡ true
-    unfolding kidsOk
-    facts-split f = by (eqb first noCell) refl
+    pub facts-split : (first ≢ no_cell → Split M (table t n) i first) → kids_ok t n M i (cell_at t i) ≡ true
+    unfolding kids_ok
+    facts-split f = by (eqb first no_cell) refl
       where
-        by : (b : Bool) → eqb first noCell ≡ b
-            → cond b true (ltb i first && leb (first + 4) n && ltb (cell_at t i).level M && kidOk t i (cell_at t i) 0 && kidOk t i (cell_at t i) 1 && kidOk t i (cell_at t i) 2 && kidOk t i (cell_at t i) 3) ≡ true
+        by : (b : Bool) → eqb first no_cell ≡ b
+            → cond b true (ltb i first && leb (first + 4) n && ltb (cell_at t i).level M && kid_ok t i (cell_at t i) 0 && kid_ok t i (cell_at t i) 1 && kid_ok t i (cell_at t i) 2 && kid_ok t i (cell_at t i) 3) ≡ true
         by true d = refl
         by false d =
-            let s = f (eqb-false first noCell d) in
+            let s = f (eqb-false first no_cell d) in
             simp (
               lt-ltb i first s.above,
               le-leb (first + 4) n (rw length-table at s.below),
@@ -260,8 +260,8 @@ module _ (t : List ℤ) (n M : ℕ) (small : n ≤ maxSlots) where
     abbrev parent : ℕ
     parent = (cell_at t i).parent
 
-    pub born-facts : bornOk t n i parent ≡ true → Born (table t n) i parent
-    unfolding bornOk
+    pub born-facts : born_ok t n i parent ≡ true → Born (table t n) i parent
+    unfolding born_ok
     born-facts e =
         let x = ltb parent n in
         let y = leb (cell_at t parent).first i in
@@ -272,13 +272,13 @@ module _ (t : List ℤ) (n M : ℕ) (small : n ≤ maxSlots) where
         let high = ltb-true i ((cell_at t parent).first + 4) (and_right (x && y) z e) in
         record {
           first = (cell_at t parent).first;
-          place = quadAt (i - (cell_at t parent).first);
+          place = quad_at (i - (cell_at t parent).first);
           split = ap (λ (c : Cell). c.kids) (at_table t n parent inside) ∙ opt-some (cell_at t parent).first (omega arith);
           here = omega (arith, num-quad (i - (cell_at t parent).first) (omega arith));
         }
 
-    pub facts-born : Born (table t n) i parent → bornOk t n i parent ≡ true
-    unfolding bornOk
+    pub facts-born : Born (table t n) i parent → born_ok t n i parent ≡ true
+    unfolding born_ok
     facts-born b =
         let inside : parent < n = rw length-table at (kids-in (table t n) parent b.first b.split) in
         let e = (some-opt (cell_at t parent).first b.first (sym (ap (λ (c : Cell). c.kids) (at_table t n parent inside)) ∙ b.split)).0 in
@@ -286,38 +286,38 @@ module _ (t : List ℤ) (n M : ℕ) (small : n ≤ maxSlots) where
         let h = b.here in
         simp (lt-ltb parent n inside, le-leb (cell_at t parent).first i (omega arith), lt-ltb i ((cell_at t parent).first + 4) (omega arith))
 
-    pub place-root : placeOk t n (2 ^ (M + 1)) i (cell_at t i) ≡ true → parent ≡ noCell → Root M (meshCell (cell_at t i))
-    unfolding placeOk
-    place-root e d = root-facts M (cell_at t i) (rw (eq-eqb parent noCell d) at e)
+    pub place-root : place_ok t n (2 ^ (M + 1)) i (cell_at t i) ≡ true → parent ≡ no_cell → Root M (mesh_cell (cell_at t i))
+    unfolding place_ok
+    place-root e d = root-facts M (cell_at t i) (rw (eq-eqb parent no_cell d) at e)
 
-    pub place-born : placeOk t n (2 ^ (M + 1)) i (cell_at t i) ≡ true → parent ≢ noCell → Born (table t n) i parent
-    unfolding placeOk
-    place-born e d = born-facts (rw (ne_eqb parent noCell d) at e)
+    pub place-born : place_ok t n (2 ^ (M + 1)) i (cell_at t i) ≡ true → parent ≢ no_cell → Born (table t n) i parent
+    unfolding place_ok
+    place-born e d = born-facts (rw (ne_eqb parent no_cell d) at e)
 
-    pub facts-place : (parent ≡ noCell → Root M (meshCell (cell_at t i))) → (parent ≢ noCell → Born (table t n) i parent) → placeOk t n (2 ^ (M + 1)) i (cell_at t i) ≡ true
-    unfolding placeOk
-    facts-place r b = by (eqb parent noCell) refl
+    pub facts-place : (parent ≡ no_cell → Root M (mesh_cell (cell_at t i))) → (parent ≢ no_cell → Born (table t n) i parent) → place_ok t n (2 ^ (M + 1)) i (cell_at t i) ≡ true
+    unfolding place_ok
+    facts-place r b = by (eqb parent no_cell) refl
       where
-        by : (x : Bool) → eqb parent noCell ≡ x → cond x (rootOk (2 ^ (M + 1)) (cell_at t i)) (bornOk t n i parent) ≡ true
-        by true d = facts-root M (cell_at t i) (r (eqb-true parent noCell d))
-        by false d = facts-born (b (eqb-false parent noCell d))
+        by : (x : Bool) → eqb parent no_cell ≡ x → cond x (root_ok (2 ^ (M + 1)) (cell_at t i)) (born_ok t n i parent) ≡ true
+        by true d = facts-root M (cell_at t i) (r (eqb-true parent no_cell d))
+        by false d = facts-born (b (eqb-false parent no_cell d))
 
 -- ---- the whole row
 
 module _ (t : List ℤ) (n : ℕ) where
-  pub rest-facts : restZero t n ≡ true → (j : ℕ) → n * 8 ≤ j → j < length t → get_or t j (pos 0) ≡ pos 0
-  unfolding restZero
+  pub rest-facts : rest_zero t n ≡ true → (j : ℕ) → n * 8 ≤ j → j < length t → get_or t j (pos 0) ≡ pos 0
+  unfolding rest_zero
   rest-facts e j l h =
       let d : n * 8 + (j - n * 8) ≡ j = omega arith in
-      let z = all-at (λ k. zeroAt t (n * 8 + k)) (length t - n * 8) e (j - n * 8) (omega arith) in
+      let z = all-at (λ k. zero_at t (n * 8 + k)) (length t - n * 8) e (j - n * 8) (omega arith) in
       no-magnitude (get_or t j (pos 0)) (eqb-true (nat_abs (get_or t j (pos 0))) 0 (rw d at z))
 
-  pub facts-rest : ((j : ℕ) → n * 8 ≤ j → j < length t → get_or t j (pos 0) ≡ pos 0) → restZero t n ≡ true
-  unfolding restZero
-  facts-rest f = all_of (λ k. zeroAt t (n * 8 + k)) (length t - n * 8) (λ k h. ap (λ (z : ℤ). eqb (nat_abs z) 0) (f (n * 8 + k) (omega arith) (omega arith)))
+  pub facts-rest : ((j : ℕ) → n * 8 ≤ j → j < length t → get_or t j (pos 0) ≡ pos 0) → rest_zero t n ≡ true
+  unfolding rest_zero
+  facts-rest f = all_of (λ k. zero_at t (n * 8 + k)) (length t - n * 8) (λ k h. ap (λ (z : ℤ). eqb (nat_abs z) 0) (f (n * 8 + k) (omega arith) (omega arith)))
 
 module _ (t : List ℤ) (n M : ℕ) where
-  pub facts-cells : n ≤ maxSlots → ((i : ℕ) → i < n → CellFacts t n M i) → Formed M (table t n)
+  pub facts-cells : n ≤ max_slots → ((i : ℕ) → i < n → CellFacts t n M i) → Formed M (table t n)
   facts-cells small f =
       record {
         split = λ i g e.
@@ -335,7 +335,7 @@ module _ (t : List ℤ) (n M : ℕ) where
       }
 
   -- the test says yes only if the definition holds
-  pub formed-facts : wellFormed t n M ≡ true → WellFormed t n M
+  pub formed-facts : well_formed t n M ≡ true → WellFormed t n M
   formed-facts e =
       let s = formed-shape t n M e in
       record {
@@ -351,9 +351,9 @@ module _ (t : List ℤ) (n M : ℕ) where
       }
 
   -- and always then
-  pub facts-formed : WellFormed t n M → wellFormed t n M ≡ true
+  pub facts-formed : WellFormed t n M → well_formed t n M ≡ true
   facts-formed w =
-      let small : n ≤ maxSlots = (let a = w.count in let b = w.slots in omega arith) in
+      let small : n ≤ max_slots = (let a = w.count in let b = w.slots in omega arith) in
       parts-formed t n M
       (of-shape (length t) n M (record { range = w.range; whole = w.whole; slots = w.slots; count = w.count }))
       (facts-rest t n w.rest)

@@ -1,11 +1,11 @@
--- Document 01's "Well-formed table", clause by clause; and the test whose answer the code gives, which holds exactly if
+-- The rules' "Well-formed table", clause by clause; and the test whose answer the code gives, which holds exactly if
 -- the definition does (proofs/Wellformed.antt). How the code comes to that answer is in Walk.antt.
 use Rattle.std.specs.Prelude.{ℕ, zero, suc, ◌+◌, ◌*◌, ◌-◌, ◌/◌, ◌%◌, ◌^◌, ◌<◌, ◌≤◌, ◌≡◌, Bool, true, ◌&&◌, cond, List, ltb, leb, eqb, ℤ, pos, nat_abs, length, get_or}
 use Rattle.std.proofs.Math.Option.{none, some}
-use Rattle.refusals.specs.Limits.{maxLevel, maxSlots, maxPolygons}
-use Rattle.cell.specs.Boxes.{Quad, num, quadrant, quadAt}
+use Rattle.refusals.specs.Limits.{widest_level, max_slots, max_polygons}
+use Rattle.cell.specs.Boxes.{Quad, num, quadrant, quad_at}
 use Rattle.cell.specs.declared.Cell as Held
-use Rattle.cell.specs.Cells.{noCell, childOf}
+use Rattle.cell.specs.Cells.{no_cell, child_of}
 use Rattle.table.specs.Slots.{cell_at, in_slot}
 use Rattle.table.specs.Mesh.{Cell, at, table}
 
@@ -46,10 +46,10 @@ pub record Formed (M : ℕ) (t : List Cell) : Type 0 where
 
 pub record WellFormed (t : List ℤ) (n M : ℕ) : Type 0 where
   -- "max_level in range"
-  pub range : M ≤ maxLevel
+  pub range : M ≤ widest_level
   -- "length a multiple of 8 and slots in range"
   pub whole : length t % 8 ≡ 0
-  pub slots : length t / 8 ≤ maxSlots
+  pub slots : length t / 8 ≤ max_slots
   -- "count at most slots"
   pub count : n ≤ length t / 8
   -- "all slots at or past the count zero"
@@ -59,57 +59,57 @@ pub record WellFormed (t : List ℤ) (n M : ℕ) : Type 0 where
   -- "level at most max_level"
   pub level : (i : ℕ) → i < n → (cell_at t i).level ≤ M
   -- "Polygon indices are below 256"
-  pub polygon : (i : ℕ) → i < n → (cell_at t i).poly < maxPolygons
+  pub polygon : (i : ℕ) → i < n → (cell_at t i).poly < max_polygons
   -- the clauses on roots, children and parents
   pub cells : Formed M (table t n)
 
 -- ---- the test
 
-abbrev pub allTo : (ℕ → Bool) → ℕ → Bool
-allTo f zero = true
-allTo f (suc n) = allTo f n && f n
+abbrev pub all_to : (ℕ → Bool) → ℕ → Bool
+all_to f zero = true
+all_to f (suc n) = all_to f n && f n
 
-abbrev pub zeroAt : List ℤ → ℕ → Bool
-zeroAt t j = eqb (nat_abs (get_or t j (pos 0))) 0
+abbrev pub zero_at : List ℤ → ℕ → Bool
+zero_at t j = eqb (nat_abs (get_or t j (pos 0))) 0
 
-unfoldable pub restZero : List ℤ → ℕ → Bool
-restZero t n = allTo (λ j. zeroAt t (n * 8 + j)) (length t - n * 8)
+unfoldable pub rest_zero : List ℤ → ℕ → Bool
+rest_zero t n = all_to (λ j. zero_at t (n * 8 + j)) (length t - n * 8)
 
 -- a side from a to b is a positive multiple of the step
-unfoldable pub sideOk : ℕ → ℕ → ℕ → Bool
-sideOk step a b = ltb a b && eqb ((b - a) % step) 0
+unfoldable pub side_ok : ℕ → ℕ → ℕ → Bool
+side_ok step a b = ltb a b && eqb ((b - a) % step) 0
 
-unfoldable pub rootOk : ℕ → Held.Cell → Bool
-rootOk step c = eqb c.level 0 && sideOk step c.x0 c.x1 && sideOk step c.y0 c.y1
+unfoldable pub root_ok : ℕ → Held.Cell → Bool
+root_ok step c = eqb c.level 0 && side_ok step c.x0 c.x1 && side_ok step c.y0 c.y1
 
 -- cell i is one of its parent's four
-unfoldable pub bornOk : List ℤ → ℕ → ℕ → ℕ → Bool
-bornOk t n i p = ltb p n && leb (cell_at t p).first i && ltb i ((cell_at t p).first + 4)
+unfoldable pub born_ok : List ℤ → ℕ → ℕ → ℕ → Bool
+born_ok t n i p = ltb p n && leb (cell_at t p).first i && ltb i ((cell_at t p).first + 4)
 
 -- the same cell, but for its children
-unfoldable pub sameBut : Held.Cell → Held.Cell → Bool
-sameBut a b =
+unfoldable pub same_but : Held.Cell → Held.Cell → Bool
+same_but a b =
     eqb a.x0 b.x0 && eqb a.y0 b.y0 && eqb a.x1 b.x1 && eqb a.y1 b.y1
     && eqb a.level b.level && eqb a.parent b.parent && eqb a.poly b.poly
 
-unfoldable pub kidOk : List ℤ → ℕ → Held.Cell → ℕ → Bool
-kidOk t i c k = sameBut (cell_at t (c.first + k)) (childOf i (quadAt k) c)
+unfoldable pub kid_ok : List ℤ → ℕ → Held.Cell → ℕ → Bool
+kid_ok t i c k = same_but (cell_at t (c.first + k)) (child_of i (quad_at k) c)
 
-unfoldable pub kidsOk : List ℤ → ℕ → ℕ → ℕ → Held.Cell → Bool
-kidsOk t n M i c =
-    cond (eqb c.first noCell) true
-    (ltb i c.first && leb (c.first + 4) n && ltb c.level M && kidOk t i c 0 && kidOk t i c 1 && kidOk t i c 2 && kidOk t i c 3)
+unfoldable pub kids_ok : List ℤ → ℕ → ℕ → ℕ → Held.Cell → Bool
+kids_ok t n M i c =
+    cond (eqb c.first no_cell) true
+    (ltb i c.first && leb (c.first + 4) n && ltb c.level M && kid_ok t i c 0 && kid_ok t i c 1 && kid_ok t i c 2 && kid_ok t i c 3)
 
-unfoldable pub placeOk : List ℤ → ℕ → ℕ → ℕ → Held.Cell → Bool
-placeOk t n step i c = cond (eqb c.parent noCell) (rootOk step c) (bornOk t n i c.parent)
+unfoldable pub place_ok : List ℤ → ℕ → ℕ → ℕ → Held.Cell → Bool
+place_ok t n step i c = cond (eqb c.parent no_cell) (root_ok step c) (born_ok t n i c.parent)
 
-unfoldable pub cellOk : List ℤ → ℕ → ℕ → ℕ → Bool
-cellOk t n M i =
-    in_slot t i && leb (cell_at t i).level M && ltb (cell_at t i).poly maxPolygons
-    && placeOk t n (2 ^ (M + 1)) i (cell_at t i) && kidsOk t n M i (cell_at t i)
+unfoldable pub cell_ok : List ℤ → ℕ → ℕ → ℕ → Bool
+cell_ok t n M i =
+    in_slot t i && leb (cell_at t i).level M && ltb (cell_at t i).poly max_polygons
+    && place_ok t n (2 ^ (M + 1)) i (cell_at t i) && kids_ok t n M i (cell_at t i)
 
-unfoldable pub shapeOk : ℕ → ℕ → ℕ → Bool
-shapeOk size n M = leb M maxLevel && eqb (size % 8) 0 && leb (size / 8) maxSlots && leb n (size / 8)
+unfoldable pub shape_ok : ℕ → ℕ → ℕ → Bool
+shape_ok size n M = leb M widest_level && eqb (size % 8) 0 && leb (size / 8) max_slots && leb n (size / 8)
 
-unfoldable pub wellFormed : List ℤ → ℕ → ℕ → Bool
-wellFormed t n M = shapeOk (length t) n M && (restZero t n && allTo (cellOk t n M) n)
+unfoldable pub well_formed : List ℤ → ℕ → ℕ → Bool
+well_formed t n M = shape_ok (length t) n M && (rest_zero t n && all_to (cell_ok t n M) n)

@@ -1,9 +1,9 @@
--- The cells that a table holds, as document 01 speaks of them: no parent and no child are `none`, and there is no limit on room.
+-- The cells that a table holds, as the rules speak of them: no parent and no child are `none`, and there is no limit on room.
 use Rattle.std.specs.Prelude.{ℕ, zero, suc, Bool, true, false, List, [], ◌∷◌, ◌++◌, eqb, ℤ, length, get_or, set}
 use Rattle.std.proofs.Math.Option.{Option, none, some}
 use Rattle.cell.specs.Boxes.{Box, Quad, sw, se, nw, ne, quadrant}
 use Rattle.cell.specs.declared.Cell as Held
-use Rattle.cell.specs.Cells.{noCell, boxOf}
+use Rattle.cell.specs.Cells.{no_cell, box_of}
 use Rattle.table.specs.Slots.{cell_at}
 
 -- `parent` is none at a root, and `kids`, the first child's id, none at a leaf
@@ -25,8 +25,8 @@ at t i = get_or t i past
 abbrev pub child : ℕ → Cell → Quad → Cell
 child i c q = record { box = quadrant c.box q; level = suc c.level; parent = some i; kids = none; polygon = c.polygon }
 
-abbrev pub withKids : Cell → ℕ → Cell
-withKids c f = record { box = c.box; level = c.level; parent = c.parent; kids = some f; polygon = c.polygon }
+abbrev pub with_kids : Cell → ℕ → Cell
+with_kids c f = record { box = c.box; level = c.level; parent = c.parent; kids = some f; polygon = c.polygon }
 
 -- the four children, in the order of their ids
 abbrev pub brood : ℕ → Cell → List Cell
@@ -34,27 +34,27 @@ brood i c = child i c sw ∷ child i c se ∷ child i c nw ∷ child i c ne ∷ 
 
 -- cell i split: its four children are appended, and it names the first
 unfoldable pub split : List Cell → ℕ → List Cell
-split t i = set t i (withKids (at t i) (length t)) ++ brood i (at t i)
+split t i = set t i (with_kids (at t i) (length t)) ++ brood i (at t i)
 
 abbrev pub is_none : Option ℕ → Bool
 is_none none = true
 is_none (some f) = false
 
-abbrev pub isLeaf : List Cell → ℕ → Bool
-isLeaf t i = is_none (at t i).kids
+abbrev pub is_leaf : List Cell → ℕ → Bool
+is_leaf t i = is_none (at t i).kids
 
 -- the row's NO_CELL is `none`
-abbrev pub optIf : Bool → ℕ → Option ℕ
-optIf true v = none
-optIf false v = some v
+abbrev pub opt_if : Bool → ℕ → Option ℕ
+opt_if true v = none
+opt_if false v = some v
 
 abbrev pub opt : ℕ → Option ℕ
-opt v = optIf (eqb v noCell) v
+opt v = opt_if (eqb v no_cell) v
 
-abbrev pub meshCell : Held.Cell → Cell
-meshCell c = record { box = boxOf c; level = c.level; parent = opt c.parent; kids = opt c.first; polygon = c.poly }
+abbrev pub mesh_cell : Held.Cell → Cell
+mesh_cell c = record { box = box_of c; level = c.level; parent = opt c.parent; kids = opt c.first; polygon = c.poly }
 
 -- the cells of the row's first n slots
 unfoldable pub table : List ℤ → ℕ → List Cell
 table t zero = []
-table t (suc n) = table t n ++ (meshCell (cell_at t n) ∷ [])
+table t (suc n) = table t n ++ (mesh_cell (cell_at t n) ∷ [])

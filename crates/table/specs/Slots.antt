@@ -13,11 +13,11 @@ unfoldable pub kept : ℕ → ℤ
 kept n = pos (min n 9223372036854775807)
 
 -- two numbers of the row are the same
-abbrev pub sameZ : ℤ → ℤ → Bool
-sameZ (pos a) (pos b) = eqb a b
-sameZ (pos a) (negsuc b) = false
-sameZ (negsuc a) (pos b) = false
-sameZ (negsuc a) (negsuc b) = eqb a b
+abbrev pub same_z : ℤ → ℤ → Bool
+same_z (pos a) (pos b) = eqb a b
+same_z (pos a) (negsuc b) = false
+same_z (negsuc a) (pos b) = false
+same_z (negsuc a) (negsuc b) = eqb a b
 
 -- the number at an index of slot i
 abbrev pub number : List ℤ → ℕ → ℕ → ℤ
@@ -44,14 +44,14 @@ unfoldable pub stored : List ℤ → ℕ → ℤ → List ℤ
 stored = set
 
 -- the row with the cell c in slot i
-unfoldable pub putCell : List ℤ → ℕ → Cell → List ℤ
-putCell t i c =
+unfoldable pub put_cell : List ℤ → ℕ → Cell → List ℤ
+put_cell t i c =
     let coordinates = stored (stored (stored (stored t (i * 8) (on c.x0)) (i * 8 + 1) (on c.y0)) (i * 8 + 2) (on c.x1)) (i * 8 + 3) (on c.y1) in
     stored (stored (stored (stored coordinates (i * 8 + 4) (kept c.level)) (i * 8 + 5) (kept c.parent)) (i * 8 + 6) (kept c.first)) (i * 8 + 7) (kept c.poly)
 
 -- the row with another first child for the cell in slot i
-unfoldable pub putFirst : List ℤ → ℕ → ℕ → List ℤ
-putFirst t i first = stored t (i * 8 + 6) (kept first)
+unfoldable pub put_first : List ℤ → ℕ → ℕ → List ℤ
+put_first t i first = stored t (i * 8 + 6) (kept first)
 
 -- slot i holds the numbers of a cell: coordinates in range, and the others not negative
 unfoldable pub in_slot : List ℤ → ℕ → Bool

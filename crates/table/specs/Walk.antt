@@ -1,55 +1,55 @@
--- What the code's walk over the cells tests, step by step. Internal: the contract of the walk is `allTo cellOk`, and
+-- What the code's walk over the cells tests, step by step. Internal: the contract of the walk is `all_to cell_ok`, and
 -- proofs/Walk.antt shows that the steps say the same. In a well-formed table the cells are roots and fours of children;
 -- the walk goes from each to the next.
 use Rattle.std.specs.Prelude.{ℕ, ◌+◌, ◌^◌, ◌≡◌, Bool, ◌&&◌, ◌||◌, cond, List, ltb, leb, eqb, ℤ, pos}
-use Rattle.refusals.specs.Limits.{maxPolygons}
-use Rattle.cell.specs.Boxes.{quadAt}
+use Rattle.refusals.specs.Limits.{max_polygons}
+use Rattle.cell.specs.Boxes.{quad_at}
 use Rattle.cell.specs.declared.Cell as Held
-use Rattle.cell.specs.Cells.{noCell, childOf}
+use Rattle.cell.specs.Cells.{no_cell, child_of}
 use Rattle.cell.specs.Ticks.{on}
-use Rattle.table.specs.Slots.{sameZ, number, start, cell_at, in_slot}
-use Rattle.table.specs.Formed.{rootOk}
+use Rattle.table.specs.Slots.{same_z, number, start, cell_at, in_slot}
+use Rattle.table.specs.Formed.{root_ok}
 
 -- a power of two
 abbrev pub Power : ℕ → Type 0
 Power step = (k : ℕ) × (step ≡ 2 ^ k)
 
 -- slot j holds child k of the cell c in slot i, whatever children it has itself
-unfoldable pub kidAt : List ℤ → ℕ → Held.Cell → ℕ → ℕ → Bool
-kidAt t i c j k =
-    let kid = childOf i (quadAt k) c in
-    sameZ (start t j) (on kid.x0) && sameZ (number t j 1) (on kid.y0) && sameZ (number t j 2) (on kid.x1)
-    && sameZ (number t j 3) (on kid.y1) && sameZ (number t j 4) (pos kid.level) && sameZ (number t j 5) (pos i)
-    && sameZ (number t j 7) (number t i 7)
+unfoldable pub kid_at : List ℤ → ℕ → Held.Cell → ℕ → ℕ → Bool
+kid_at t i c j k =
+    let kid = child_of i (quad_at k) c in
+    same_z (start t j) (on kid.x0) && same_z (number t j 1) (on kid.y0) && same_z (number t j 2) (on kid.x1)
+    && same_z (number t j 3) (on kid.y1) && same_z (number t j 4) (pos kid.level) && same_z (number t j 5) (pos i)
+    && same_z (number t j 7) (number t i 7)
 
 -- the four slots from f on hold the children of cell i
-unfoldable pub kidsAt : List ℤ → ℕ → ℕ → ℕ → Bool
-kidsAt t M i f =
+unfoldable pub kids_at : List ℤ → ℕ → ℕ → ℕ → Bool
+kids_at t M i f =
     let c = cell_at t i in
-    ltb c.level M && (kidAt t i c f 0 && kidAt t i c (f + 1) 1 && kidAt t i c (f + 2) 2 && kidAt t i c (f + 3) 3)
+    ltb c.level M && (kid_at t i c f 0 && kid_at t i c (f + 1) 1 && kid_at t i c (f + 2) 2 && kid_at t i c (f + 3) 3)
 
 -- f where it is a slot below n, and otherwise i
-abbrev pub slotOr : ℕ → ℕ → ℕ → ℕ
-slotOr f n i = cond (ltb f n) f i
+abbrev pub slot_or : ℕ → ℕ → ℕ → ℕ
+slot_or f n i = cond (ltb f n) f i
 
 -- cell i names no child, or one past it that names it as its parent
-unfoldable pub ledAt : List ℤ → ℕ → ℕ → Bool
-ledAt t n i =
-    let g = slotOr (cell_at t i).first n i in
-    eqb (cell_at t i).first noCell || (ltb i g && sameZ (number t g 5) (pos i))
+unfoldable pub led_at : List ℤ → ℕ → ℕ → Bool
+led_at t n i =
+    let g = slot_or (cell_at t i).first n i in
+    eqb (cell_at t i).first no_cell || (ltb i g && same_z (number t g 5) (pos i))
 
 -- a root stands in slot i
-unfoldable pub rootAt : List ℤ → ℕ → ℕ → ℕ → Bool
-rootAt t n step i = in_slot t i && (ltb (cell_at t i).poly maxPolygons && rootOk step (cell_at t i)) && ledAt t n i
+unfoldable pub root_at : List ℤ → ℕ → ℕ → ℕ → Bool
+root_at t n step i = in_slot t i && (ltb (cell_at t i).poly max_polygons && root_ok step (cell_at t i)) && led_at t n i
 
 -- the four children of cell p stand in the slots from i on
-unfoldable pub fourAt : List ℤ → ℕ → ℕ → ℕ → ℕ → Bool
-fourAt t n M i p =
-    leb (i + 4) n && ltb p i && (sameZ (number t p 6) (pos i) && kidsAt t M p i)
-    && (ledAt t n i && ledAt t n (i + 1) && ledAt t n (i + 2) && ledAt t n (i + 3))
+unfoldable pub four_at : List ℤ → ℕ → ℕ → ℕ → ℕ → Bool
+four_at t n M i p =
+    leb (i + 4) n && ltb p i && (same_z (number t p 6) (pos i) && kids_at t M p i)
+    && (led_at t n i && led_at t n (i + 1) && led_at t n (i + 2) && led_at t n (i + 3))
 
 -- the slot past the root or the four children that stand from slot i on, and 0 where neither does
 unfoldable pub past_at : List ℤ → ℕ → ℕ → ℕ → ℕ → ℕ
 past_at t n M step i =
     let p = (cell_at t i).parent in
-    cond (eqb p noCell) (cond (rootAt t n step i) (i + 1) 0) (cond (fourAt t n M i p) (i + 4) 0)
+    cond (eqb p no_cell) (cond (root_at t n step i) (i + 1) 0) (cond (four_at t n M i p) (i + 4) 0)

@@ -1,9 +1,9 @@
-// Document 01's "Well-formed table", tested in one walk over the row. Cells are roots, or children in fours: a four is
+// The rules' "Well-formed table", tested in one walk over the row. Cells are roots, or children in fours: a four is
 // compared with its parent, whose numbers say what the children's are, and a cell's first child must name it back.
 ghost use Rattle.std.specs.Prelude.{◌≡◌, ◌+◌, ◌*◌, ◌/◌, ◌%◌, ◌^◌, ◌<◌, ◌≤◌, length};
-ghost use Rattle.refusals.specs.Limits.{maxLevel, maxSlots};
-ghost use Rattle.table.specs.Formed.{allTo, zeroAt, restZero, sideOk, rootOk, cellOk, shapeOk, wellFormed};
-ghost use Rattle.table.specs.Walk.{Power, kidAt, kidsAt, slotOr, ledAt, rootAt, fourAt, past_at};
+ghost use Rattle.refusals.specs.Limits.{widest_level, max_slots};
+ghost use Rattle.table.specs.Formed.{all_to, zero_at, rest_zero, side_ok, root_ok, cell_ok, shape_ok, well_formed};
+ghost use Rattle.table.specs.Walk.{Power, kid_at, kids_at, slot_or, led_at, root_at, four_at, past_at};
 
 use crate::Head;
 use crate::slots::{cell_at, first_at, in_slot, is_at, parent_at};
@@ -14,35 +14,35 @@ use refusals::limits;
 // 2^(m+1), which every side of a root is a multiple of.
 #[tactic(auto, using(std::proofs::lemmas::Nat::pow_below))]
 fn step_of(m: u64) -> u64
-    requires { m ≤ maxLevel }
+    requires { m ≤ widest_level }
     ensures { result ≡ 2 ^ (m + 1) }
 {
     2 << m
 }
 
 // The step is a power of two, so a side's remainder is its low bits, and no division is needed.
-#[tactic(auto, using(std::proofs::lemmas::Nat::and_mask), unfolding(crate::specs::Formed::sideOk))]
+#[tactic(auto, using(std::proofs::lemmas::Nat::and_mask), unfolding(crate::specs::Formed::side_ok))]
 fn side_ok(step: u64, a: u64, b: u64) -> bool
     requires { Power step }
-    ensures { result ≡ sideOk step a b }
+    ensures { result ≡ side_ok step a b }
 {
     a < b && (b - a) & (step - 1) == 0
 }
 
-#[tactic(auto, unfolding(crate::specs::Formed::rootOk))]
+#[tactic(auto, unfolding(crate::specs::Formed::root_ok))]
 fn root_ok(step: u64, c: Cell) -> bool
     requires { Power step }
-    ensures { result ≡ rootOk step c }
+    ensures { result ≡ root_ok step c }
 {
     (c.level == 0) & side_ok(step, c.x0, c.x1) & side_ok(step, c.y0, c.y1)
 }
 
 // Whether slot j holds child k of the cell c in slot p. Its numbers are compared as they stand in the row, so they need
 // no test of their own.
-#[tactic(auto, unfolding(crate::specs::Walk::kidAt))]
+#[tactic(auto, unfolding(crate::specs::Walk::kid_at))]
 fn kid_ok(t: &[i64], p: usize, c: Cell, j: usize, k: u64) -> bool
-    requires { (p * 8 + 8 ≤ length t.now) × (j * 8 + 8 ≤ length t.now) × (c.level < maxLevel) }
-    ensures { result ≡ kidAt t.now p c j k }
+    requires { (p * 8 + 8 ≤ length t.now) × (j * 8 + 8 ≤ length t.now) × (c.level < widest_level) }
+    ensures { result ≡ kid_at t.now p c j k }
 {
     let kid = c.child(p as u64, k);
     let b = j * 8;
@@ -57,10 +57,10 @@ fn kid_ok(t: &[i64], p: usize, c: Cell, j: usize, k: u64) -> bool
 }
 
 // Whether the four slots from f on hold the children of cell p.
-#[tactic(auto, unfolding(crate::specs::Walk::kidsAt))]
+#[tactic(auto, unfolding(crate::specs::Walk::kids_at))]
 fn kids_ok(t: &[i64], m: u64, p: usize, f: usize) -> bool
-    requires { (p < f) × ((f + 4) * 8 ≤ length t.now) × (m ≤ maxLevel) }
-    ensures { result ≡ kidsAt t.now m p f }
+    requires { (p < f) × ((f + 4) * 8 ≤ length t.now) × (m ≤ widest_level) }
+    ensures { result ≡ kids_at t.now m p f }
 {
     let c = cell_at(t, p);
     if m <= c.level {
@@ -73,17 +73,17 @@ fn kids_ok(t: &[i64], m: u64, p: usize, f: usize) -> bool
 }
 
 fn slot_or(f: u64, n: usize, i: usize) -> usize
-    ensures { result ≡ slotOr f n i }
+    ensures { result ≡ slot_or f n i }
 {
     if f < n as u64 { f as usize } else { i }
 }
 
 // Whether cell i names no child, or one past it that names it as its parent. No branch: which cells are split can't be
 // foretold.
-#[tactic(auto, unfolding(crate::specs::Walk::ledAt))]
+#[tactic(auto, unfolding(crate::specs::Walk::led_at))]
 fn led(t: &[i64], n: usize, i: usize) -> bool
     requires { (n * 8 ≤ length t.now) × (i < n) }
-    ensures { result ≡ ledAt t.now n i }
+    ensures { result ≡ led_at t.now n i }
 {
     let f = first_at(t, i);
     let g = slot_or(f, n, i);
@@ -91,11 +91,11 @@ fn led(t: &[i64], n: usize, i: usize) -> bool
 }
 
 // Whether a root stands in slot i.
-#[tactic(auto, unfolding(crate::specs::Walk::rootAt, crate::specs::Walk::ledAt))]
+#[tactic(auto, unfolding(crate::specs::Walk::root_at, crate::specs::Walk::led_at))]
 fn root_here(t: &[i64], n: usize, step: u64, i: usize) -> bool
     requires n_in_bounds { (n * 8 ≤ length t.now) × (i < n) }
     requires power { Power step }
-    ensures { result ≡ rootAt t.now n step i }
+    ensures { result ≡ root_at t.now n step i }
 {
     if !in_slot(t, i) {
         return false;
@@ -106,10 +106,10 @@ fn root_here(t: &[i64], n: usize, step: u64, i: usize) -> bool
 }
 
 // Whether the four children of cell p stand in the slots from i on.
-#[tactic(auto, unfolding(crate::specs::Walk::fourAt))]
+#[tactic(auto, unfolding(crate::specs::Walk::four_at))]
 fn four_here(t: &[i64], n: usize, m: u64, i: usize, p: u64) -> bool
-    requires { (n * 8 ≤ length t.now) × (i < n) × (m ≤ maxLevel) }
-    ensures { result ≡ fourAt t.now n m i p }
+    requires { (n * 8 ≤ length t.now) × (i < n) × (m ≤ widest_level) }
+    ensures { result ≡ four_at t.now n m i p }
 {
     if n - i < 4 || i as u64 <= p {
         return false;
@@ -122,7 +122,7 @@ fn four_here(t: &[i64], n: usize, m: u64, i: usize, p: u64) -> bool
 // The slot past the root or the four children that stand from slot i on; 0 where neither does.
 #[tactic(auto, unfolding(crate::specs::Walk::past_at))]
 fn past(t: &[i64], n: usize, m: u64, step: u64, i: usize) -> usize
-    requires n_in_bounds { (n * 8 ≤ length t.now) × (i < n) × (m ≤ maxLevel) }
+    requires n_in_bounds { (n * 8 ≤ length t.now) × (i < n) × (m ≤ widest_level) }
     requires power { Power step }
     ensures { result ≡ past_at t.now n m step i }
 {
@@ -137,8 +137,8 @@ fn past(t: &[i64], n: usize, m: u64, step: u64, i: usize) -> usize
 }
 
 fn cells_ok(t: &[i64], n: usize, m: u64) -> bool
-    requires { (n * 8 ≤ length t.now) × (n ≤ maxSlots) × (m ≤ maxLevel) }
-    ensures { result ≡ allTo (cellOk t.now n m) n }
+    requires { (n * 8 ≤ length t.now) × (n ≤ max_slots) × (m ≤ widest_level) }
+    ensures { result ≡ all_to (cell_ok t.now n m) n }
 {
     let step = step_of(m);
     let mut i = 0;
@@ -155,7 +155,7 @@ fn cells_ok(t: &[i64], n: usize, m: u64) -> bool
 // Whether the eight numbers of slot j are zero.
 fn slot_zero(t: &[i64], j: usize) -> bool
     requires { j * 8 + 8 ≤ length t.now }
-    ensures { result ≡ allTo (λ k. zeroAt t.now (j * 8 + k)) 8 }
+    ensures { result ≡ all_to (λ k. zero_at t.now (j * 8 + k)) 8 }
 {
     let b = j * 8;
     is_at(t, b, 0)
@@ -169,10 +169,10 @@ fn slot_zero(t: &[i64], j: usize) -> bool
 }
 
 // All slots at or past the count are zero.
-#[tactic(auto, unfolding(crate::specs::Formed::restZero))]
+#[tactic(auto, unfolding(crate::specs::Formed::rest_zero))]
 fn rest_zero(t: &[i64], n: usize) -> bool
     requires { (n * 8 ≤ length t.now) × (length t.now % 8 ≡ 0) }
-    ensures { result ≡ restZero t.now n }
+    ensures { result ≡ rest_zero t.now n }
 {
     let slots = t.len() / 8;
     for j in n..slots {
@@ -183,17 +183,17 @@ fn rest_zero(t: &[i64], n: usize) -> bool
     true
 }
 
-#[tactic(auto, unfolding(crate::specs::Formed::shapeOk))]
+#[tactic(auto, unfolding(crate::specs::Formed::shape_ok))]
 fn shape_ok(size: usize, n: usize, m: u64) -> bool
-    ensures { result ≡ shapeOk size n m }
+    ensures { result ≡ shape_ok size n m }
 {
     (m <= Cell::WIDEST_LEVEL) & (size % 8 == 0) & (size / 8 <= limits::SLOTS) & (n <= size / 8)
 }
 
 // Whether the row holds a well-formed table.
-#[tactic(auto, using(crate::proofs::Shape::shape_bounds), unfolding(crate::specs::Formed::wellFormed))]
+#[tactic(auto, using(crate::proofs::Shape::shape_bounds), unfolding(crate::specs::Formed::well_formed))]
 pub fn well_formed(t: &[i64], head: Head) -> bool
-    ensures { result ≡ wellFormed t.now head.count head.max_level }
+    ensures { result ≡ well_formed t.now head.count head.max_level }
 {
     let n = head.count;
     let m = head.max_level;

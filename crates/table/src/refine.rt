@@ -1,8 +1,8 @@
 // Splitting one leaf into its four quadrants.
 ghost use Rattle.std.specs.Prelude.{◌≡◌, ◌+◌, ◌*◌, ◌<◌, ◌≤◌, length};
-ghost use Rattle.refusals.specs.Limits.{maxLevel};
+ghost use Rattle.refusals.specs.Limits.{widest_level};
 ghost use Rattle.table.specs.Slots.{cell_at};
-ghost use Rattle.table.specs.Refine.{putKid, splitRow, refinedSaid, refineSays, refineRow};
+ghost use Rattle.table.specs.Refine.{put_kid, split_row, refined_said, refine_says, refine_row};
 
 use crate::Head;
 use crate::formed::well_formed;
@@ -11,20 +11,20 @@ use cell::Cell;
 use refusals::Refusal;
 
 // Child k of cell i goes to slot n + k.
-#[tactic(auto, unfolding(crate::specs::Refine::putKid))]
+#[tactic(auto, unfolding(crate::specs::Refine::put_kid))]
 fn put_kid(t: &mut [i64], n: usize, i: usize, c: Cell, k: u64)
-    requires { (k < 4) × ((n + 4) * 8 ≤ length t.old) × (c.level < maxLevel) }
-    ensures { t.new ≡ putKid t.old n i c k }
+    requires { (k < 4) × ((n + 4) * 8 ≤ length t.old) × (c.level < widest_level) }
+    ensures { t.new ≡ put_kid t.old n i c k }
 {
     put_cell(t, n + k as usize, c.child(i as u64, k));
 }
 
 // Cell i gets four children in the slots from n on. Internal: the slots are in the row and the cell is above the widest
 // level.
-#[tactic(auto, unfolding(crate::specs::Refine::splitRow))]
+#[tactic(auto, unfolding(crate::specs::Refine::split_row))]
 pub fn split_cell(t: &mut [i64], n: usize, i: usize)
-    requires { (i < n) × ((n + 4) * 8 ≤ length t.old) × ((cell_at t.old i).level < maxLevel) }
-    ensures { t.new ≡ splitRow t.old n i }
+    requires { (i < n) × ((n + 4) * 8 ≤ length t.old) × ((cell_at t.old i).level < widest_level) }
+    ensures { t.new ≡ split_row t.old n i }
 {
     let c = cell_at(t, i);
     put_kid(t, n, i, c, 0);
@@ -35,10 +35,10 @@ pub fn split_cell(t: &mut [i64], n: usize, i: usize)
 }
 
 // Splits the leaf with this id; the head has the new count.
-#[tactic(auto, using(crate::proofs::Shape::formed_bounds), unfolding(crate::specs::Refine::refineSays, crate::specs::Refine::refineRow, crate::specs::Leaves::leafAt))]
+#[tactic(auto, using(crate::proofs::Shape::formed_bounds), unfolding(crate::specs::Refine::refine_says, crate::specs::Refine::refine_row, crate::specs::Leaves::leaf_at))]
 pub fn refine(t: &mut [i64], head: Head, id: usize) -> Result<Head, Refusal>
-    ensures result_value { refinedSaid result ≡ refineSays t.old head.count head.max_level id }
-    ensures t_after { t.new ≡ refineRow t.old head.count head.max_level id }
+    ensures result_value { refined_said result ≡ refine_says t.old head.count head.max_level id }
+    ensures t_after { t.new ≡ refine_row t.old head.count head.max_level id }
 {
     if !well_formed(t, head) {
         return Err(Refusal::BadTable);

@@ -2,7 +2,7 @@
 ghost use Rattle.std.specs.Prelude.{◌≡◌, ◌+◌, ◌*◌, ◌<◌, ◌≤◌, length, get_or, pos};
 ghost use Rattle.std.specs.Int.Signed.{non_neg};
 ghost use Rattle.cell.specs.Ticks.{in_range, off, on};
-ghost use Rattle.table.specs.Slots.{counted, kept, sameZ, stored, cell_at, putCell, putFirst, in_slot};
+ghost use Rattle.table.specs.Slots.{counted, kept, same_z, stored, cell_at, put_cell, put_first, in_slot};
 
 use cell::Cell;
 
@@ -94,16 +94,16 @@ pub fn poly_at(t: &[i64], i: usize) -> u64
 // Whether number j is z, whatever the two are. Internal: the number is in the row.
 pub fn is_at(t: &[i64], j: usize, z: i64) -> bool
     requires { j < length t.now }
-    ensures { result ≡ sameZ (get_or t.now j (pos 0)) z }
+    ensures { result ≡ same_z (get_or t.now j (pos 0)) z }
 {
     t[j] == z
 }
 
 // Internal: the slot is in the row.
-#[tactic(auto, unfolding(crate::specs::Slots::putCell))]
+#[tactic(auto, unfolding(crate::specs::Slots::put_cell))]
 pub fn put_cell(t: &mut [i64], i: usize, c: Cell)
     requires { i * 8 + 8 ≤ length t.old }
-    ensures { t.new ≡ putCell t.old i c }
+    ensures { t.new ≡ put_cell t.old i c }
 {
     let b = i * 8;
     put_coordinate(t, b, c.x0);
@@ -117,10 +117,10 @@ pub fn put_cell(t: &mut [i64], i: usize, c: Cell)
 }
 
 // Names the first child of the cell in slot i. Internal: the slot is in the row.
-#[tactic(auto, unfolding(crate::specs::Slots::putFirst))]
+#[tactic(auto, unfolding(crate::specs::Slots::put_first))]
 pub fn put_first(t: &mut [i64], i: usize, first: u64)
     requires { i * 8 + 8 ≤ length t.old }
-    ensures { t.new ≡ putFirst t.old i first }
+    ensures { t.new ≡ put_first t.old i first }
 {
     put_number(t, i * 8 + 6, first);
 }

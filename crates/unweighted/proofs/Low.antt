@@ -13,14 +13,14 @@ use Rattle.rows.specs.Parts.{put, tab}
 use Rattle.rows.specs.Contract.{Small}
 use Rattle.rows.proofs.Parts.{put-at}
 use Rattle.rows.proofs.Fill.{length-tab, tab-at}
-use Rattle.net.specs.Net.{each, Poly, Node, Edge, Piece, sameNode, cornersAt, cornersOf, nodesFrom, edgesFrom, patchesFrom, Cornered, Ends}
-use Rattle.net.specs.First.{numberBy}
-use Rattle.net.specs.Flat.{Leaf, leaf, leafAt, noLeaf, leavesFrom}
+use Rattle.net.specs.Net.{each, Poly, Node, Edge, Piece, same_node, corners_at, corners_of, nodes_from, edges_from, patches_from, Cornered, Ends}
+use Rattle.net.specs.First.{number_by}
+use Rattle.net.specs.Flat.{Leaf, leaf, leaf_at, no_leaf, leaves_from}
 use Rattle.net.proofs.All.{All, all_nil, all_cons, all-at, all_left, all_right, all-weld, all-each-by}
-use Rattle.net.proofs.Pieces.{allCorners, nodes-weld}
+use Rattle.net.proofs.Pieces.{all_corners, nodes-weld}
 use Rattle.net.proofs.Flat.{flat-sum}
 use Rattle.net.proofs.Sound.{Positive, edges-ends, patches-cornered, nodes-count, edges-count}
-use Rattle.places.specs.Places.{boxAt, placeKeys, cornerNums, endNums}
+use Rattle.places.specs.Places.{box_at, place_keys, corner_nums, end_nums}
 use Rattle.places.proofs.Places.{keys-long}
 use Rattle.bare.specs.Slots.{Upright}
 use Rattle.bare.proofs.Bridge.{Board, bridge-corners}
@@ -40,16 +40,16 @@ unfolding All
 of-leaves P k p [] h = tt
 of-leaves P k p (r ∷ rs) h = (h.0, of-leaves P k p rs h.1)
 
-of-pieces : (P : Poly → Box → Type 0) (qs : List Piece) (k : ℕ) → All (λ (x : Leaf). P x.poly x.box) (leavesFrom qs k) → All (λ (q : Piece). All (P q.poly) q.leaves) qs
-unfolding leavesFrom
+of-pieces : (P : Poly → Box → Type 0) (qs : List Piece) (k : ℕ) → All (λ (x : Leaf). P x.poly x.box) (leaves_from qs k) → All (λ (q : Piece). All (P q.poly) q.leaves) qs
+unfolding leaves_from
 of-pieces P [] k h = all_nil (λ (q : Piece). All (P q.poly) q.leaves)
 of-pieces P (q ∷ qs) k h =
     let Q : Leaf → Type 0 = λ (x : Leaf). P x.poly x.box in
     all_cons (λ (q : Piece). All (P q.poly) q.leaves) q qs
-    (of-leaves P k q.poly q.leaves (all_left Q (map (leaf k q.poly) q.leaves) (leavesFrom qs (suc k)) h))
-    (of-pieces P qs (suc k) (all_right Q (map (leaf k q.poly) q.leaves) (leavesFrom qs (suc k)) h))
+    (of-leaves P k q.poly q.leaves (all_left Q (map (leaf k q.poly) q.leaves) (leaves_from qs (suc k)) h))
+    (of-pieces P qs (suc k) (all_right Q (map (leaf k q.poly) q.leaves) (leaves_from qs (suc k)) h))
 
-pub ends-long : (es : List Edge) → length (each endNums es) ≡ 2 * length es
+pub ends-long : (es : List Edge) → length (each end_nums es) ≡ 2 * length es
 unfolding each
 ends-long [] = omega arith
 ends-long (e ∷ es) = omega (arith, ends-long es)
@@ -74,35 +74,35 @@ record Fits (m b : ℕ) (p : Poly) (r : Box) : Type 0 where
   y1 : r.y1 < b
 
 module _ {lay cmp : List ℕ} {sheets : List Float} {polys bs : List ℕ} {l : ℕ} {qs : List Piece} (R : Board lay cmp sheets polys bs l qs) where
-  by-leaves : (P : Poly → Box → Type 0) → ((v : ℕ) → v < l → P (leafAt (leavesFrom qs 0) v).poly (boxAt bs v)) → All (λ (q : Piece). All (P q.poly) q.leaves) qs
+  by-leaves : (P : Poly → Box → Type 0) → ((v : ℕ) → v < l → P (leaf_at (leaves_from qs 0) v).poly (box_at bs v)) → All (λ (q : Piece). All (P q.poly) q.leaves) qs
   by-leaves P h =
-      of-pieces P qs 0 (all-index (λ (x : Leaf). P x.poly x.box) noLeaf (leavesFrom qs 0) (λ v k.
+      of-pieces P qs 0 (all-index (λ (x : Leaf). P x.poly x.box) no_leaf (leaves_from qs 0) (λ v k.
       let n = R.holds.long in
       let i : v < l = omega arith in
-      subst (P (leafAt (leavesFrom qs 0) v).poly) (sym (R.holds.box v i)) (h v i)))
+      subst (P (leaf_at (leaves_from qs 0) v).poly) (sym (R.holds.box v i)) (h v i)))
 
-  -- document 01: "SW, SE, NE, NW of a rectangle with positive sides"
-  pub cells-cornered : Upright bs l → All (Cornered (nodesFrom [] qs)) (patchesFrom [] qs)
+  -- the rules: "SW, SE, NE, NW of a rectangle with positive sides"
+  pub cells-cornered : Upright bs l → All (Cornered (nodes_from [] qs)) (patches_from [] qs)
   cells-cornered U = patches-cornered [] qs (by-leaves (λ p. Positive) (λ v h. (U.across v h, U.up v h)))
 
   -- each node's layer is one of the polygons' layers, and each coordinate one of the boxes'
-  pub nodes-fit : (m b : ℕ) → Small m lay → Small b bs → All (Noded m b) (nodesFrom [] qs)
-  unfolding cornersOf
+  pub nodes-fit : (m b : ℕ) → Small m lay → Small b bs → All (Noded m b) (nodes_from [] qs)
+  unfolding corners_of
   nodes-fit m b M B =
       subst (All (Noded m b)) (sym (nodes-weld [] qs))
-      (all-weld (Noded m b) sameNode [] (allCorners qs) (all_nil (Noded m b))
-      (all-each-by (λ (q : Piece). All (Fits m b q.poly) q.leaves) (Noded m b) cornersOf qs
-      (λ q f. all-each-by (Fits m b q.poly) (Noded m b) (cornersAt q.poly) q.leaves (corners q.poly) f)
+      (all-weld (Noded m b) same_node [] (all_corners qs) (all_nil (Noded m b))
+      (all-each-by (λ (q : Piece). All (Fits m b q.poly) q.leaves) (Noded m b) corners_of qs
+      (λ q f. all-each-by (Fits m b q.poly) (Noded m b) (corners_at q.poly) q.leaves (corners q.poly) f)
       (by-leaves (Fits m b) fits)))
     where
-      fits : (v : ℕ) → v < l → Fits m b (leafAt (leavesFrom qs 0) v).poly (boxAt bs v)
+      fits : (v : ℕ) → v < l → Fits m b (leaf_at (leaves_from qs 0) v).poly (box_at bs v)
       fits v h =
           let n = R.size in
           let e = R.holds.layer v h in
           let k = M (get_or polys v 0) (R.inside v h) in
           record { layer = omega arith; x0 = B (4 * v) (omega arith); y0 = B (4 * v + 1) (omega arith); x1 = B (4 * v + 2) (omega arith); y1 = B (4 * v + 3) (omega arith) }
 
-      corners : (p : Poly) (r : Box) → Fits m b p r → All (Noded m b) (cornersAt p r)
+      corners : (p : Poly) (r : Box) → Fits m b p r → All (Noded m b) (corners_at p r)
       corners p r f =
           all_cons (Noded m b) _ _ (record { layer = f.layer; x = f.x0; y = f.y0 })
           (all_cons (Noded m b) _ _ (record { layer = f.layer; x = f.x1; y = f.y0 })
@@ -112,7 +112,7 @@ module _ {lay cmp : List ℕ} {sheets : List Float} {polys bs : List ℕ} {l : �
   -- ---- the rows written
 
   module _ {nodes edges cells : ℕ} (C : Counted qs l nodes edges cells) where
-    -- document 01: at most 4 nodes and 8 edges a leaf
+    -- the rules: at most 4 nodes and 8 edges a leaf
     pub few-nodes : nodes ≤ 4 * l
     few-nodes = omega (arith, C.nodes-are, nodes-count [] qs, flat-sum qs 0, R.holds.long)
 
@@ -129,31 +129,31 @@ module _ {lay cmp : List ℕ} {sheets : List Float} {polys bs : List ℕ} {l : �
           subst (λ (z : ℕ). z < nodes)
           (sym
           (ap (λ (z : List ℕ). get_or z j 0) N.corners-row
-          ∙ (front_at c (each cornerNums (patchesFrom [] qs)) j 0 (omega (arith, long)) (omega (arith, long))
-          ∙ (ap (λ (z : List ℕ). get_or z j 0) is ∙ (tab-at (λ i. get_or (tab (numberBy ks) (4 * l)) i 0) (4 * l) j 0 h ∙ tab-at (numberBy ks) (4 * l) j 0 h)))))
+          ∙ (front_at c (each corner_nums (patches_from [] qs)) j 0 (omega (arith, long)) (omega (arith, long))
+          ∙ (ap (λ (z : List ℕ). get_or z j 0) is ∙ (tab-at (λ i. get_or (tab (number_by ks) (4 * l)) i 0) (4 * l) j 0 h ∙ tab-at (number_by ks) (4 * l) j 0 h)))))
           (omega arith)
         where
           ks : List ℕ
-          ks = placeKeys lay cmp polys bs l
+          ks = place_keys lay cmp polys bs l
 
-          is : each cornerNums (patchesFrom [] qs) ≡ tab (λ i. get_or (tab (numberBy ks) (4 * l)) i 0) (4 * l)
-          is = sym (bridge-corners lay cmp sheets polys bs l qs R (tab (numberBy ks) (4 * l)) refl)
+          is : each corner_nums (patches_from [] qs) ≡ tab (λ i. get_or (tab (number_by ks) (4 * l)) i 0) (4 * l)
+          is = sym (bridge-corners lay cmp sheets polys bs l qs R (tab (number_by ks) (4 * l)) refl)
 
-          long : length (each cornerNums (patchesFrom [] qs)) ≡ 4 * l
-          long = ap length is ∙ length-tab (λ i. get_or (tab (numberBy ks) (4 * l)) i 0) (4 * l)
+          long : length (each corner_nums (patches_from [] qs)) ≡ 4 * l
+          long = ap length is ∙ length-tab (λ i. get_or (tab (number_by ks) (4 * l)) i 0) (4 * l)
 
       -- each end is a node
       pub ends_low : 16 * l ≤ length e → (j : ℕ) → j < 2 * edges → get_or e' j 0 < nodes
       ends_low room j h =
           let f = few-edges in
           let b = C.edges_are in
-          let long = ends-long (edgesFrom [] qs) in
+          let long = ends-long (edges_from [] qs) in
           subst (λ (z : ℕ). z < nodes)
-          (sym (ap (λ (z : List ℕ). get_or z j 0) N.ends-row ∙ front_at e (each endNums (edgesFrom [] qs)) j 0 (omega arith) (omega arith)))
-          (subst (λ (z : ℕ). get_or (each endNums (edgesFrom [] qs)) j 0 < z) (sym C.nodes-are)
-          (all-at (λ (z : ℕ). z < length (nodesFrom [] qs)) 0 (each endNums (edgesFrom [] qs)) j below (omega arith)))
+          (sym (ap (λ (z : List ℕ). get_or z j 0) N.ends-row ∙ front_at e (each end_nums (edges_from [] qs)) j 0 (omega arith) (omega arith)))
+          (subst (λ (z : ℕ). get_or (each end_nums (edges_from [] qs)) j 0 < z) (sym C.nodes-are)
+          (all-at (λ (z : ℕ). z < length (nodes_from [] qs)) 0 (each end_nums (edges_from [] qs)) j below (omega arith)))
         where
-          below : All (λ (z : ℕ). z < length (nodesFrom [] qs)) (each endNums (edgesFrom [] qs))
+          below : All (λ (z : ℕ). z < length (nodes_from [] qs)) (each end_nums (edges_from [] qs))
           below =
-              let P : ℕ → Type 0 = λ (z : ℕ). z < length (nodesFrom [] qs) in
-              all-each-by (Ends (length (nodesFrom [] qs))) P endNums (edgesFrom [] qs) (λ x d. all_cons P x.a (x.b ∷ []) d.from (all_cons P x.b [] d.to (all_nil P))) (edges-ends [] qs)
+              let P : ℕ → Type 0 = λ (z : ℕ). z < length (nodes_from [] qs) in
+              all-each-by (Ends (length (nodes_from [] qs))) P end_nums (edges_from [] qs) (λ x d. all_cons P x.a (x.b ∷ []) d.from (all_cons P x.b [] d.to (all_nil P))) (edges-ends [] qs)

@@ -7,17 +7,17 @@ use lib.ListN.{length, take}
 use lib.IntN.{ℤ}
 use lib.Ieee.{Float}
 use lib.Seq.{length-take-le, get_or-take, ext_get_or}
-use Rattle.refusals.specs.Limits.{maxPolygons}
+use Rattle.refusals.specs.Limits.{max_polygons}
 use Rattle.rows.specs.Parts.{part, tab}
 use Rattle.rows.specs.Contract.{Small}
 use Rattle.rows.proofs.Parts.{length_part, part_at}
-use Rattle.net.specs.First.{key, first_of, rank, numberBy}
+use Rattle.net.specs.First.{key, first_of, rank, number_by}
 use Rattle.net.proofs.Weld.{rank_below, first-new, first-at-most}
-use Rattle.places.specs.Places.{placeKeys}
+use Rattle.places.specs.Places.{place_keys}
 use Rattle.places.proofs.Places.{keys-long}
 use Rattle.places.proofs.Numbered.{tab-small}
 use Rattle.places.proofs.Writing.{rank-le}
-use Rattle.bare.specs.Slots.{many, Slotted, Parted, polysIn, numsIn, midsIn}
+use Rattle.bare.specs.Slots.{many, Slotted, Parted, polys_in, nums_in, mids_in}
 use Rattle.unweighted.specs.Netted.{Placed, Ready}
 
 -- a part of the front of a row
@@ -29,30 +29,30 @@ part-take d w n a m h k =
     part_at (take n w) a m i d (omega arith) ∙ (get_or-take n w (a + i) d (omega arith) ∙ sym (part_at w a m i d (omega arith))))
 
 -- the number of one of the first n is below their count
-pub number-low : (ks : List ℕ) (n i : ℕ) → n ≤ length ks → i < n → numberBy ks i < rank ks n
+pub number-low : (ks : List ℕ) (n i : ℕ) → n ≤ length ks → i < n → number_by ks i < rank ks n
 number-low ks n i h k = let f = first-at-most ks i in rank_below ks (first_of ks i) n (first-new ks (key ks i) (omega arith)) (omega arith)
 
 -- ---- as `write_net` goes
 
 module _ {lay cmp : List ℕ} {sheets : List Float} {bs w₀ w : List ℕ} {l r : ℕ} {n₀ n : List ℤ} (Y : Ready lay cmp sheets bs w₀ l) (P : Placed lay cmp bs w₀ w l r n₀ n) (long : length w ≡ length w₀) where
   abbrev ks : List ℕ
-  ks = placeKeys lay cmp (part w₀ 0 l) bs l
+  ks = place_keys lay cmp (part w₀ 0 l) bs l
 
   -- the rows in front of the slots
   front-room : 26 * l ≤ length w
   front-room = let e = Y.room in omega arith
 
-  polys-in : polysIn (take (26 * l) w) l ≡ part w₀ 0 l
+  polys-in : polys_in (take (26 * l) w) l ≡ part w₀ 0 l
   polys-in = part-take 0 w (26 * l) 0 l front-room (omega arith) ∙ P.numbered.kept
 
-  nums-in : numsIn (take (26 * l) w) l ≡ tab (numberBy ks) (4 * l)
+  nums-in : nums_in (take (26 * l) w) l ≡ tab (number_by ks) (4 * l)
   nums-in = part-take 0 w (26 * l) (18 * l) (4 * l) front-room (omega arith) ∙ P.numbered.numbers
 
-  mids-in : midsIn (take (26 * l) w) l ≡ tab (λ j. first_of ks (4 * l + j)) (4 * l)
+  mids-in : mids_in (take (26 * l) w) l ≡ tab (λ j. first_of ks (4 * l + j)) (4 * l)
   mids-in = part-take 0 w (26 * l) (22 * l) (4 * l) front-room (omega arith) ∙ P.numbered.middles
 
   -- there are at most four nodes a leaf, so each number is below 2 ^ 16
-  number_small : (i : ℕ) → i < 4 * l → numberBy ks i < many
+  number_small : (i : ℕ) → i < 4 * l → number_by ks i < many
   number_small i h =
       let m = Y.laid.few in
       omega (arith, number-low ks (4 * l) i (omega (arith, keys-long lay cmp (part w₀ 0 l) bs l)) h, rank-le ks (4 * l))
@@ -63,8 +63,8 @@ module _ {lay cmp : List ℕ} {sheets : List Float} {bs w₀ w : List ℕ} {l r 
       record {
         long = length-take-le (26 * l) w front-room;
         few = Y.laid.few;
-        low = subst (Small many) (sym nums-in) (tab-small (numberBy ks) (4 * l) many number_small);
-        polys = subst (Small maxPolygons) (sym polys-in) (λ i h. let p = Y.polys i h in let f = Y.few in omega arith);
+        low = subst (Small many) (sym nums-in) (tab-small (number_by ks) (4 * l) many number_small);
+        polys = subst (Small max_polygons) (sym polys-in) (λ i h. let p = Y.polys i h in let f = Y.few in omega arith);
       }
 
   -- once the slots are sorted, the rows in front of them stand as they did
@@ -75,15 +75,15 @@ module _ {lay cmp : List ℕ} {sheets : List Float} {bs w₀ w : List ℕ} {l r 
     pub front_slotted : Slotted rows l
     front_slotted = subst (λ (z : List ℕ). Slotted z l) (sym D.kept) slotted
 
-    pub front-polys : polysIn rows l ≡ part w₀ 0 l
-    front-polys = ap (λ (z : List ℕ). polysIn z l) D.kept ∙ polys-in
+    pub front-polys : polys_in rows l ≡ part w₀ 0 l
+    front-polys = ap (λ (z : List ℕ). polys_in z l) D.kept ∙ polys-in
 
     -- each leaf's polygon has a sheet resistance
-    pub front_sheets : Small (length sheets) (polysIn rows l)
+    pub front_sheets : Small (length sheets) (polys_in rows l)
     front_sheets = subst (Small (length sheets)) (sym front-polys) (subst (λ (z : ℕ). Small z (part w₀ 0 l)) (sym Y.sheets-long) Y.polys)
 
-    pub front-nums : numsIn rows l ≡ tab (numberBy (placeKeys lay cmp (polysIn rows l) bs l)) (4 * l)
-    front-nums = ap (λ (z : List ℕ). numsIn z l) D.kept ∙ (nums-in ∙ ap (λ (z : List ℕ). tab (numberBy (placeKeys lay cmp z bs l)) (4 * l)) (sym front-polys))
+    pub front-nums : nums_in rows l ≡ tab (number_by (place_keys lay cmp (polys_in rows l) bs l)) (4 * l)
+    front-nums = ap (λ (z : List ℕ). nums_in z l) D.kept ∙ (nums-in ∙ ap (λ (z : List ℕ). tab (number_by (place_keys lay cmp z bs l)) (4 * l)) (sym front-polys))
 
-    pub front-mids : midsIn rows l ≡ tab (λ j. first_of (placeKeys lay cmp (polysIn rows l) bs l) (4 * l + j)) (4 * l)
-    front-mids = ap (λ (z : List ℕ). midsIn z l) D.kept ∙ (mids-in ∙ ap (λ (z : List ℕ). tab (λ j. first_of (placeKeys lay cmp z bs l) (4 * l + j)) (4 * l)) (sym front-polys))
+    pub front-mids : mids_in rows l ≡ tab (λ j. first_of (place_keys lay cmp (polys_in rows l) bs l) (4 * l + j)) (4 * l)
+    front-mids = ap (λ (z : List ℕ). mids_in z l) D.kept ∙ (mids-in ∙ ap (λ (z : List ℕ). tab (λ j. first_of (place_keys lay cmp z bs l) (4 * l + j)) (4 * l)) (sym front-polys))

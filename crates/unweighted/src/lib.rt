@@ -4,12 +4,12 @@
 
 ghost use Rattle.std.specs.Prelude.{◌≡◌, List, ◌*◌, ◌≤◌, length, get_or, take};
 ghost use Rattle.std.specs.Float.{nan};
-ghost use Rattle.refusals.specs.Limits.{maxPolygons};
+ghost use Rattle.refusals.specs.Limits.{max_polygons};
 ghost use Rattle.rows.specs.Parts.{part, put, tab};
 ghost use Rattle.rows.specs.Contract.{Small};
 ghost use Rattle.net.specs.Net.{Piece};
 ghost use Rattle.places.specs.Places.{Laid};
-ghost use Rattle.bare.specs.Slots.{Slotted, Upright, Parted, polysIn, numsIn};
+ghost use Rattle.bare.specs.Slots.{Slotted, Upright, Parted, polys_in, nums_in};
 ghost use Rattle.bare.proofs.Bridge.{Board};
 ghost use Rattle.unweighted.specs.Netted.{Placed, Edged, Ready, Counted, Netted};
 
@@ -32,7 +32,7 @@ fn write_places(
     nodes: &mut [i64],
 ) -> usize
     requires laid { Laid boxes.now work.old l }
-    requires components_len { (length components.now ≡ length layers.now) × (length layers.now ≤ maxPolygons) }
+    requires components_len { (length components.now ≡ length layers.now) × (length layers.now ≤ max_polygons) }
     requires small { Small (length layers.now) (part work.old 0 l) }
     requires l_in_bounds { 16 * l ≤ length nodes.old }
     ensures { Placed layers.now components.now boxes.now work.old work.new l result nodes.old nodes.new }
@@ -52,7 +52,7 @@ fn write_slots(
 ) -> usize
     requires upright { Upright boxes.now l }
     requires slotted { Slotted (take (26 * l) work.now) l }
-    requires small { Small (length sheets.now) (polysIn (take (26 * l) work.now) l) }
+    requires small { Small (length sheets.now) (polys_in (take (26 * l) work.now) l) }
     requires parted { Parted (take (26 * l) work.now) work.now l }
     requires l_in_bounds { (16 * l ≤ length ends.old) × (8 * l ≤ length conductances.old) }
     ensures { Edged sheets.now boxes.now (take (26 * l) work.now) l result ends.old ends.new conductances.old conductances.new }
@@ -65,9 +65,9 @@ fn write_slots(
 // The cells. Internal: the places are numbered.
 fn write_cells(sheets: &[f64], rows: &[u64], l: usize, corners: &mut [u64], cells: &mut [f64])
     requires slotted { Slotted rows.now l }
-    requires small { Small (length sheets.now) (polysIn rows.now l) }
+    requires small { Small (length sheets.now) (polys_in rows.now l) }
     requires l_in_bounds { (4 * l ≤ length corners.old) × (l ≤ length cells.old) }
-    ensures { (corners.new ≡ put corners.old 0 (tab (λ i. get_or (numsIn rows.now l) i 0) (4 * l))) × (cells.new ≡ put cells.old 0 (tab (λ v. get_or sheets.now (get_or (polysIn rows.now l) v 0) nan) l)) }
+    ensures { (corners.new ≡ put corners.old 0 (tab (λ i. get_or (nums_in rows.now l) i 0) (4 * l))) × (cells.new ≡ put cells.old 0 (tab (λ v. get_or sheets.now (get_or (polys_in rows.now l) v 0) nan) l)) }
 {
     bare::cells::write_sheets(sheets, rows, l, cells);
     bare::cells::write_corners(rows, l, corners);

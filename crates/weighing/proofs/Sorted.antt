@@ -11,18 +11,18 @@ use lib.Ieee.{Float}
 use Rattle.rows.specs.Parts.{part, put, tab}
 use Rattle.rows.proofs.Parts.{length-put, put-above, part-put-in, lent_back}
 use Rattle.net.specs.First.{first_of}
-use Rattle.node_rows.specs.Rows.{patchesIn, extentAt, Extended}
-use Rattle.weights.specs.Sides.{pairKeys}
+use Rattle.node_rows.specs.Rows.{patches_in, extent_at, Extended}
+use Rattle.weights.specs.Sides.{pair_keys}
 use Rattle.weights.specs.Weigh.{NetRows, Ready}
 
-module _ (nodes : List ℤ) (n : ℕ) (corners : List ℕ) (sheets : List Float) (ends : List ℕ) (k l : ℕ) (N : NetRows nodes n corners sheets ends k l) (w : List ℕ) (X : Extended nodes (patchesIn corners sheets l) w n l) where
+module _ (nodes : List ℤ) (n : ℕ) (corners : List ℕ) (sheets : List Float) (ends : List ℕ) (k l : ℕ) (N : NetRows nodes n corners sheets ends k l) (w : List ℕ) (X : Extended nodes (patches_in corners sheets l) w n l) where
   pub lent-room : 3 * (4 * l + k) ≤ length w
   lent-room = let m = N.most in let x = X.long in omega arith
 
   pub lent-long : length (take (3 * (4 * l + k) - 0) (drop 0 w)) ≡ 3 * (4 * l + k)
   lent-long = length-take-le (3 * (4 * l + k) - 0) (drop 0 w) (omega (arith, length-drop 0 w, lent-room)) ∙ omega arith
 
-  module _ (last : List ℕ) (long : length last ≡ length (take (3 * (4 * l + k) - 0) (drop 0 w))) (first : part last (2 * (4 * l + k)) (4 * l + k) ≡ tab (first_of (pairKeys corners ends l k)) (4 * l + k)) where
+  module _ (last : List ℕ) (long : length last ≡ length (take (3 * (4 * l + k) - 0) (drop 0 w))) (first : part last (2 * (4 * l + k)) (4 * l + k) ≡ tab (first_of (pair_keys corners ends l k)) (4 * l + k)) where
     last-long : length last ≡ 3 * (4 * l + k)
     last-long = long ∙ lent-long
 
@@ -38,7 +38,7 @@ module _ (nodes : List ℤ) (n : ℕ) (corners : List ℕ) (sheets : List Float)
     pub back_long : length back ≡ length w
     back_long = ap length back_is ∙ length-put w 0 last fits
 
-    extent-kept : (q i : ℕ) → extentAt back l q i ≡ extentAt w l q i
+    extent-kept : (q i : ℕ) → extent_at back l q i ≡ extent_at w l q i
     extent-kept q i =
         let m = last-long in
         let s = N.most in

@@ -3,7 +3,7 @@
 
 ghost use Rattle.std.specs.Prelude.{◌≡◌, ◌*◌, ◌≤◌, length, replicate};
 ghost use Rattle.rows.specs.Parts.{put, tab};
-ghost use Rattle.weights.specs.Weigh.{weightIn, NetRows};
+ghost use Rattle.weights.specs.Weigh.{weight_in, NetRows};
 
 // The extents of the nodes stand behind the room in which pairs are sorted, which alone is lent to the sort. The work
 // room is zero afterwards. Internal.
@@ -20,7 +20,7 @@ pub fn apply_weights(
 )
     requires net_rows { NetRows nodes.now n corners.now sheets.now ends.now k l }
     requires l_in_bounds { (64 * l ≤ length work.old) × (k ≤ length g.old) }
-    ensures g_after { g.new ≡ put g.old 0 (tab (weightIn nodes.now n corners.now sheets.now l ends.now g.old) k) }
+    ensures g_after { g.new ≡ put g.old 0 (tab (weight_in nodes.now n corners.now sheets.now l ends.now g.old) k) }
     ensures work_after { work.new ≡ replicate (length work.old) 0 }
 {
     let e = 3 * (4 * l + k);

@@ -3,14 +3,14 @@ ghost use Rattle.std.specs.Prelude.{◌≡◌, ◌+◌, ◌*◌, ◌<◌, ◌≤
 ghost use Rattle.rows.specs.Parts.{part, put, tab};
 ghost use Rattle.net.specs.First.{first_of};
 ghost use Rattle.bare.specs.Slots.{many};
-ghost use Rattle.weights.specs.Sides.{pairEnd, pairKey, pairKeys, Paired};
+ghost use Rattle.weights.specs.Sides.{pair_end, pair_key, pair_keys, Paired};
 
 // End e of pair i.
-#[tactic(auto, using(crate::proofs::Pairs::end_low), unfolding(crate::specs::Sides::pairEnd))]
+#[tactic(auto, using(crate::proofs::Pairs::end_low), unfolding(crate::specs::Sides::pair_end))]
 fn pair_end(corners: &[u64], ends: &[u64], l: usize, k: usize, i: usize, e: usize) -> u64
     requires paired { Paired corners.now ends.now l k }
     requires i_bound { (i < 4 * l + k) × (e < 2) }
-    ensures { (result ≡ pairEnd corners.now ends.now l i e) × (result < many) }
+    ensures { (result ≡ pair_end corners.now ends.now l i e) × (result < many) }
 {
     if i < 4 * l {
         corners[4 * (i / 4) + (i % 4 + e) % 4]
@@ -19,11 +19,11 @@ fn pair_end(corners: &[u64], ends: &[u64], l: usize, k: usize, i: usize, e: usiz
     }
 }
 
-#[tactic(auto, unfolding(crate::specs::Sides::pairKey))]
+#[tactic(auto, unfolding(crate::specs::Sides::pair_key))]
 fn pair_key(corners: &[u64], ends: &[u64], l: usize, k: usize, i: usize) -> u64
     requires paired { Paired corners.now ends.now l k }
     requires i_bound { i < 4 * l + k }
-    ensures { result ≡ pairKey corners.now ends.now l i }
+    ensures { result ≡ pair_key corners.now ends.now l i }
 {
     let a = pair_end(corners, ends, l, k, i, 0);
     let b = pair_end(corners, ends, l, k, i, 1);
@@ -33,7 +33,7 @@ fn pair_key(corners: &[u64], ends: &[u64], l: usize, k: usize, i: usize) -> u64
 fn side_keys(corners: &[u64], ends: &[u64], work: &mut [u64], l: usize, k: usize)
     requires paired { Paired corners.now ends.now l k }
     requires k_in_bounds { 4 * l + k ≤ length work.old }
-    ensures { work.new ≡ put work.old 0 (pairKeys corners.now ends.now l k) }
+    ensures { work.new ≡ put work.old 0 (pair_keys corners.now ends.now l k) }
 {
     let n = 4 * l + k;
     for i in 0..n {
@@ -45,7 +45,7 @@ fn side_keys(corners: &[u64], ends: &[u64], work: &mut [u64], l: usize, k: usize
 pub fn sort_sides(corners: &[u64], ends: &[u64], work: &mut [u64], l: usize, k: usize)
     requires paired { Paired corners.now ends.now l k }
     requires k_in_bounds { 3 * (4 * l + k) ≤ length work.old }
-    ensures { part work.new (2 * (4 * l + k)) (4 * l + k) ≡ tab (first_of (pairKeys corners.now ends.now l k)) (4 * l + k) }
+    ensures { part work.new (2 * (4 * l + k)) (4 * l + k) ≡ tab (first_of (pair_keys corners.now ends.now l k)) (4 * l + k) }
 {
     let n = 4 * l + k;
     let e = 3 * n;

@@ -3,8 +3,8 @@ ghost use Rattle.std.specs.Prelude.{◌≡◌, ◌+◌, ◌*◌, ◌^◌, ◌<�
 ghost use Rattle.std.proofs.Math.Option.{some};
 ghost use Rattle.rows.specs.Parts.{put, tab};
 ghost use Rattle.net.specs.Net.{apart, weight, weighed};
-ghost use Rattle.node_rows.specs.Rows.{nodesIn, patchesIn};
-ghost use Rattle.weights.specs.Weigh.{edge_of, weightIn, faceIn, distanceIn, Ready};
+ghost use Rattle.node_rows.specs.Rows.{nodes_in, patches_in};
+ghost use Rattle.weights.specs.Weigh.{edge_of, weight_in, face_in, distance_in, Ready};
 
 use node_rows::{x_at, y_at};
 
@@ -17,12 +17,12 @@ fn lesser_at(work: &[u64], from: usize, a: usize, b: usize) -> u64
 }
 
 // In half ticks, by the extents up and down of a flat edge, and right and left of any other.
-#[tactic(auto, unfolding(crate::specs::Weigh::faceIn))]
+#[tactic(auto, unfolding(crate::specs::Weigh::face_in))]
 fn face_of(nodes: &[i64], work: &[u64], l: usize, a: usize, b: usize) -> u64
     requires a_in_bounds { (4 * a + 4 ≤ length nodes.now) × (4 * b + 4 ≤ length nodes.now) }
     requires a_bound { (a < 4 * l) × (b < 4 * l) × (64 * l ≤ length work.now) }
-    requires b_bound { faceIn nodes.now work.now l a b < 2 ^ 53 }
-    ensures { result ≡ faceIn nodes.now work.now l a b }
+    requires b_bound { face_in nodes.now work.now l a b < 2 ^ 53 }
+    ensures { result ≡ face_in nodes.now work.now l a b }
 {
     if y_at(nodes, a) == y_at(nodes, b) {
         lesser_at(work, 44 * l, a, b) + lesser_at(work, 48 * l, a, b)
@@ -32,10 +32,10 @@ fn face_of(nodes: &[i64], work: &[u64], l: usize, a: usize, b: usize) -> u64
 }
 
 // In ticks.
-#[tactic(auto, unfolding(crate::specs::Weigh::distanceIn))]
+#[tactic(auto, unfolding(crate::specs::Weigh::distance_in))]
 fn distance_of(nodes: &[i64], a: usize, b: usize) -> u64
     requires { (4 * a + 4 ≤ length nodes.now) × (4 * b + 4 ≤ length nodes.now) }
-    ensures { result ≡ distanceIn nodes.now a b }
+    ensures { result ≡ distance_in nodes.now a b }
 {
     if y_at(nodes, a) == y_at(nodes, b) {
         x_at(nodes, a).abs_diff(x_at(nodes, b))
@@ -73,7 +73,7 @@ fn weigh_edge(
 ) -> f64
     requires ready { Ready nodes.now n corners.now sheets.now ends.now k work.now l }
     requires j_lt_k { j < k }
-    ensures { result ≡ (weighed (nodesIn nodes.now n) (patchesIn corners.now sheets.now l) (edge_of ends.now j g)).g }
+    ensures { result ≡ (weighed (nodes_in nodes.now n) (patches_in corners.now sheets.now l) (edge_of ends.now j g)).g }
 {
     let m = 4 * l;
     let from = 2 * (m + k) + m;
@@ -106,7 +106,7 @@ pub fn weigh_edges(
 )
     requires ready { Ready nodes.now n corners.now sheets.now ends.now k work.now l }
     requires k_in_bounds { k ≤ length g.old }
-    ensures { g.new ≡ put g.old 0 (tab (weightIn nodes.now n corners.now sheets.now l ends.now g.old) k) }
+    ensures { g.new ≡ put g.old 0 (tab (weight_in nodes.now n corners.now sheets.now l ends.now g.old) k) }
 {
     for j in 0..k {
         g[j] = weigh_edge(nodes, n, corners, sheets, ends, k, work, l, j, g[j]);

@@ -3,7 +3,7 @@
 
 ghost use Rattle.std.specs.Prelude.{◌≡◌, length};
 ghost use Rattle.board.specs.Rows.{rows_of};
-ghost use Rattle.writing.specs.Written.{writeSaid, writeSays, writeLeaves};
+ghost use Rattle.writing.specs.Written.{write_said, write_says, write_leaves};
 
 use record::Settings;
 use refusals::Refusal;
@@ -23,10 +23,10 @@ pub fn write(
     splits: &[u64],
     out: &mut [u8],
 ) -> Result<usize, Refusal>
-    ensures result_value { writeSaid result
-        ≡ writeSays (rows_of layers.now polygons.now sheets.now points.now splits.now) (length out.old) }
+    ensures result_value { write_said result
+        ≡ write_says (rows_of layers.now polygons.now sheets.now points.now splits.now) (length out.old) }
     ensures out_after { out.new
-        ≡ writeLeaves settings (rows_of layers.now polygons.now sheets.now points.now splits.now) out.old }
+        ≡ write_leaves settings (rows_of layers.now polygons.now sheets.now points.now splits.now) out.old }
 {
     let shaped = (polygons.len() == sheets.len()) & put::add_up(polygons, points.len());
     if !shaped {

@@ -3,8 +3,8 @@ ghost use Rattle.std.specs.Prelude.{◌≡◌, ◌++◌, true, ◌+◌, ◌*◌,
 ghost use Rattle.std.proofs.lemmas.List.Edits.{sets};
 ghost use Rattle.std.specs.Int.{w64};
 ghost use Rattle.std.proofs.Common.{of_z};
-ghost use Rattle.board.specs.Writing.{bytes, each, entryBytes, pointBytes, polygonBytes};
-ghost use Rattle.writing.specs.Boards.{entriesOf, ringOf, sheetBits, polygonsOf, addUp};
+ghost use Rattle.board.specs.Writing.{bytes, each, entry_bytes, point_bytes, polygon_bytes};
+ghost use Rattle.writing.specs.Boards.{entries_of, ring_of, sheet_bits, polygons_of, add_up};
 
 // A number in `width` bytes, the last of them first. What is above them is lost.
 #[tactic(auto, using(crate::proofs::Stores::bytes_turn, crate::proofs::Stores::bytes_none))]
@@ -41,7 +41,7 @@ fn put_entry(out: &mut [u8], at: usize, layer: u64, cell: u64)
 #[tactic(auto, using(crate::proofs::Turns::entries_turn, crate::proofs::Turns::entries_end))]
 pub fn put_layers(out: &mut [u8], start: usize, row: &[[u64; 2]])
     requires { start + 10 * length row.now ≤ length out.old }
-    ensures { out.new ≡ sets out.old start (each entryBytes (entriesOf row.now)) }
+    ensures { out.new ≡ sets out.old start (each entry_bytes (entries_of row.now)) }
 {
     for (i, entry) in row.iter().enumerate() {
         put_entry(out, start + 10 * i, entry[0], entry[1]);
@@ -60,7 +60,7 @@ fn put_point(out: &mut [u8], at: usize, x: i64, y: i64)
 #[tactic(auto, using(crate::proofs::Turns::ring_end))]
 pub fn put_ring(out: &mut [u8], start: usize, row: &[[i64; 2]])
     requires { start + 16 * length row.now ≤ length out.old }
-    ensures { out.new ≡ sets out.old start (each pointBytes (ringOf row.now)) }
+    ensures { out.new ≡ sets out.old start (each point_bytes (ring_of row.now)) }
 {
     for (i, point) in row.iter().enumerate() {
         put_point(out, start + 16 * i, point[0], point[1]);
@@ -69,7 +69,7 @@ pub fn put_ring(out: &mut [u8], start: usize, row: &[[i64; 2]])
 
 #[tactic(auto, using(crate::proofs::Stores::eq_self))]
 fn sheet_bits(r: f64) -> u64
-    ensures { result ≡ sheetBits r }
+    ensures { result ≡ sheet_bits r }
 {
     if r.is_nan() { 0 } else { r.to_bits() }
 }
@@ -94,9 +94,9 @@ pub fn put_polygons(
     points: &[[i64; 2]],
 )
     requires polygons_len { length polygons.now ≡ length sheets.now }
-    requires points_value { addUp polygons.now (length points.now) ≡ true }
+    requires points_value { add_up polygons.now (length points.now) ≡ true }
     requires points_in_bounds { start + 16 * length polygons.now + 16 * length points.now ≤ length out.old }
-    ensures { out.new ≡ sets out.old start (each polygonBytes (polygonsOf polygons.now sheets.now points.now)) }
+    ensures { out.new ≡ sets out.old start (each polygon_bytes (polygons_of polygons.now sheets.now points.now)) }
 {
     let mut at = start;
     let mut left = points;
@@ -113,7 +113,7 @@ pub fn put_polygons(
 // Whether the point counts add up to so many points.
 #[tactic(auto, using(crate::proofs::Turns::add_short, crate::proofs::Turns::add_next, crate::proofs::Turns::add_end))]
 pub fn add_up(polygons: &[[u64; 3]], points: usize) -> bool
-    ensures { result ≡ addUp polygons.now points }
+    ensures { result ≡ add_up polygons.now points }
 {
     let mut left = points;
     for p in polygons {
@@ -150,12 +150,12 @@ pub fn put_lists(
     splits: &[u64],
 )
     requires polygons_len { length polygons.now ≡ length sheets.now }
-    requires points_value { addUp polygons.now (length points.now) ≡ true }
+    requires points_value { add_up polygons.now (length points.now) ≡ true }
     requires splits_in_bounds { 22 + 10 * length layers.now + 16 * length polygons.now + 16 * length points.now + 4
         * length splits.now ≤ length out.old }
     ensures { out.new
-        ≡ sets out.old 16 ((bytes 2 (length layers.now) ++ each entryBytes (entriesOf layers.now)) ++ ((bytes 2
-        (length polygons.now) ++ each polygonBytes (polygonsOf polygons.now sheets.now points.now)) ++ (bytes 2
+        ≡ sets out.old 16 ((bytes 2 (length layers.now) ++ each entry_bytes (entries_of layers.now)) ++ ((bytes 2
+        (length polygons.now) ++ each polygon_bytes (polygons_of polygons.now sheets.now points.now)) ++ (bytes 2
         (length splits.now) ++ each (bytes 4) splits.now))) }
 {
     put(out, 16, 2, layers.len() as u64);

@@ -1,4 +1,4 @@
-//! The ranges of document 01's table.
+//! The ranges of the rules' table.
 
 /// Coordinates reach from minus this to this, in ticks.
 pub const COORDINATE: i64 = 1 << 36;

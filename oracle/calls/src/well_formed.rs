@@ -1,4 +1,4 @@
-//! Document 01's "Well-formed table", clause by clause.
+//! The rules' "Well-formed table", clause by clause.
 
 use crate::limits::{coordinate_in_range, POLYGONS, SLOTS, WIDEST_LEVEL};
 use crate::table::{Slot, NO_CELL, WIDTH};

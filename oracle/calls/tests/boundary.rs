@@ -1,4 +1,4 @@
-//! Document 01's boundary cases P1 to P8, asked of the original.
+//! The rules' boundary cases P1 to P8, asked of the original.
 
 mod common;
 

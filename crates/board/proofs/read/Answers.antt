@@ -8,8 +8,8 @@ use Rattle.record.specs.declared.Settings.{Settings}
 use Rattle.record.specs.declared.Counts.{Counts}
 use Rattle.record.specs.Fields.{value}
 use Rattle.record.specs.Board.{board, entries, shapes, ids}
-use Rattle.board.specs.Rows.{Rows, rows_of, entryRow, polygonRow, sheetOf, pointRow, rings}
-use Rattle.board.specs.Reading.{hasRoom, numbers, says}
+use Rattle.board.specs.Rows.{Rows, rows_of, entry_row, polygon_row, sheet_of, point_row, rings}
+use Rattle.board.specs.Reading.{has_room, numbers, says}
 use Rattle.refusals.specs.Said.{accepted}
 use Rattle.board.specs.Copying.{items_of, end_of}
 use Rattle.board.proofs.Parts.{accepted-board, refused-board, reading-refused, reading-no-room, Plan, plan, filled-by}
@@ -50,7 +50,7 @@ returns-then-not-room-clause-result_value c =
     let a = c.args in
     let rows = rows_of a.layers.now a.polygons.now a.sheets.now a.points.now a.splits.now in
     let b = accepted-board (board a.s.now) c.in_ok-answer.ensures.value in
-    let e = reading-no-room a.s.now rows b.2 (ap (hasRoom rows) (sym b.4) ∙ c.if-not-room.true) in
+    let e = reading-no-room a.s.now rows b.2 (ap (has_room rows) (sym b.4) ∙ c.if-not-room.true) in
     rw e refl
 
 pub returns-then-not-room-clause-splits_after : goal.returns-then-not-room-clause-splits_after
@@ -58,7 +58,7 @@ returns-then-not-room-clause-splits_after c =
     let a = c.args in
     let rows = rows_of a.layers.now a.polygons.now a.sheets.now a.points.now a.splits.now in
     let b = accepted-board (board a.s.now) c.in_ok-answer.ensures.value in
-    let e = reading-no-room a.s.now rows b.2 (ap (hasRoom rows) (sym b.4) ∙ c.if-not-room.true) in
+    let e = reading-no-room a.s.now rows b.2 (ap (has_room rows) (sym b.4) ∙ c.if-not-room.true) in
     rw e refl
 
 pub copy_layers-at-requires-clause-sound : goal.copy_layers-at-requires-clause-sound
@@ -124,8 +124,8 @@ returns-clause-splits_after c =
     let read = p.read in
     rw read
     (filled-by rows p.whole
-    (c.copy_layers-at.ensures.1 ∙ ap (λ o. sets a.layers.now 0 (map entryRow (items_of o))) p.layers)
-    (after.polygons_after ∙ ap (λ o. sets a.polygons.now 0 (map polygonRow (items_of o))) polygons)
-    (after.sheets_after ∙ ap (λ o. sets a.sheets.now 0 (map sheetOf (items_of o))) polygons)
-    (after.points_after ∙ ap (λ o. sets a.points.now 0 (map pointRow (rings (items_of o)))) polygons)
+    (c.copy_layers-at.ensures.1 ∙ ap (λ o. sets a.layers.now 0 (map entry_row (items_of o))) p.layers)
+    (after.polygons_after ∙ ap (λ o. sets a.polygons.now 0 (map polygon_row (items_of o))) polygons)
+    (after.sheets_after ∙ ap (λ o. sets a.sheets.now 0 (map sheet_of (items_of o))) polygons)
+    (after.points_after ∙ ap (λ o. sets a.points.now 0 (map point_row (rings (items_of o)))) polygons)
     (c.copy_splits.ensures.1 ∙ ap (λ o. sets a.splits.now 0 (items_of o)) splits))

@@ -1,14 +1,14 @@
 use Rattle.std.proofs.Common.{◌≡◌, Bool, ◌&&◌, [], arith, sym}
 use Rattle.refusals.specs.Said.{accepted}
 use Rattle.build.specs.Board.{Board, board, polygons}
-use Rattle.build.specs.Says.{settingsOk, numbersOk, listOk}
+use Rattle.build.specs.Says.{settings_ok, numbers_ok, list_ok}
 use Rattle.build.proofs.Fitting.{tabled, room_fits, sheets-fit, points-fit, fit}
 use Rattle.build.proofs.build.Goals as goal
 
 -- what the test of the settings says
-settled : (b : Board) (x y : Bool) {r : Bool} → x ≡ numbersOk b.settings (polygons b) → y ≡ listOk b.list →
-    (x && y) ≡ r → settingsOk b ≡ r
-unfolding settingsOk
+settled : (b : Board) (x y : Bool) {r : Bool} → x ≡ numbers_ok b.settings (polygons b) → y ≡ list_ok b.list →
+    (x && y) ≡ r → settings_ok b ≡ r
+unfolding settings_ok
 settled b x y e f g = rw (← e, ← f) g
 
 pub judge-requires : goal.judge-requires

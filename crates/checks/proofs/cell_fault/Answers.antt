@@ -1,7 +1,7 @@
 use borrow.Author.Tests.{eq-eqb}
 use Rattle.table.specs.Slots.{cell_at}
-use Rattle.table.specs.Leaves.{leafAt}
-use Rattle.sound_net.specs.Nets.{nodeCount}
+use Rattle.table.specs.Leaves.{leaf_at}
+use Rattle.sound_net.specs.Nets.{node_count}
 use Rattle.checks.proofs.Walking.{near-cell, cell_same}
 use Rattle.checks.proofs.cell_fault.Goals as goal
 
@@ -9,10 +9,10 @@ pub leaf_fault-requires-clause-near : goal.leaf_fault-requires-clause-near
 leaf_fault-requires-clause-near c = rw c.cell_at-c.ensures (near-cell c.args.t.now c.args.i)
 
 pub returns : goal.returns
-unfolding leafAt
+unfolding leaf_at
 returns c =
     let s = c.args in
-    let n = nodeCount s.nodes.now in
+    let n = node_count s.nodes.now in
     let w = s.work.now in
     let leaf = eq-eqb _ _ (rw c.cell_at-c.ensures at c.if-c-ne-NO_CELL.false) in
     rw (c.leaf_fault.ensures, c.find-class.ensures.found, c.class_of-k.ensures, c.cell_at-c.ensures)

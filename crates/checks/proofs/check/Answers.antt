@@ -1,7 +1,7 @@
 -- What the rows' tests say, for the calls after them.
 use mathlib.Core.Path.{sym, ◌∙◌}
 use Rattle.table.proofs.Shape.{formed-within}
-use Rattle.sound_net.specs.Nets.{netOf}
+use Rattle.sound_net.specs.Nets.{net_of}
 use Rattle.checks.proofs.Checking.{roomy-facts, ranged, placed}
 use Rattle.checks.proofs.check.Goals as goal
 
@@ -11,7 +11,7 @@ polygons_fit-requires c = formed-within _ _ _ (sym c.well_formed-2.ensures ∙ c
 pub index-requires-clause-ranged : goal.index-requires-clause-ranged
 index-requires-clause-ranged c =
     let a = c.args in
-    ranged (netOf a.nodes.now a.ends.now a.conductances.now a.corners.now a.sheets.now)
+    ranged (net_of a.nodes.now a.ends.now a.conductances.now a.corners.now a.sheets.now)
     (sym c.is_sound.ensures ∙ c.if-not-is_sound.false) (roomy-facts _ _ _ c.requires).0
 
 pub index-requires-clause-ends_in_bounds : goal.index-requires-clause-ends_in_bounds
@@ -24,7 +24,7 @@ walk-fault-requires-clause-n_in_bounds c =
 pub walk-fault-requires-clause-ranged : goal.walk-fault-requires-clause-ranged
 walk-fault-requires-clause-ranged c =
     let a = c.args in
-    let r = ranged (netOf a.nodes.now a.ends.now a.conductances.now a.corners.now a.sheets.now)
+    let r = ranged (net_of a.nodes.now a.ends.now a.conductances.now a.corners.now a.sheets.now)
     (sym c.is_sound.ensures ∙ c.if-not-is_sound.false) (roomy-facts _ _ _ c.requires).0 in
     (r, c.index.ensures)
 

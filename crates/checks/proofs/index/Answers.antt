@@ -3,7 +3,7 @@ use mathlib.Core.Path.{◌≡◌, subst}
 use native.Mathlib.Omega.{arith}
 use native.Mathlib.Nat.{zero-add}
 use Rattle.std.proofs.Common.{ℕ, ◌+◌, ◌*◌}
-use Rattle.sound_net.specs.Nets.{nodeCount}
+use Rattle.sound_net.specs.Nets.{node_count}
 use Rattle.rows.specs.Parts.{part}
 use Rattle.checks.specs.Keys.{finer}
 use Rattle.checks.specs.Rooms.{Made}
@@ -13,7 +13,7 @@ use Rattle.checks.proofs.index.Goals as goal
 pub returns : goal.returns
 returns c =
     let nodes = c.args.nodes.now in
-    let n = nodeCount nodes in
+    let n = node_count nodes in
     let w₁ = c.make_classes.new.work in
     let w₂ = c.make_finer.new.work in
     let w₃ = c.make_finer-2.new.work in

@@ -1,7 +1,7 @@
 use mathlib.Core.Path.{ap, ◌∙◌}
 use native.Mathlib.Omega.{arith}
 use Rattle.std.proofs.Common.{◌+◌, ◌*◌, ◌≤◌, length}
-use Rattle.sound_net.specs.Nets.{nodeCount}
+use Rattle.sound_net.specs.Nets.{node_count}
 use Rattle.rows.specs.Parts.{part, put}
 use Rattle.checks.specs.Keys.{finer}
 use Rattle.checks.proofs.Making.{made_of, lasts-small, finer-is, finer-long}
@@ -16,7 +16,7 @@ put_finer-requires-clause-small c =
 pub returns : goal.returns
 returns c =
     let a = c.args in
-    let n = nodeCount a.nodes.now in
+    let n = node_count a.nodes.now in
     let p = c.requires.nodes_in_bounds in
     let room : a.at + 3 * n ≤ length a.work.now = omega arith in
     let there : a.at + 3 * n + 3 * n ≤ length a.work.now = omega arith in

@@ -4,12 +4,12 @@ use mir.Facts.{to_z-of_z}
 use Rattle.std.proofs.Common.{rules, ℕ, ◌+◌, ◌*◌, ◌<◌, ◌≤◌, ℤ, pos, List, length, get_or, w64, FitsSigned, to_z, of_z}
 use Rattle.cell.specs.Ticks.{off}
 use Rattle.cell.proofs.Offsets.{off-le}
-use Rattle.sound_net.specs.Nets.{nodeCount}
+use Rattle.sound_net.specs.Nets.{node_count}
 use Rattle.rows.specs.Parts.{part, put, tab}
 use Rattle.rows.specs.Contract.{Small}
 use Rattle.rows.proofs.Parts.{length_part, part_at}
 use Rattle.rows.proofs.Fill.{fill_begins, fill-turn, fill-below}
-use Rattle.checks.specs.Keys.{wide, maxNodes}
+use Rattle.checks.specs.Keys.{wide, max_nodes}
 use Rattle.checks.proofs.put_finer.Goals as goal
 
 -- the key of node j
@@ -18,17 +18,17 @@ keyed work from nodes f = λ j. get_or work (from + j) 0 * wide + off (get_or no
 
 -- what is read in a turn was not written yet
 module _ (nodes : List ℤ) (f from to : ℕ) (w₀ w : List ℕ) (i : ℕ)
-    (apart : from + nodeCount nodes ≤ to) (room : to + nodeCount nodes ≤ length w₀)
-    (h : i < nodeCount nodes) (e : w ≡ put w₀ to (tab (keyed w₀ from nodes f) i)) where
+    (apart : from + node_count nodes ≤ to) (room : to + node_count nodes ≤ length w₀)
+    (h : i < node_count nodes) (e : w ≡ put w₀ to (tab (keyed w₀ from nodes f) i)) where
   first-is : get_or w (from + i) 0 ≡ get_or w₀ (from + i) 0
   first-is =
-      fill-below 0 w₀ to (nodeCount nodes) (keyed w₀ from nodes f) room w i e (omega arith) (from + i) (omega arith)
+      fill-below 0 w₀ to (node_count nodes) (keyed w₀ from nodes f) room w i e (omega arith) (from + i) (omega arith)
 
-  first-low : Small maxNodes (part w₀ from (nodeCount nodes)) → get_or w (from + i) 0 < maxNodes
+  first-low : Small max_nodes (part w₀ from (node_count nodes)) → get_or w (from + i) 0 < max_nodes
   first-low small =
-      let l = length_part w₀ from (nodeCount nodes) (omega arith) in
+      let l = length_part w₀ from (node_count nodes) (omega arith) in
       let b = small i (omega arith) in
-      let p = part_at w₀ from (nodeCount nodes) i 0 h in
+      let p = part_at w₀ from (node_count nodes) i 0 h in
       let q = first-is in
       omega arith
 

@@ -3,7 +3,7 @@ use mathlib.Core.Path.{sym, ap, subst, ◌∙◌}
 use native.Mathlib.Omega.{arith}
 use lib.IntN.{ℤ}
 use borrow.Author.Tests.{ne_eqb}
-use Rattle.cell.specs.Cells.{noCell}
+use Rattle.cell.specs.Cells.{no_cell}
 use Rattle.table.specs.Slots.{cell_at}
 use Rattle.table.specs.Mesh.{Cell, table}
 use Rattle.table.proofs.Cells.{length-table, at_table}
@@ -28,7 +28,7 @@ returns-then-first_at-ne-NO_CELL c =
     let e = kids-of c.args.t.now c.args.n c.args.a (omega (arith, c.requires.stop_le_n)) in
     still balancing c.args.k c.args.m c.args.t.now c.args.n c.args.a c.args.stop c.requires.well_formed
     (row-none balancing c.args.k T c.args.a c.args.stop
-    (λ b h. no-leaf balancing c.args.k T c.args.a b (e ∙ ne_eqb (cell_at c.args.t.now c.args.a).first noCell
+    (λ b h. no-leaf balancing c.args.k T c.args.a b (e ∙ ne_eqb (cell_at c.args.t.now c.args.a).first no_cell
     (λ q. c.if-first_at-ne-NO_CELL.true (c.first_at.ensures ∙ q)))))
 
 pub loop-b-init : goal.loop-b-init

@@ -4,12 +4,12 @@ use native.Mathlib.Omega.{arith}
 use lib.IntN.{ℤ}
 use Rattle.std.specs.Prelude.{Some}
 use borrow.Author.Tests.{eq-eqb, ne_eqb}
-use Rattle.cell.specs.Cells.{noCell}
+use Rattle.cell.specs.Cells.{no_cell}
 use Rattle.table.specs.Slots.{cell_at}
 use Rattle.table.specs.Mesh.{Cell, table}
 use Rattle.table.proofs.Cells.{length-table, at_table}
 use Rattle.table.proofs.Meshes.{length-split}
-use Rattle.coarsest.specs.Passes.{conforming, due, splitIf}
+use Rattle.coarsest.specs.Passes.{conforming, due, split_if}
 use Rattle.coarsest.specs.Sweep.{row}
 use Rattle.coarsest.proofs.Loops.{no-leaf}
 use Rattle.coarsest.proofs.Rows.{row-none, row-finest, conform-row}
@@ -22,11 +22,11 @@ use Rattle.even.proofs.conform_row.Goals as goal
 -- the row of pairs by what the search found
 asked : (k : ℕ) (t : List ℤ) (n a stop : ℕ) (r v : Bool) → a < n → stop ≤ n
     → Found (λ (b : ℕ). due k (table t n) b a) (λ (b : ℕ). b < n) stop r → r ≡ v
-    → row conforming k (table t n) a stop ≡ splitIf v (table t n) a
+    → row conforming k (table t n) a stop ≡ split_if v (table t n) a
 asked k t n a stop r v ha hs x e =
     let T = table t n in
     conform-row k T a (rw (length-table t n) ha) stop
-    ∙ ap (λ (b : Bool). splitIf b T a) (sym (found-any (λ (b : ℕ). due k T b a) n stop r hs x) ∙ e)
+    ∙ ap (λ (b : Bool). split_if b T a) (sym (found-any (λ (b : ℕ). due k T b a) n stop r hs x) ∙ e)
 
 pub returns-then-first_at-ne-NO_CELL : goal.returns-then-first_at-ne-NO_CELL
 returns-then-first_at-ne-NO_CELL c =
@@ -34,7 +34,7 @@ returns-then-first_at-ne-NO_CELL c =
     let e = kids-of c.args.t.now c.args.n c.args.a (omega (arith, c.requires.stop_le_n)) in
     still conforming c.args.k c.args.m c.args.t.now c.args.n c.args.a c.args.stop c.requires.well_formed
     (row-none conforming c.args.k T c.args.a c.args.stop
-    (λ b h. no-leaf conforming c.args.k T c.args.a b (e ∙ ne_eqb (cell_at c.args.t.now c.args.a).first noCell
+    (λ b h. no-leaf conforming c.args.k T c.args.a b (e ∙ ne_eqb (cell_at c.args.t.now c.args.a).first no_cell
     (λ q. c.if-first_at-ne-NO_CELL.true (c.first_at.ensures ∙ q)))))
 
 pub returns-then-m-level_at : goal.returns-then-m-level_at

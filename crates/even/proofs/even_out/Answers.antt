@@ -1,7 +1,7 @@
 use native.Mathlib.Omega.{arith}
 use mathlib.Core.Path.{refl}
 use Rattle.table.specs.Mesh.{table}
-use Rattle.even.specs.Parts.{engineOf}
+use Rattle.even.specs.Parts.{engine_of}
 use Rattle.even.proofs.Watching.{watched-all}
 use Rattle.even.proofs.even_out.Goals as goal
 
@@ -9,6 +9,6 @@ pub passes-requires-clause-marks_len : goal.passes-requires-clause-marks_len
 passes-requires-clause-marks_len c =
     let w = c.requires.well_formed in (
       (refl, c.requires.k_bound),
-      watched-all (engineOf c.args.conforms) c.args.k (table c.args.t.now c.args.n) c.args.n 2048
+      watched-all (engine_of c.args.conforms) c.args.k (table c.args.t.now c.args.n) c.args.n 2048
           (omega (arith, w.count, w.slots)),
     )

@@ -4,7 +4,7 @@ use native.Mathlib.Omega.{arith}
 use Rattle.table.specs.Mesh.{table}
 use Rattle.table.proofs.Cells.{length-table}
 use Rattle.coarsest.specs.Sweep.{rows}
-use Rattle.even.specs.Parts.{engineOf}
+use Rattle.even.specs.Parts.{engine_of}
 use Rattle.even.proofs.Turns.{on-start, on-as, on_grew}
 use Rattle.even.proofs.Descents.{indexed-rows}
 use Rattle.even.proofs.Watching.{rows-to}
@@ -13,7 +13,7 @@ use Rattle.even.proofs.even_pass.Goals as goal
 
 pub loop-a-init : goal.loop-a-init
 loop-a-init c =
-    let E = engineOf c.args.conforms in
+    let E = engine_of c.args.conforms in
     let T = table c.args.t.now c.args.n in
     let g = c.next_row-a.ensures in (
       g.0.1,
@@ -29,7 +29,7 @@ even_row-requires-clause-top_le_n c =
     let l = c.loop-a in
     let m = l.invariant.1.more in (
       (omega (arith, c.requires.top_le_n.0.0), c.requires.top_le_n.0.1),
-      indexed-rows (engineOf c.args.conforms) c.args.k c.args.m c.args.top c.args.n c.args.boxes.now
+      indexed-rows (engine_of c.args.conforms) c.args.k c.args.m c.args.top c.args.n c.args.boxes.now
           (table c.args.t.now c.args.n) c.args.t.now l.t c.args.n l.count l.a
           (rw (length-table c.args.t.now c.args.n) (omega arith)) c.requires.top_le_n.1 l.invariant.1 l.invariant.0,
     )
@@ -38,12 +38,12 @@ pub returns-in_err-count : goal.returns-in_err-count
 returns-in_err-count c =
     let l = c.loop-a in
     rw c.from_residual.ensures
-    (pass-over (engineOf c.args.conforms) c.args.k c.args.m c.args.t.now c.args.n l.t l.count l.a l.invariant.1
+    (pass-over (engine_of c.args.conforms) c.args.k c.args.m c.args.t.now c.args.n l.t l.count l.a l.invariant.1
     c.loop-a-test.true _ c.in_err-count.ensures)
 
 pub loop-a-preserved : goal.loop-a-preserved
 loop-a-preserved c =
-    let E = engineOf c.args.conforms in
+    let E = engine_of c.args.conforms in
     let T = table c.args.t.now c.args.n in
     let l = c.loop-a in
     let g = c.next_row-a-in-loop-a.ensures in (
@@ -57,7 +57,7 @@ loop-a-preserved c =
 
 pub returns : goal.returns
 returns c =
-    let E = engineOf c.args.conforms in
+    let E = engine_of c.args.conforms in
     let q : c.loop-a.a ≡ c.args.n = omega (arith, c.loop-a.invariant.0, c.loop-a-test.false) in
     on_grew _ _ _ _ _ _
     (on-as _ _ _ _ _ _ _

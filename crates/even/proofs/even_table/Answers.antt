@@ -8,29 +8,29 @@ use Rattle.table.proofs.Cells.{length-table}
 use Rattle.table.proofs.Wellformed.{formed-facts, facts-formed}
 use Rattle.coarsest.specs.Passes.{evened}
 use Rattle.coarsest.proofs.Evened.{evened-grown}
-use Rattle.even.specs.Rows.{rowOf}
-use Rattle.even.specs.Parts.{engineOf}
-use Rattle.even.specs.Even.{evenSays, evenRow}
+use Rattle.even.specs.Rows.{row_of}
+use Rattle.even.specs.Parts.{engine_of}
+use Rattle.even.specs.Even.{even_says, even_row}
 use Rattle.even.proofs.Rowing.{row_is}
 use Rattle.even.proofs.Undoing.{undone-formed}
-use Rattle.even.proofs.Demand.{demand-done, demand-full, demand-bad}
+use Rattle.even.proofs.Ending.{ends-done, ends-full, ends-bad}
 use Rattle.even.proofs.even_table.Goals as goal
 
 pub returns-then-not-well_formed-clause-result_value :
     goal.returns-then-not-well_formed-clause-result_value
-unfolding evenSays
+unfolding even_says
 returns-then-not-well_formed-clause-result_value c =
     let no = sym c.well_formed-2.ensures ∙ c.if-not-well_formed.true in
     sym (rw no)
 
 pub returns-then-not-well_formed-clause-t_after : goal.returns-then-not-well_formed-clause-t_after
-unfolding evenRow
+unfolding even_row
 returns-then-not-well_formed-clause-t_after c = rw (← returns-then-not-well_formed-clause-result_value c)
 
-pub returns-then-not-well_formed-clause-demand_three :
-    goal.returns-then-not-well_formed-clause-demand_three
-returns-then-not-well_formed-clause-demand_three c =
-    demand-bad _ _ _ _
+pub returns-then-not-well_formed-clause-coarsest :
+    goal.returns-then-not-well_formed-clause-coarsest
+returns-then-not-well_formed-clause-coarsest c =
+    ends-bad _ _ _ _
     (λ w. true≢false (sym (facts-formed _ _ _ w) ∙ sym c.well_formed-2.ensures ∙ c.if-not-well_formed.true))
 
 pub even_out-requires-clause-well_formed : goal.even_out-requires-clause-well_formed
@@ -44,7 +44,7 @@ undo-requires c =
 
 pub returns-in_default-clause-result_value :
     goal.returns-in_default-clause-result_value
-unfolding evenSays
+unfolding even_says
 returns-in_default-clause-result_value c =
     let yes = sym c.well_formed-2.ensures ∙ c.if-not-well_formed.false in
     sym (rw (yes, lt-leb _ _ (c.in_default.ensures.full refl)))
@@ -56,19 +56,19 @@ same c =
     ∙ undone-formed _ _ _ (formed-facts _ _ _ (sym c.well_formed-2.ensures ∙ c.if-not-well_formed.false))
 
 pub returns-in_default-clause-t_after : goal.returns-in_default-clause-t_after
-unfolding evenRow
+unfolding even_row
 returns-in_default-clause-t_after c = rw (← returns-in_default-clause-result_value c) (same c)
 
-pub returns-in_default-clause-demand_three :
-    goal.returns-in_default-clause-demand_three
-returns-in_default-clause-demand_three c =
-    demand-full (engineOf c.args.conforms) c.args.k c.args.head.max_level c.args.t.now _ c.args.head.count
+pub returns-in_default-clause-coarsest :
+    goal.returns-in_default-clause-coarsest
+returns-in_default-clause-coarsest c =
+    ends-full (engine_of c.args.conforms) c.args.k c.args.head.max_level c.args.t.now _ c.args.head.count
     (formed-facts _ _ _ (sym c.well_formed-2.ensures ∙ c.if-not-well_formed.false))
     (c.in_default.ensures.full refl) (same c)
 
 -- the row has as many cells as the passes end in
 as_many : (c : goal.In-Some)
-    → length (evened (engineOf c.args.conforms) c.args.k c.args.head.max_level (table c.args.t.now c.args.head.count))
+    → length (evened (engine_of c.args.conforms) c.args.k c.args.head.max_level (table c.args.t.now c.args.head.count))
     ≡ c.in-Some.count
 as_many c =
     ap length (sym (c.in-Some.ensures.cells c.in-Some.count refl))
@@ -83,23 +83,23 @@ room c =
 pub overflow_sub-result : goal.overflow_sub-result
 overflow_sub-result c =
     let w = formed-facts _ _ _ (sym c.well_formed-2.ensures ∙ c.if-not-well_formed.false) in
-    let q = evened-grown (engineOf c.args.conforms) c.args.k _ _ w.cells in
+    let q = evened-grown (engine_of c.args.conforms) c.args.k _ _ w.cells in
     omega (arith, q, as_many c, length-table c.args.t.now c.args.head.count)
 
 pub returns-clause-result_value : goal.returns-clause-result_value
-unfolding evenSays
+unfolding even_says
 returns-clause-result_value c =
     let yes = sym c.well_formed-2.ensures ∙ c.if-not-well_formed.false in
     sym (rw (yes, as_many c, le-leb _ _ (room c)))
 
 pub returns-clause-t_after : goal.returns-clause-t_after
-unfolding evenRow
+unfolding even_row
 returns-clause-t_after c =
     let g = c.in-Some.ensures in
-    rw (← returns-clause-result_value c) (row_is _ _ _ (g.formed _ refl) ∙ ap₂ rowOf (g.cells _ refl) g.size)
+    rw (← returns-clause-result_value c) (row_is _ _ _ (g.formed _ refl) ∙ ap₂ row_of (g.cells _ refl) g.size)
 
-pub returns-clause-demand_three : goal.returns-clause-demand_three
-returns-clause-demand_three c =
-    demand-done (engineOf c.args.conforms) c.args.k c.args.head.max_level c.args.t.now _ c.args.head.count
+pub returns-clause-coarsest : goal.returns-clause-coarsest
+returns-clause-coarsest c =
+    ends-done (engine_of c.args.conforms) c.args.k c.args.head.max_level c.args.t.now _ c.args.head.count
     (formed-facts _ _ _ (sym c.well_formed-2.ensures ∙ c.if-not-well_formed.false)) _
     (c.in-Some.ensures.cells _ refl) (room c)

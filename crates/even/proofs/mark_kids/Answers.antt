@@ -3,7 +3,7 @@ use native.Mathlib.Omega.{arith}
 use mathlib.Core.Path.{ap, subst}
 use Rattle.table.specs.Mesh.{Cell, at, table}
 use Rattle.table.proofs.Cells.{length-table, at_table}
-use Rattle.even.specs.Parts.{engineOf}
+use Rattle.even.specs.Parts.{engine_of}
 use Rattle.even.specs.Watch.{Reaches}
 use Rattle.even.proofs.Watching.{kid-met}
 use Rattle.even.proofs.mark_kids.Goals as goal
@@ -19,7 +19,7 @@ mark_four-requires c =
 pub returns-clause-by_index : goal.returns-clause-by_index
 returns-clause-by_index c =
     let T = table c.args.t.now c.args.n in
-    let E = engineOf c.args.conforms in
+    let E = engine_of c.args.conforms in
     let g = c.concerned-s in
     let l = ap (λ (x : Cell). x.level) (at_table c.args.t.now c.args.n c.args.p c.requires.p_lt_n.0.0.0) in
     let e : c.level_at.result + 1 ≡ (at T c.args.p).level + 1 = omega (arith, c.level_at.ensures) in

@@ -9,7 +9,7 @@ use Rattle.table.specs.Slots.{cell_at}
 use Rattle.table.specs.Mesh.{table}
 use Rattle.table.specs.Formed.{WellFormed}
 use Rattle.descent.specs.Search.{Indexed}
-use Rattle.even.specs.Parts.{engineOf}
+use Rattle.even.specs.Parts.{engine_of}
 use Rattle.even.proofs.Watching.{Group, group_of, met-kept, watched-new}
 use Rattle.even.proofs.mark_new.Goals as goal
 
@@ -55,12 +55,12 @@ loop-x-preserved c =
     let high = g.high in (
       omega (arith, f, l.invariant.0),
       λ y a h. by_cases (dec_lt y l.x)
-          (λ d. met-kept (engineOf c.args.conforms) c.args.k l.marks k.new.marks (table c.args.t.now c.args.n) c.args.n
+          (λ d. met-kept (engine_of c.args.conforms) c.args.k l.marks k.new.marks (table c.args.t.now c.args.n) c.args.n
           y k.ensures.kept (l.invariant.1 y a d))
           (λ d. k.ensures.by_index y (omega (arith, f)) h),
     )
 
 pub returns : goal.returns
 returns c =
-    watched-new (engineOf c.args.conforms) c.args.k c.loop-x.marks (table c.args.t.now c.args.n) c.args.stop c.args.n
+    watched-new (engine_of c.args.conforms) c.args.k c.loop-x.marks (table c.args.t.now c.args.n) c.args.stop c.args.n
     c.requires.settled (λ y a h. c.loop-x.invariant.1 y a (omega arith))

@@ -3,9 +3,9 @@ use native.Mathlib.Omega.{arith}
 use Rattle.std.proofs.Common.{length, ◌≤◌}
 use Rattle.table.specs.Mesh.{table}
 use Rattle.table.proofs.Cells.{length-table}
-use Rattle.coarsest.specs.Passes.{evened, splitsLeft}
+use Rattle.coarsest.specs.Passes.{evened, splits_left}
 use Rattle.coarsest.proofs.Passes.{pass-grown}
-use Rattle.even.specs.Parts.{engineOf}
+use Rattle.even.specs.Parts.{engine_of}
 use Rattle.even.proofs.Turns.{on-as, on_grew}
 use Rattle.even.proofs.Descents.{indexed-pass}
 use Rattle.even.proofs.Watching.{settled-pass}
@@ -40,7 +40,7 @@ pub mark_new-requires-clause-top_le_stop : goal.mark_new-requires-clause-top_le_
 mark_new-requires-clause-top_le_stop c =
     let l = c.passes in
     let o = evened-turn _ _ _ _ _ _ _ _ c.passes.invariant.0 c.passes.invariant.1 _ _ c.in_ok-r.ensures in
-    let p = pass-grown (engineOf c.args.conforms) c.args.k (table l.t l.count) in
+    let p = pass-grown (engine_of c.args.conforms) c.args.k (table l.t l.count) in
     let grown : l.count ≤ c.in_ok-r.r =
     omega (arith, length-table l.t l.count, ap length o.cells, length-table c.even_pass.new.t c.in_ok-r.r) in (
       ((omega (arith, l.invariant.0.more, c.requires.top_le_n.0.0), grown), c.requires.marks_len.0.1),
@@ -59,14 +59,14 @@ passes-smaller c =
     let l = c.passes in
     let o = evened-turn _ _ _ _ _ _ _ _ c.passes.invariant.0 c.passes.invariant.1 _ _ c.in_ok-r.ensures in
     let less = evened-less _ _ _ _ _ _ _ _ l.invariant.0 l.invariant.1 _ _ c.in_ok-r.ensures c.if-calm.false in
-    omega (arith, ap (splitsLeft c.args.m) o.cells, less)
+    omega (arith, ap (splits_left c.args.m) o.cells, less)
 
 pub passes-preserved : goal.passes-preserved
 passes-preserved c =
     let l = c.passes in
     let o = evened-turn _ _ _ _ _ _ _ _ c.passes.invariant.0 c.passes.invariant.1 _ _ c.in_ok-r.ensures in (
       on-as _ _ _ _ _ _ _ (sym o.cells) o,
-      ap (evened (engineOf c.args.conforms) c.args.k c.args.m) o.cells
+      ap (evened (engine_of c.args.conforms) c.args.k c.args.m) o.cells
           ∙ evened-same _ _ _ _ _ _ _ _ l.invariant.0 l.invariant.1,
       indexed-pass _ _ _ c.args.top c.args.boxes.now _ _ _ _ _ l.invariant.2 o,
       c.mark_new.ensures,

@@ -6,7 +6,7 @@ use Rattle.rows.specs.Parts.{part}
 use Rattle.rows.proofs.Parts.{length_part, part_at}
 use Rattle.rows.proofs.Fill.{fill_begins, front-turn, fill-above, fill-ends}
 use Rattle.places.specs.Places.{wide}
-use Rattle.gaps.specs.Gaps.{alongKey}
+use Rattle.gaps.specs.Gaps.{along_key}
 use Rattle.gaps.proofs.along_keys.Goals.{In-loop-i}
 use Rattle.gaps.proofs.along_keys.Goals as goal
 
@@ -31,14 +31,14 @@ prove-unreachable-requires c =
     omega (arith, first-is (goal.at.prove-unreachable-requires c).In-loop-i, c.if-prove.true)
 
 pub loop-i-preserved : goal.loop-i-preserved
-unfolding alongKey
+unfolding along_key
 loop-i-preserved c =
     let t = c.loop-i-test.true in
     let r = c.requires.n_in_bounds in
     let first = first-is (goal.at.loop-i-preserved c).In-loop-i in
     let value = ap₂ (λ (u w : ℕ). u * wide + w) first c.along_at.ensures.0 in
     let n = c.args.n in
-    let f = alongKey c.args.across c.args.nodes.now (part c.args.work.now (n + n) n) in
+    let f = along_key c.args.across c.args.nodes.now (part c.args.work.now (n + n) n) in
     front-turn 0 _ n f (omega arith) _ _ c.loop-i.invariant t _ value
 
 pub returns : goal.returns

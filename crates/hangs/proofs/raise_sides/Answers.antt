@@ -4,7 +4,7 @@ use Prim.Native.Nat.{ℕ, ◌+◌, ◌*◌, max}
 use native.Mathlib.Omega.{arith}
 use lib.ListN.{get_or}
 use Rattle.rows.specs.Order.{last_of}
-use Rattle.hangs.specs.Items.{placeKeys, Raised}
+use Rattle.hangs.specs.Items.{place_keys, Raised}
 use Rattle.hangs.proofs.Agree.{last-low}
 use Rattle.hangs.proofs.Raising.{raise-begins, raise-answer, raise-none, raise-some}
 use Rattle.hangs.proofs.raise_sides.Goals.{In-loop-i, then-m-j, else-m-j}
@@ -12,7 +12,7 @@ use Rattle.hangs.proofs.raise_sides.Goals as goal
 
 answer : (c : In-loop-i)
     → get_or c.loop-i.work (2 * (4 * c.args.l + c.args.n) + c.loop-i.i) 0
-    ≡ last_of (placeKeys c.args.nodes.now c.args.corners.now c.args.l (4 * c.args.l + c.args.n)) c.loop-i.i
+    ≡ last_of (place_keys c.args.nodes.now c.args.corners.now c.args.l (4 * c.args.l + c.args.n)) c.loop-i.i
 answer c =
     let a = c.args in
     let r = c.requires in

@@ -3,7 +3,7 @@ use Rattle.std.proofs.Common.{rules}
 use mir.Syntax.{w64}
 use mir.Val.{SFits}
 use mir.Facts.{to_z-of_z}
-use Rattle.lines.specs.Text.{leafWord}
+use Rattle.lines.specs.Text.{leaf_word}
 use Rattle.lines.specs.Lines.{item}
 use Rattle.lines.proofs.Joining.{lined}
 use Rattle.lines.proofs.leaf_line.Goals as goal
@@ -20,4 +20,4 @@ returns-clause-puts c =
     let f7 : SFits w64 (at 7) = search rules in
     let z = rw (to_z-of_z f7, to_z-of_z f4, to_z-of_z f0, to_z-of_z f1, to_z-of_z f2, to_z-of_z f3)
     at c.numbers-b.ensures.puts in
-    lined a.at a.out.now leafWord a.id _ c.named-a.ensures.puts z c.append.ensures
+    lined a.at a.out.now leaf_word a.id _ c.named-a.ensures.puts z c.append.ensures

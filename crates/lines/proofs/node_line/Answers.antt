@@ -1,5 +1,5 @@
 use Prim.Native.Nat.{◌*◌}
-use Rattle.lines.specs.Text.{nodeWord}
+use Rattle.lines.specs.Text.{node_word}
 use Rattle.lines.proofs.Joining.{four, lined}
 use Rattle.lines.proofs.node_line.Goals as goal
 
@@ -7,4 +7,4 @@ pub returns-clause-puts : goal.returns-clause-puts
 returns-clause-puts c =
     let a = c.args in
     let four-numbers = rw (four a.nodes.now (4 * a.i) c.requires.1) at c.numbers-b.ensures.puts in
-    lined a.at a.out.now nodeWord a.i _ c.named-a.ensures.puts four-numbers c.append.ensures
+    lined a.at a.out.now node_word a.i _ c.named-a.ensures.puts four-numbers c.append.ensures

@@ -1,10 +1,10 @@
 -- Too long, refused by the reader or by the table step, or made.
 use Rattle.std.proofs.Common.{rules, List, Float, ◌≡◌, length, replicate, pos, sym, ap, ◌∙◌}
 use lib.ListN.{length-replicate}
-use Rattle.table.specs.Refine.{isAccepted}
+use Rattle.table.specs.Refine.{is_accepted}
 use Rattle.refusals.specs.Said.{refusal}
 use Rattle.board.specs.Rows.{Rows, rows_of}
-use Rattle.mesh.specs.Says.{meshedSaid, layerRoom, polygonRoom, pointRoom, splitRoom}
+use Rattle.mesh.specs.Says.{meshed_said, layer_room, polygon_room, point_room, split_room}
 use Rattle.mesh.proofs.Meshing.{Roomed, too_long, read-refused, whole}
 use Rattle.mesh.proofs.Whole.{ready, grow-refused, totals-are, made}
 use Rattle.mesh.proofs.mesh.Goals as goal
@@ -12,10 +12,10 @@ use Rattle.mesh.proofs.mesh.Goals as goal
 -- the rows that the record is read to
 abbrev before : List Float → Rows
 before sheets =
-    rows_of (replicate layerRoom (replicate 2 0)) (replicate polygonRoom (replicate 3 0)) sheets
-    (replicate pointRoom (replicate 2 (pos 0))) (replicate splitRoom 0)
+    rows_of (replicate layer_room (replicate 2 0)) (replicate polygon_room (replicate 3 0)) sheets
+    (replicate point_room (replicate 2 (pos 0))) (replicate split_room 0)
 
-before-roomed : (sheets : List Float) → length sheets ≡ polygonRoom → Roomed (before sheets)
+before-roomed : (sheets : List Float) → length sheets ≡ polygon_room → Roomed (before sheets)
 before-roomed sheets e =
     record {
       layers = simp length-replicate;
@@ -33,7 +33,7 @@ returns-in_err-read-clause-result_value c =
     let rows = before c.args.sheets.now in
     let roomed = before-roomed c.args.sheets.now c.requires.sheets in
     let x = c.in_err-read in
-    let said : meshedSaid c.from_residual.result ≡ refusal x.field-0.0 = search rules in
+    let said : meshed_said c.from_residual.result ≡ refusal x.field-0.0 = search rules in
     said ∙ read-refused c.args.s.now rows roomed c.if-s-gt-INPUT.false x.field-0.0 x.ensures.result_value
 
 pub grow_board-requires : goal.grow_board-requires
@@ -63,7 +63,7 @@ returns-in_err-grown-clause-result_value c =
     let n = d.read.counts in
     let held = whole s rows roomed g n d.ensures.result_value in
     let x = c.in_err-grown in
-    let said : meshedSaid c.from_residual-in_err-grown.result ≡ refusal x.field-0.0 = search rules in
+    let said : meshed_said c.from_residual-in_err-grown.result ≡ refusal x.field-0.0 = search rules in
     said ∙ grow-refused s rows rows' roomed g n held d.ensures.splits_after c.if-s-gt-INPUT.false _ z.table x.field-0.0
     x.ensures.result_value
 
@@ -92,5 +92,5 @@ returns c =
       made = λ f.
           made s rows rows' roomed g n held r small _ z.table k h.count h.max_level c.args.table.now _
           e.ensures.result_value e.ensures.table_after c.args.order.now _ c.args.layers.now _ c.args.components.now _
-          (ap isAccepted (sym o.result_value) ∙ f) o.order_after e.ensures.layers_after e.ensures.components_after;
+          (ap is_accepted (sym o.result_value) ∙ f) o.order_after e.ensures.layers_after e.ensures.components_after;
     }

@@ -1,7 +1,7 @@
 use mathlib.Core.Path.{ap, ◌∙◌}
 use native.Mathlib.Omega.{arith}
 use Rattle.rows.proofs.Fill.{fill_begins, fill-turn, fill-below}
-use Rattle.places.specs.Places.{classOf}
+use Rattle.places.specs.Places.{class_of}
 use Rattle.places.proofs.Places.{front_low}
 use Rattle.places.proofs.class_row.Goals as goal
 
@@ -22,4 +22,4 @@ loop-v-preserved c =
     let i = c.loop-v.invariant in
     let t = c.loop-v-test.true in
     let h = fill-below 0 _ _ _ _ r _ _ i c.loop-v.auto.v-end _ t in
-    fill-turn 0 _ _ _ _ r _ _ i t _ (c.class_of.ensures ∙ ap (classOf c.args.layers.now c.args.components.now) h)
+    fill-turn 0 _ _ _ _ r _ _ i t _ (c.class_of.ensures ∙ ap (class_of c.args.layers.now c.args.components.now) h)

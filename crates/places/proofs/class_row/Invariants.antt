@@ -1,9 +1,9 @@
 use mathlib.Core.Path.{◌≡◌}
 use lib.ListN.{get_or}
 use Rattle.rows.specs.Parts.{put, tab}
-use Rattle.places.specs.Places.{classOf}
+use Rattle.places.specs.Places.{class_of}
 use Rattle.places.proofs.class_row.Given as goal
 
 abbrev pub invariant-loop-v : goal.invariant-loop-v
 invariant-loop-v l =
-    l.work ≡ put l.fn.work l.l (tab (λ j. classOf l.layers l.components (get_or l.fn.work j 0)) l.v)
+    l.work ≡ put l.fn.work l.l (tab (λ j. class_of l.layers l.components (get_or l.fn.work j 0)) l.v)

@@ -4,7 +4,7 @@ use Prim.Native.Nat.{ℕ, ◌+◌, ◌*◌}
 use native.Mathlib.Omega.{arith}
 use lib.ListN.{get_or}
 use Rattle.rows.specs.Parts.{part}
-use Rattle.places.specs.Places.{wide, keyX}
+use Rattle.places.specs.Places.{wide, key_x}
 use Rattle.places.proofs.Places.{filling-begins, filling-turn}
 use Rattle.places.proofs.keys_x.Goals as goal
 
@@ -14,7 +14,7 @@ loop-i-init c =
     filling-begins _ _ (8 * c.args.l) _ _ _ _ (omega arith) (omega arith) (inl (omega arith)) c.requires.small
 
 pub loop-i-preserved : goal.loop-i-preserved
-unfolding keyX
+unfolding key_x
 loop-i-preserved c =
     let a = c.args in
     let r = c.requires.laid.room in

@@ -2,7 +2,7 @@ use mathlib.Core.Path.{ap₂}
 use mathlib.Core.Logic.{inr}
 use Prim.Native.Nat.{ℕ, ◌+◌, ◌*◌}
 use native.Mathlib.Omega.{arith}
-use Rattle.places.specs.Places.{wide, keyY}
+use Rattle.places.specs.Places.{wide, key_y}
 use Rattle.places.proofs.Places.{filling-begins, filling-turn}
 use Rattle.places.proofs.keys_y.Goals as goal
 
@@ -12,7 +12,7 @@ loop-i-init c =
     filling-begins _ _ (8 * c.args.l) _ _ _ _ (omega arith) (omega arith) (inr (omega arith)) c.requires.small
 
 pub loop-i-preserved : goal.loop-i-preserved
-unfolding keyY
+unfolding key_y
 loop-i-preserved c =
     let r = c.requires.laid.room in
     let i = c.loop-i.invariant in

@@ -7,7 +7,7 @@ use lib.ListN.{length, get_or}
 use Rattle.rows.specs.Parts.{part, put, tab}
 use Rattle.rows.proofs.Parts.{part_at}
 use Rattle.rows.proofs.Fill.{tab-at}
-use Rattle.net.specs.First.{numberBy}
+use Rattle.net.specs.First.{number_by}
 use Rattle.places.proofs.Places.{keys-long}
 use Rattle.places.proofs.Writing.{next-new, next-old, writing_begins, writing-new, writing-old, writing-ends}
 use Rattle.places.proofs.write_nodes.Goals.{then-work-from, else-work-from}
@@ -18,10 +18,10 @@ four-times w c x = ap (λ (z : ℕ). put w z x) (let e : 4 * c ≡ c * 4 = omega
 
 number_at :
     (w ks : List ℕ) (l i : ℕ)
-    → part w (18 * l) (4 * l) ≡ tab (numberBy ks) (4 * l) → i < 4 * l → get_or w (18 * l + i) 0 ≡ numberBy ks i
+    → part w (18 * l) (4 * l) ≡ tab (number_by ks) (4 * l) → i < 4 * l → get_or w (18 * l + i) 0 ≡ number_by ks i
 number_at w ks l i e t =
     sym (part_at w (18 * l) (4 * l) i 0 t)
-    ∙ (ap (λ (z : List ℕ). get_or z i 0) e ∙ tab-at (numberBy ks) (4 * l) i 0 t)
+    ∙ (ap (λ (z : List ℕ). get_or z i 0) e ∙ tab-at (number_by ks) (4 * l) i 0 t)
 
 pub loop-i-init : goal.loop-i-init
 loop-i-init c = writing_begins _ _ 4 (4 * c.args.l) (λ i. refl) _ (omega (arith, c.requires.components_len.1))

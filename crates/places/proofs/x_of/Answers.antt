@@ -1,13 +1,13 @@
 use mathlib.Core.Path.{◌≡◌}
 use Prim.Native.Nat.{◌*◌}
-use Rattle.places.specs.Places.{xOf}
+use Rattle.places.specs.Places.{x_of}
 use Rattle.places.proofs.Places.{x-low}
 use Rattle.places.proofs.x_of.Goals as goal
 
 pub returns : goal.returns
-unfolding xOf
+unfolding x_of
 returns c =
     let p = c.requires in
-    let e : c.place_x.result ≡ xOf c.args.boxes.now (4 * c.args.l) c.args.i =
+    let e : c.place_x.result ≡ x_of c.args.boxes.now (4 * c.args.l) c.args.i =
     rw (c.place_x.ensures, c.side_of.ensures, c.leaf_of.ensures.value) in
     (e, rw e (x-low c.args.boxes.now _ _ p.boxes_len.0 p.small p.boxes_len.1))

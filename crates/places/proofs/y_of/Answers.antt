@@ -1,13 +1,13 @@
 use mathlib.Core.Path.{◌≡◌}
 use Prim.Native.Nat.{◌*◌}
-use Rattle.places.specs.Places.{yOf}
+use Rattle.places.specs.Places.{y_of}
 use Rattle.places.proofs.Places.{y-low}
 use Rattle.places.proofs.y_of.Goals as goal
 
 pub returns : goal.returns
-unfolding yOf
+unfolding y_of
 returns c =
     let p = c.requires in
-    let e : c.place_y.result ≡ yOf c.args.boxes.now (4 * c.args.l) c.args.i =
+    let e : c.place_y.result ≡ y_of c.args.boxes.now (4 * c.args.l) c.args.i =
     rw (c.place_y.ensures, c.side_of.ensures, c.leaf_of.ensures.value) in
     (e, rw e (y-low c.args.boxes.now _ _ p.boxes_len.0 p.small p.boxes_len.1))

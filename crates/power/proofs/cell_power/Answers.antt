@@ -1,5 +1,5 @@
 use mathlib.Core.Path.{sym, ◌∙◌}
-use Rattle.sound_net.specs.Nets.{netOf}
+use Rattle.sound_net.specs.Nets.{net_of}
 use Rattle.sound_net.proofs.Tests.{yes}
 use Rattle.power.proofs.Verdict.{sloped}
 use Rattle.power.proofs.cell_power.Goals as goal
@@ -7,5 +7,5 @@ use Rattle.power.proofs.cell_power.Goals as goal
 pub fill-requires-clause-sloped : goal.fill-requires-clause-sloped
 fill-requires-clause-sloped c =
     let a = c.args in
-    sloped (netOf a.nodes.now a.ends.now a.conductances.now a.corners.now a.sheets.now) a.potentials.now
+    sloped (net_of a.nodes.now a.ends.now a.conductances.now a.corners.now a.sheets.now) a.potentials.now
     (yes (sym c.is_sound.ensures ∙ c.if-not-is_sound.false)) (yes (sym c.in_ranges.ensures ∙ c.if-not-in_ranges.false))

@@ -3,25 +3,25 @@ use mathlib.Core.Path.{refl, ap, ◌∙◌}
 use mathlib.Core.List.{◌++◌}
 use native.Mathlib.Omega.{arith}
 use lib.ListN.{length, drop}
-use Rattle.power.specs.Powers.{gradAt, powerAt, listed}
+use Rattle.power.specs.Powers.{grad_at, power_at, listed}
 use Rattle.power.proofs.Listed.{front-turn, front-two}
 use Rattle.power.proofs.fill.Goals as goal
 
 pub returns-then-c-sheets : goal.returns-then-c-sheets
-unfolding powerAt gradAt
+unfolding power_at grad_at
 returns-then-c-sheets c =
     let a = c.args in
-    let f = powerAt a.nodes.now a.corners.now a.sheets.now a.potentials.now in
+    let f = power_at a.nodes.now a.corners.now a.sheets.now a.potentials.now in
     front-turn f a.answers.now c.loop-c.answers c.loop-c.c c.power.result (omega arith) c.loop-c.invariant.1
     (rw (c.power.ensures, c.grad.ensures, c.cell_values-first.ensures) refl)
     ∙ ap (λ i. listed f i ++ drop i a.answers.now) c.if-c-sheets.true
 
 pub loop-c-preserved : goal.loop-c-preserved
-unfolding powerAt gradAt
+unfolding power_at grad_at
 loop-c-preserved c =
     let a = c.args in
     let l = c.loop-c in
-    let f = powerAt a.nodes.now a.corners.now a.sheets.now a.potentials.now in
+    let f = power_at a.nodes.now a.corners.now a.sheets.now a.potentials.now in
     let more : l.c + 1 < length a.sheets.now = omega arith in (
       omega arith,
       front-two f a.answers.now l.answers l.c c.power-p.result c.power-q.result (omega arith) l.invariant.1

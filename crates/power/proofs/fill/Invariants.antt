@@ -1,13 +1,13 @@
 -- The powers of the cells passed, and behind them what the row held.
 use Rattle.std.proofs.Common.{◌≤◌, ◌-◌, ◌≡◌, ◌++◌, length}
 use lib.ListN.{drop}
-use Rattle.power.specs.Powers.{powerAt, listed}
+use Rattle.power.specs.Powers.{power_at, listed}
 use Rattle.power.proofs.fill.Given as goal
 
 abbrev pub invariant-loop-c : goal.invariant-loop-c
 invariant-loop-c l =
     (l.c ≤ length l.sheets)
-    × (l.answers ≡ listed (powerAt l.nodes l.corners l.sheets l.potentials) l.c ++ drop l.c l.fn.answers)
+    × (l.answers ≡ listed (power_at l.nodes l.corners l.sheets l.potentials) l.c ++ drop l.c l.fn.answers)
 
 abbrev pub decreases-loop-c : goal.decreases-loop-c
 decreases-loop-c l = length l.sheets - l.c

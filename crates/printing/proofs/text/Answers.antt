@@ -4,9 +4,9 @@ use lib.ListN.{length-replicate}
 use Rattle.std.proofs.Common.{rules, ℕ, take, arith, refl, sym, length-take-le}
 use Rattle.refusals.specs.Said.{refusal}
 use Rattle.lines.proofs.Joining.{renamed, lies}
-use Rattle.mesh.specs.Says.{polygonRoom}
+use Rattle.mesh.specs.Says.{polygon_room}
 use Rattle.network.specs.Says.{polygons}
-use Rattle.printing.specs.Output.{saidText, tableText, outputText}
+use Rattle.printing.specs.Output.{said_text, table_text, output_text}
 use Rattle.printing.proofs.Boards.{refused-text, few-leaves, few-polygons, table-rows, made-text}
 use Rattle.printing.proofs.text.Goals as goal
 
@@ -76,10 +76,10 @@ pub returns-in-Err : goal.returns-in-Err
 returns-in-Err c =
     let s = c.args in
     let x = c.in-Err.why in
-    let text = outputText s.bytes.now in
+    let text = output_text s.bytes.now in
     let e = refused-text s.bytes.now x c.in-Err.ensures.result_value in
     let l = lies s.out.now text c.refuse.ensures.upper_bound
-    (renamed 0 s.out.now (saidText (refusal x)) text e c.refuse.ensures.puts) in
+    (renamed 0 s.out.now (said_text (refusal x)) text e c.refuse.ensures.puts) in
     record { fits = l.0; value = l.1.0; out_after = l.1.1 }
 
 pub returns-in-Ok : goal.returns-in-Ok
@@ -90,11 +90,11 @@ returns-in-Ok c =
     let v = c.mesh-answer.new in
     let t = d.t in
     let p = t.polygons in
-    let text = outputText s.bytes.now in
+    let text = output_text s.bytes.now in
     let given = polygons (take p v.layers) (take p v.components) (take p v.sheets) in
-    let put = tableText t.count t.max_level t.splits v.table (take t.leaves v.order) given in
-    let e = made-text s.bytes.now t d.ensures.result_value made (length-replicate {A = ℕ} polygonRoom 0)
-    (length-replicate {A = ℕ} polygonRoom 0) (length-replicate {A = Float} polygonRoom (of_bits binary64 0)) in
+    let put = table_text t.count t.max_level t.splits v.table (take t.leaves v.order) given in
+    let e = made-text s.bytes.now t d.ensures.result_value made (length-replicate {A = ℕ} polygon_room 0)
+    (length-replicate {A = ℕ} polygon_room 0) (length-replicate {A = Float} polygon_room (of_bits binary64 0)) in
     let l = lies s.out.now text c.table_text.ensures.upper_bound
     (renamed 0 s.out.now put text e c.table_text.ensures.puts) in
     record { fits = l.0; value = l.1.0; out_after = l.1.1 }

@@ -1,9 +1,9 @@
 use Rattle.std.proofs.Common.{rules, ◌≡◌, ◌^◌, ◌<◌, Bool, true, false, ◌&&◌, sym}
 use Rattle.std.proofs.Common.{ap, ◌∙◌, ap₂, arith, w64, FitsSigned, of_z}
-use Rattle.sound_net.specs.Nets.{all_below, swAt, neAt, soundCell}
+use Rattle.sound_net.specs.Nets.{all_below, sw_at, ne_at, sound_cell}
 use Rattle.sound_net.proofs.Tests.{all_none, all_more, so_far, fails}
 use Rattle.sound_net.proofs.Marks.{or-none, zero_word, word-zero, join-below}
-use Rattle.sound_net.proofs.Cells.{southwest, spreadAt, linedAt, cells-both, not-spread}
+use Rattle.sound_net.proofs.Cells.{southwest, spread_at, lined_at, cells-both, not-spread}
 use Rattle.sound_net.proofs.cells_are_sound.Goals as goal
 use Rattle.sound_net.proofs.cells_are_sound.Goals.{then-not-are_known-via-then-not-are_known}
 use Rattle.sound_net.proofs.cells_are_sound.Goals.{then-not-are_known-via-else-not-are_known+then-not-is_southwest}
@@ -16,7 +16,7 @@ loop-c-init c = record {
 
 pub returns-then-not-are_known : goal.returns-then-not-are_known
 returns-then-not-are_known c =
-    let e : spreadAt c.args.nodes.now c.args.corners.now c.loop-c.c ≡ false =
+    let e : spread_at c.args.nodes.now c.args.corners.now c.loop-c.c ≡ false =
     elim c.then-not-are_known.branch [
       | then-not-are_known-via-then-not-are_known w ↦ search rules
       | then-not-are_known-via-else-not-are_known+then-not-is_southwest w ↦ search rules
@@ -31,16 +31,16 @@ loop-c-preserved c =
     let h : w < 2 ^ 64 = c.loop-c.auto.astray-fits.fits in
     let f : FitsSigned w64 c.misfit-astray.result = search rules in
     let r = of_z w64 c.misfit-astray.result in
-    let e : spreadAt nodes corners c.loop-c.c ≡ true =
-    ap (λ (b : Bool). b && southwest nodes (swAt corners c.loop-c.c) (neAt corners c.loop-c.c))
+    let e : spread_at nodes corners c.loop-c.c ≡ true =
+    ap (λ (b : Bool). b && southwest nodes (sw_at corners c.loop-c.c) (ne_at corners c.loop-c.c))
     (sym c.are_known.ensures ∙ c.if-not-are_known.false)
     ∙ sym c.is_southwest.ensures ∙ c.if-not-is_southwest.false in record {
       lined =
           zero_word _ (join-below w h f)
           ∙ or-none w r
           ∙ ap₂ ◌&&◌ (sym (zero_word w h) ∙ c.loop-c.invariant.lined) (word-zero f ∙ c.misfit-astray.ensures)
-          ∙ sym (all_more (linedAt nodes corners) c.loop-c.c);
-      spread = so_far (spreadAt nodes corners) c.loop-c.c c.loop-c.invariant.spread e;
+          ∙ sym (all_more (lined_at nodes corners) c.loop-c.c);
+      spread = so_far (spread_at nodes corners) c.loop-c.c c.loop-c.invariant.spread e;
     }
 
 pub returns : goal.returns
@@ -50,6 +50,6 @@ returns c =
     let k : c.loop-c.c ≡ c.args.cells = omega arith in
     sym (zero_word c.loop-c.astray-bits c.loop-c.auto.astray-fits.fits)
     ∙ c.loop-c.invariant.lined
-    ∙ ap (λ (b : Bool). b && all_below (linedAt nodes corners) c.loop-c.c) (sym c.loop-c.invariant.spread)
+    ∙ ap (λ (b : Bool). b && all_below (lined_at nodes corners) c.loop-c.c) (sym c.loop-c.invariant.spread)
     ∙ sym (cells-both nodes corners c.loop-c.c)
-    ∙ ap (all_below (soundCell nodes corners)) k
+    ∙ ap (all_below (sound_cell nodes corners)) k

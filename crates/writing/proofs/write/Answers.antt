@@ -8,11 +8,11 @@ use mathlib.Core.Bool.{◌&&◌}
 use lib.Dec.{eqb}
 use borrow.Author.Tests.{eqb-true, le-leb}
 use Rattle.board.specs.Rows.{rows_of}
-use Rattle.board.specs.Writing.{bytes, settingsBytes}
+use Rattle.board.specs.Writing.{bytes, settings_bytes}
 use Rattle.writing.specs.Written.{shaped, countable, size_of}
 use Rattle.writing.proofs.Stores.{sets_then}
 use Rattle.writing.proofs.Turns.{and_both}
-use Rattle.writing.proofs.Records.{rowBytes, record_is, front_long}
+use Rattle.writing.proofs.Records.{row_bytes, record_is, front_long}
 use Rattle.writing.proofs.write.Goals as goal
 
 pub returns-clause-out_after : goal.returns-clause-out_after
@@ -26,8 +26,8 @@ returns-clause-out_after c =
     let g = le-leb (size_of r) (length a.out.now) c.if-out-n.false in
     let w = and_both same _ e in
     let h = eqb-true _ _ w.0 in
-    let front = bytes 1 1 ++ (bytes 4 (size_of r - 5) ++ settingsBytes s) in
+    let front = bytes 1 1 ++ (bytes 4 (size_of r - 5) ++ settings_bytes s) in
     rw (e, f, g)
-    (sets_then a.out.now 0 16 front (rowBytes r) (front_long s r h w.1 (size_of r - 5))
+    (sets_then a.out.now 0 16 front (row_bytes r) (front_long s r h w.1 (size_of r - 5))
     c.put_settings.ensures c.put_lists.ensures
     ∙ ap (sets a.out.now 0) (record_is s r h w.1))

@@ -45,7 +45,7 @@ impl Table {
     }
 }
 
-/// Document 01's P2: two squares side by side, the first split, then its south-east quarter (cell
+/// The rules' P2: two squares side by side, the first split, then its south-east quarter (cell
 /// 3).
 pub fn p2(slots: usize) -> Table {
     Table::new(2, slots, &[[0, 0, 8, 8], [8, 0, 16, 8]], &[0, 3])
@@ -64,7 +64,7 @@ pub fn board(max_level: u64, target: i64) -> Board {
     Board { max_level, cap: 256, target, ..Board::default() }
 }
 
-/// Document 01's worked board.
+/// The rules' worked board.
 pub fn worked_board() -> Board {
     let mut board = board(1, 4);
     board.push_polygon(1, 0, 1.0, &square(0, 0, 4));

@@ -2,8 +2,8 @@ use mathlib.Core.Path.{◌≡◌}
 use lib.Ieee.{nan}
 use lib.ListN.{get_or}
 use Rattle.rows.specs.Parts.{put, tab}
-use Rattle.bare.specs.Slots.{polysIn}
+use Rattle.bare.specs.Slots.{polys_in}
 use Rattle.bare.proofs.cells.write_sheets.Given as goal
 
 abbrev pub invariant-loop-v : goal.invariant-loop-v
-invariant-loop-v l = l.sheet ≡ put l.fn.sheet 0 (tab (λ k. get_or l.sheets (get_or (polysIn l.rows l.l) k 0) nan) l.v)
+invariant-loop-v l = l.sheet ≡ put l.fn.sheet 0 (tab (λ k. get_or l.sheets (get_or (polys_in l.rows l.l) k 0) nan) l.v)

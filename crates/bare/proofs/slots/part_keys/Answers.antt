@@ -4,7 +4,7 @@ use Prim.Native.Nat.{ℕ, ◌+◌, ◌*◌, ◌≤◌}
 use native.Mathlib.Omega.{arith}
 use Rattle.rows.specs.Parts.{tab}
 use Rattle.rows.proofs.Fill.{fill_begins, front-turn, fill-ends}
-use Rattle.bare.specs.Slots.{slotKey, polysIn, numsIn, midsIn}
+use Rattle.bare.specs.Slots.{slot_key, polys_in, nums_in, mids_in}
 use Rattle.bare.proofs.Parted.{back-filled}
 use Rattle.bare.proofs.slots.part_keys.Goals as goal
 
@@ -29,5 +29,5 @@ returns c =
     let s = c.split_at_mut-rows.ensures in
     let r = room _ _ _ c.requires.l_in_bounds s.back_len in
     let e = fill-ends 0 _ 0 (8 * l) _ r _ _ c.loop-j.invariant c.loop-j.auto.j-end c.loop-j-test.false in
-    let keys : List ℕ → List ℕ = λ z. tab (slotKey (polysIn z l) (numsIn z l) (midsIn z l) l) (8 * l) in
+    let keys : List ℕ → List ℕ = λ z. tab (slot_key (polys_in z l) (nums_in z l) (mids_in z l) l) (8 * l) in
     back-filled _ _ _ _ _ keys s.front s.back e

@@ -5,7 +5,7 @@ use lib.IntN.{ℤ}
 use lib.Ieee.{Float}
 use lib.Seq.{sets}
 use Rattle.record.specs.Board.{shapes}
-use Rattle.board.specs.Rows.{polygonRow, sheetOf, pointRow, rings}
+use Rattle.board.specs.Rows.{polygon_row, sheet_of, point_row, rings}
 use Rattle.board.specs.Copying.{items_of, end_of}
 use Rattle.board.proofs.Shapes.{Left3}
 use Rattle.board.proofs.copy.copy_polygons.Given as goal
@@ -14,8 +14,8 @@ abbrev pub ToStore : List ℕ → ℕ → ℕ → List (List ℕ) → List Float
     → ℕ → ℕ → ℕ → List (List ℕ) → List Float → List (List ℤ) → Type 0
 ToStore s from n polygons₀ sheets₀ points₀ i at first polygons sheets points =
     let items = items_of (shapes s n from) in
-    Left3 s n (sets polygons₀ 0 (map polygonRow items)) (sets sheets₀ 0 (map sheetOf items))
-    (sets points₀ 0 (map pointRow (rings items))) (end_of (shapes s n from)) i at first polygons sheets points
+    Left3 s n (sets polygons₀ 0 (map polygon_row items)) (sets sheets₀ 0 (map sheet_of items))
+    (sets points₀ 0 (map point_row (rings items))) (end_of (shapes s n from)) i at first polygons sheets points
 
 abbrev pub invariant-loop-i : goal.invariant-loop-i
 invariant-loop-i l =

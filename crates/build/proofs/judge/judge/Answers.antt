@@ -1,5 +1,5 @@
 use Rattle.std.proofs.Common.{◌-◌, ◌≡◌, length, arith, refl, sym, ap, ◌∙◌}
-use Rattle.strips.specs.Rings.{ringInRange, ringSlants}
+use Rattle.strips.specs.Rings.{ring_in_range, ring_slants}
 use Rattle.build.proofs.Judging.{sum_none, sum_more, ring-part, judge-sheet, judge-range, judge-slant, judge-on, judge-end}
 use Rattle.build.proofs.judge.judge.Goals as goal
 
@@ -22,7 +22,7 @@ returns-then-not-in_range c = λ o.
     let s = c.loop-p in
     let e = sym c.if-not-sheet_in_range.ensures in
     let r = ring-part a.counts.now a.points.now s.p _ _ s.invariant.start refl in
-    let f = ap ringInRange (sym r) ∙ sym c.if-not-in_range.ensures in
+    let f = ap ring_in_range (sym r) ∙ sym c.if-not-in_range.ensures in
     sym (judge-range a.sheets.now a.counts.now a.points.now s.p (length a.counts.now) c.loop-p-test.true o e f)
     ∙ s.invariant.on o
 
@@ -32,8 +32,8 @@ returns-then-slanted c = λ o.
     let s = c.loop-p in
     let e = sym c.if-not-sheet_in_range.ensures in
     let r = ring-part a.counts.now a.points.now s.p _ _ s.invariant.start refl in
-    let f = ap ringInRange (sym r) ∙ sym c.if-not-in_range.ensures in
-    let g = ap ringSlants (sym r) ∙ sym c.if-slanted.ensures in
+    let f = ap ring_in_range (sym r) ∙ sym c.if-not-in_range.ensures in
+    let g = ap ring_slants (sym r) ∙ sym c.if-slanted.ensures in
     sym (judge-slant a.sheets.now a.counts.now a.points.now s.p (length a.counts.now) c.loop-p-test.true o e f g)
     ∙ s.invariant.on o
 
@@ -44,8 +44,8 @@ loop-p-preserved c =
     let n = length a.counts.now in
     let e = sym c.if-not-sheet_in_range.ensures in
     let r = ring-part a.counts.now a.points.now s.p _ _ s.invariant.start refl in
-    let f = ap ringInRange (sym r) ∙ sym c.if-not-in_range.ensures in
-    let g = ap ringSlants (sym r) ∙ sym c.if-slanted.ensures in
+    let f = ap ring_in_range (sym r) ∙ sym c.if-not-in_range.ensures in
+    let g = ap ring_slants (sym r) ∙ sym c.if-slanted.ensures in
     record {
       start = omega (arith, sum_more a.counts.now s.p);
       on = λ o. sym (judge-on a.sheets.now a.counts.now a.points.now s.p n c.loop-p-test.true o e f g)

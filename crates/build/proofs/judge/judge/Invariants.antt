@@ -2,7 +2,7 @@
 use Rattle.std.proofs.Common.{length, ◌-◌, ◌≡◌}
 use Rattle.refusals.specs.Said.{Said}
 use Rattle.build.specs.Board.{sum_to}
-use Rattle.build.specs.Says.{judgeFrom}
+use Rattle.build.specs.Says.{judge_from}
 use Rattle.build.proofs.judge.judge.Given as goal
 
 abbrev pub invariant-loop-p : goal.invariant-loop-p
@@ -11,5 +11,5 @@ invariant-loop-p l =
     record {
       start : l.at ≡ sum_to l.counts l.p;
       on : (o : Said) →
-          judgeFrom l.sheets l.counts l.points l.p (n - l.p) o ≡ judgeFrom l.sheets l.counts l.points 0 n o;
+          judge_from l.sheets l.counts l.points l.p (n - l.p) o ≡ judge_from l.sheets l.counts l.points 0 n o;
     }

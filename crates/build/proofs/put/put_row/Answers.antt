@@ -1,5 +1,5 @@
 use Rattle.std.proofs.Common.{List, [], ◌∷◌, ℤ, ◌+◌, arith, sym, ap, ◌∙◌}
-use Rattle.build.specs.Grid.{boxed, cell_of, rowTo}
+use Rattle.build.specs.Grid.{boxed, cell_of, row_to}
 use Rattle.build.specs.Steps.{placed}
 use Rattle.build.proofs.Placing.{row-none, row_more, length-row, placed-more}
 use Rattle.build.proofs.put.put_row.Goals as goal
@@ -19,6 +19,6 @@ loop-i-preserved c =
     record {
       put = c.put_root.ensures
           ∙ ap (λ (l : List ℤ). placed l (a.k + s.i) here) s.invariant.put
-          ∙ placed-more a.t.now a.k (a.k + s.i) (rowTo a.poly a.r a.n s.i) here (omega arith) (omega arith)
+          ∙ placed-more a.t.now a.k (a.k + s.i) (row_to a.poly a.r a.n s.i) here (omega arith) (omega arith)
           ∙ ap (placed a.t.now a.k) (sym (row_more a.poly a.r a.n s.i));
     }

@@ -2,7 +2,7 @@ use Rattle.std.proofs.Common.{◌*◌, arith, refl, sym, ◌∙◌}
 use Rattle.strips.proofs.Bounds.{strips-sound, sound-first, sound-rest}
 use Rattle.strips.proofs.Crossing.{ready-strips}
 use Rattle.strips.proofs.Walks.{started}
-use Rattle.build.specs.Grid.{cutOf}
+use Rattle.build.specs.Grid.{cut_of}
 use Rattle.build.proofs.Cutting.{cuts}
 use Rattle.build.proofs.Placing.{roots-none}
 use Rattle.build.proofs.Tallying.{even-none, even-first, uneven-first, more_same, length-roots-first}
@@ -55,7 +55,7 @@ loop-s-preserved c =
     let s = c.loop-s in
     let e = c.in-Found.ensures in
     let q = c.in-Found.s in
-    let g = cutOf a.cap a.c q in
+    let g = cut_of a.cap a.c q in
     let m = rw c.cut_of-g.ensures at c.more-sum.ensures in
     let t = rw c.cut_of-g.ensures at c.if-not-even.ensures in
     record {

@@ -4,7 +4,7 @@ use native.Mathlib.Omega.{arith}
 use Rattle.cell.specs.Boxes.{Box}
 use Rattle.table.specs.Mesh.{Cell, table}
 use Rattle.table.proofs.Cells.{at_table}
-use Rattle.descent.specs.Search.{Clears, blockBox}
+use Rattle.descent.specs.Search.{Clears, block_box}
 use Rattle.descent.proofs.Slots.{meet-slots}
 use Rattle.descent.proofs.Boxes.{passed-block, passed-one}
 use Rattle.descent.proofs.index.next_root.Goals as goal
@@ -17,7 +17,7 @@ loop-i-preserved-then-skips c =
       omega (arith, l.invariant.0),
       passed-block (table c.args.t.now c.args.n) c.args.a c.args.c c.args.top l.i c.args.boxes.now c.requires.indexed.0
           l.invariant.1 g.0
-          (subst (λ (x : Box). Clears x (blockBox c.args.boxes.now (l.i / 64))) (c.requires.indexed.1 ∙ sym q) g.1),
+          (subst (λ (x : Box). Clears x (block_box c.args.boxes.now (l.i / 64))) (c.requires.indexed.1 ∙ sym q) g.1),
     )
 
 pub loop-i-preserved : goal.loop-i-preserved

@@ -1,7 +1,7 @@
 -- Each step goes on from what the one before it left, and a refusal ends it.
 use Rattle.std.proofs.Common.{◌≡◌, length, refl, rules, ◌∙◌}
 use Rattle.refusals.specs.Said.{refusal}
-use Rattle.even.specs.Even.{eveningSaid}
+use Rattle.even.specs.Even.{evening_said}
 use Rattle.mesh.specs.Growing.{given}
 use Rattle.mesh.proofs.Growing.{roots-refused, split-refused, grown, grown-row}
 use Rattle.mesh.proofs.steps.grow.Goals as goal
@@ -13,7 +13,7 @@ returns-in_err-count c =
     let g = given a.s a.list.now a.layers.now a.components.now a.sheets.now a.counts.now
     a.points.now a.splits.now (length t) in
     let x = c.in_err-count in
-    let said : eveningSaid c.from_residual.result ≡ refusal x.field-0.0 = search rules in
+    let said : evening_said c.from_residual.result ≡ refusal x.field-0.0 = search rules in
     let r = roots-refused g t refl x.field-0.0 c.build.new.table x.ensures.result_value x.ensures.table_after in
     record { result_value = said ∙ r.0; table_after = r.1 }
 
@@ -25,7 +25,7 @@ returns-in_err-refined c =
     a.points.now a.splits.now (length t) in
     let d = c.in_ok-count in
     let x = c.in_err-refined in
-    let said : eveningSaid c.from_residual-in_err-refined.result ≡ refusal x.field-0.0 = search rules in
+    let said : evening_said c.from_residual-in_err-refined.result ≡ refusal x.field-0.0 = search rules in
     let r = split-refused g t refl d.count c.build.new.table d.ensures.result_value d.ensures.table_after x.field-0.0
     c.refine_all.new.table x.ensures.result_value x.ensures.table_after in
     record { result_value = said ∙ r.0; table_after = r.1 }

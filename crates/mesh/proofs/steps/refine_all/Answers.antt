@@ -1,7 +1,7 @@
 use Rattle.std.proofs.Common.{ℕ, List, ◌∷◌, ◌≡◌, ◌+◌, ◌<◌, length, drop, get_or, add-one, drop-cons, drop_of_length-le, rules, sym, ap, ◌∙◌}
 use Rattle.refusals.specs.Said.{refusal}
-use Rattle.table.specs.Refine.{isAccepted, refinedSaid}
-use Rattle.mesh.specs.Refining.{refineAllSays, refineAllRow}
+use Rattle.table.specs.Refine.{is_accepted, refined_said}
+use Rattle.mesh.specs.Refining.{refine_all_says, refine_all_row}
 use Rattle.mesh.proofs.Refining.{not-accepted, refined-on, all-stop, all-stop-row, all_none, all-none-row}
 use Rattle.mesh.proofs.steps.refine_all.Goals as goal
 
@@ -15,16 +15,16 @@ returns-in_err-latest c =
     let x = c.in_err-latest in
     let ids = c.args.splits.now in
     let k = s.id-index in
-    let said : refinedSaid c.from_residual.result ≡ refusal x.field-0.0 = search rules in
-    let e = ap isAccepted (sym x.ensures.result_value) ∙ not-accepted x.field-0.0 in
+    let said : refined_said c.from_residual.result ≡ refusal x.field-0.0 = search rules in
+    let e = ap is_accepted (sym x.ensures.result_value) ∙ not-accepted x.field-0.0 in
     let left = next ids k c.loop-id-test.true in
     record {
       result_value = said ∙ x.ensures.result_value
           ∙ sym (all-stop s.table s.latest.count s.latest.max_level (get_or ids k 0) (drop (k + 1) ids) e)
-          ∙ ap (refineAllSays s.table s.latest.count s.latest.max_level) (sym left) ∙ s.invariant.says;
+          ∙ ap (refine_all_says s.table s.latest.count s.latest.max_level) (sym left) ∙ s.invariant.says;
       table_after = x.ensures.t_after
           ∙ sym (all-stop-row s.table s.latest.count s.latest.max_level (get_or ids k 0) (drop (k + 1) ids) e)
-          ∙ ap (refineAllRow s.table s.latest.count s.latest.max_level) (sym left) ∙ s.invariant.row;
+          ∙ ap (refine_all_row s.table s.latest.count s.latest.max_level) (sym left) ∙ s.invariant.row;
     }
 
 pub loop-id-preserved : goal.loop-id-preserved
@@ -37,8 +37,8 @@ loop-id-preserved c =
     let k = refined-on s.table s.latest.count s.latest.max_level (get_or ids s.id-index 0) (drop (s.id-index + 1) ids)
     c.refine.new.t n.count n.max_level r.ensures.result_value r.ensures.t_after in
     record {
-      says = k.0 ∙ ap (refineAllSays s.table s.latest.count s.latest.max_level) (sym left) ∙ s.invariant.says;
-      row = k.1 ∙ ap (refineAllRow s.table s.latest.count s.latest.max_level) (sym left) ∙ s.invariant.row;
+      says = k.0 ∙ ap (refine_all_says s.table s.latest.count s.latest.max_level) (sym left) ∙ s.invariant.says;
+      row = k.1 ∙ ap (refine_all_row s.table s.latest.count s.latest.max_level) (sym left) ∙ s.invariant.row;
     }
 
 pub returns : goal.returns
@@ -47,7 +47,7 @@ returns c =
     let e = drop_of_length-le c.args.splits.now {i = s.id-index} c.loop-id-test.false in
     record {
       result_value = sym (all_none s.table s.latest.count s.latest.max_level)
-          ∙ ap (refineAllSays s.table s.latest.count s.latest.max_level) (sym e) ∙ s.invariant.says;
+          ∙ ap (refine_all_says s.table s.latest.count s.latest.max_level) (sym e) ∙ s.invariant.says;
       table_after = sym (all-none-row s.table s.latest.count s.latest.max_level)
-          ∙ ap (refineAllRow s.table s.latest.count s.latest.max_level) (sym e) ∙ s.invariant.row;
+          ∙ ap (refine_all_row s.table s.latest.count s.latest.max_level) (sym e) ∙ s.invariant.row;
     }

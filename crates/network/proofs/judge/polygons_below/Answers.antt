@@ -4,11 +4,11 @@ use lib.Dec.{ltb}
 use borrow.Author.Tests.{le-ltb}
 use Rattle.table.specs.Slots.{cell_at}
 use Rattle.table.proofs.All.{all-fails}
-use Rattle.leafrows.specs.Rows.{polysBelow}
+use Rattle.leafrows.specs.Rows.{polys_below}
 use Rattle.network.proofs.judge.polygons_below.Goals as goal
 
 pub returns-then-count-poly_at : goal.returns-then-count-poly_at
-unfolding polysBelow
+unfolding polys_below
 returns-then-count-poly_at c =
     let s = c.args in
     let i = c.loop-i.i in

@@ -2,7 +2,7 @@ use Prim.Native.Nat.{◌+◌}
 use mathlib.Core.Path.{◌≡◌, refl, sym, ◌∙◌}
 use native.Mathlib.Omega.{arith}
 use Rattle.record.specs.Fields.{value}
-use Rattle.record.specs.Board.{Entry, entry, lastLayer}
+use Rattle.record.specs.Board.{Entry, entry, last_layer}
 use Rattle.record.proofs.Walks.{ranged_high}
 use Rattle.record.proofs.Turns.{passed}
 use Rattle.record.proofs.check.check_layers.Goals as goal
@@ -10,7 +10,7 @@ use Rattle.record.proofs.check.check_layers.Goals as goal
 pub overflow_add-least : goal.overflow_add-least
 overflow_add-least c =
     let l = c.loop in
-    let h = ranged_high l.least lastLayer 2 l.r.src.now l.r.at (sym c.in_ok-least.ensures.field) in
+    let h = ranged_high l.least last_layer 2 l.r.src.now l.r.at (sym c.in_ok-least.ensures.field) in
     record { fits = omega (arith, h) }
 
 pub loop-preserved : goal.loop-preserved

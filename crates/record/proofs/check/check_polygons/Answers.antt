@@ -3,7 +3,7 @@ use mathlib.Core.Path.{◌≡◌, sym, ap, ◌∙◌}
 use mathlib.Core.List.{[]}
 use native.Mathlib.Omega.{arith}
 use Rattle.std.proofs.Common.{rules}
-use Rattle.record.specs.Board.{Polygon, polygon, pointsIn, points_of}
+use Rattle.record.specs.Board.{Polygon, polygon, points_in, points_of}
 use Rattle.record.specs.Fields.{value}
 use Rattle.record.proofs.Walks.{arrived, halted}
 use Rattle.record.proofs.Each.{done, refused}
@@ -13,8 +13,8 @@ use Rattle.record.proofs.check.check_polygons.Goals as goal
 -- the polygon that this turn passes
 passed : (c : goal.In_ok-points)
     → (p : Polygon) × (polygon c.loop.r.src.now c.loop.r.at ≡ value p c.check_polygon.new.r.at)
-    × (c.in_ok-points.field-0 ≡ pointsIn p)
-passed c = arrived pointsIn (polygon c.loop.r.src.now c.loop.r.at) c.in_ok-points.ensures.fields
+    × (c.in_ok-points.field-0 ≡ points_in p)
+passed c = arrived points_in (polygon c.loop.r.src.now c.loop.r.at) c.in_ok-points.ensures.fields
 
 no_more : (k : ℕ) → k ≡ k + points_of []
 unfolding points_of
@@ -24,7 +24,7 @@ pub returns-in_err-points-clause-fields : goal.returns-in_err-points-clause-fiel
 returns-in_err-points-clause-fields c =
     let l = c.loop in
     let s = l.r.src.now in
-    let p = halted pointsIn (polygon s l.r.at) c.in_err-points.ensures.fields in
+    let p = halted points_in (polygon s l.r.at) c.in_err-points.ensures.fields in
     rw (← l.invariant.2, refused (polygon s) c.args.n l.counter l.r.at c.loop-test.true p) (search rules)
 
 pub overflow_add-points : goal.overflow_add-points

@@ -1,11 +1,11 @@
 use mathlib.Core.Path.{refl}
 use native.Mathlib.Omega.{arith}
-use Rattle.record.specs.Fields.{bigEndian}
+use Rattle.record.specs.Fields.{big_endian}
 use Rattle.record.proofs.Numbers.{byte_more, next-fits}
 use Rattle.record.proofs.fields.number.Goals as goal
 
 pub loop-i-init : goal.loop-i-init
-unfolding bigEndian
+unfolding big_endian
 loop-i-init c = refl
 
 pub overflow_mul-n : goal.overflow_mul-n

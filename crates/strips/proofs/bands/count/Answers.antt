@@ -2,7 +2,7 @@ use Rattle.std.proofs.Common.{ℕ, List, ℤ, length, drop, get_or, ◌+◌, ◌
 use mathlib.Core.Path.{sym, ap, ◌∙◌}
 use native.Mathlib.Omega.{arith}
 use lib.ListN.{length-append}
-use Rattle.strips.specs.Walk.{left, inBand}
+use Rattle.strips.specs.Walk.{left, in_band}
 use Rattle.strips.proofs.Levels.{left-none}
 use Rattle.strips.proofs.Walks.{started, none_left, left_end, left-band}
 use Rattle.strips.proofs.bands.count.Goals as goal
@@ -20,11 +20,11 @@ loop-band-init c =
 -- the strips from a band on: its own, and those above
 counted : (ps : List (List ℤ)) (hs es : List ℕ) (k r : ℕ) →
     k + 1 < length hs →
-    r ≡ length (inBand ps (get_or hs k 0) (get_or hs (k + 1) 0) es) →
+    r ≡ length (in_band ps (get_or hs k 0) (get_or hs (k + 1) 0) es) →
     length (left ps es 0 (drop k hs)) ≡ r + length (left ps es 0 (drop (k + 1) hs))
 counted ps hs es k r h e =
     ap length (left-band ps es hs k h)
-    ∙ length-append (inBand ps (get_or hs k 0) (get_or hs (k + 1) 0) es) _
+    ∙ length-append (in_band ps (get_or hs k 0) (get_or hs (k + 1) 0) es) _
     ∙ rw e refl
 
 pub overflow_add-n : goal.overflow_add-n

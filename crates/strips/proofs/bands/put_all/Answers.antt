@@ -2,7 +2,7 @@ use Rattle.std.proofs.Common.{length, get_or, ◌+◌, ◌≡◌, ◌≤◌, ref
 use mathlib.Core.Path.{sym, ap, ◌∙◌}
 use native.Mathlib.Omega.{arith}
 use lib.ListN.{length-append}
-use Rattle.strips.specs.Walk.{inBand}
+use Rattle.strips.specs.Walk.{in_band}
 use Rattle.strips.proofs.Laying.{laid_more, laid_none}
 use Rattle.strips.proofs.Levels.{band-yes, left-none}
 use Rattle.strips.proofs.Walks.{started, none_left, left_end, left-band}
@@ -24,7 +24,7 @@ put_band-k-requires c =
     let hs = a.heights.now in
     let k = c.loop-band.band in
     let e = ap length (left-band a.points.now a.edges.now hs k (omega (arith, c.loop-band-test.true)))
-    ∙ length-append (inBand a.points.now (get_or hs k 0) (get_or hs (k + 1) 0) a.edges.now) _ in
+    ∙ length-append (in_band a.points.now (get_or hs k 0) (get_or hs (k + 1) 0) a.edges.now) _ in
     (band-yes (get_or hs k 0) (get_or hs (k + 1) 0) c.if-lo-hi.true, omega (arith, c.loop-band.invariant.0))
 
 pub loop-band-preserved-then-lo-hi : goal.loop-band-preserved-then-lo-hi
@@ -33,7 +33,7 @@ loop-band-preserved-then-lo-hi c =
     let hs = a.heights.now in
     let s = c.loop-band in
     let q = c.put_band-k.ensures in
-    let ss = inBand a.points.now (get_or hs s.band 0) (get_or hs (s.band + 1) 0) a.edges.now in
+    let ss = in_band a.points.now (get_or hs s.band 0) (get_or hs (s.band + 1) 0) a.edges.now in
     let e = left-band a.points.now a.edges.now hs s.band (omega (arith, c.loop-band-test.true)) in
     let h = ap length e ∙ length-append ss _ in
     let n : length c.put_band-k.new.out ≡ length s.out = c.put_band-k.auto.out in

@@ -1,19 +1,19 @@
 use Rattle.std.proofs.Common.{◌≡◌, length, refl}
 use mathlib.Core.Path.{◌∙◌}
 use native.Mathlib.Omega.{arith}
-use Rattle.strips.specs.Rings.{someBelow, ringSlants}
+use Rattle.strips.specs.Rings.{some_below, ring_slants}
 use Rattle.strips.proofs.Picking.{some_more}
 use Rattle.strips.proofs.ring.slanted.Goals as goal
 
 pub loop-i-init : goal.loop-i-init
-unfolding someBelow
+unfolding some_below
 loop-i-init c = refl
 
 pub loop-i-preserved : goal.loop-i-preserved
 loop-i-preserved c = rw (c.loop-i.invariant, c.slants_at-found.ensures, some_more) refl
 
 pub returns : goal.returns
-unfolding ringSlants
+unfolding ring_slants
 returns c =
     let e : c.loop-i.i ≡ length c.args.points.now = omega arith in
     c.loop-i.invariant ∙ rw e refl

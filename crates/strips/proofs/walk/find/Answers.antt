@@ -3,7 +3,7 @@ use mathlib.Core.Path.{sym, ◌∙◌}
 use mir.Facts.{to_z-of_z}
 use native.Mathlib.Omega.{arith}
 use Rattle.cell.proofs.Offsets.{on_fits}
-use Rattle.refusals.specs.Limits.{maxPoints}
+use Rattle.refusals.specs.Limits.{max_points}
 use Rattle.strips.proofs.Levels.{spans-is}
 use Rattle.strips.proofs.Walks.{crossed-end, from_end, crossed-yes, crossed-no}
 use Rattle.strips.proofs.walk.find.Goals as goal
@@ -17,7 +17,7 @@ returns-then-spans c =
     let s = c.loop-k in
     let e = simp (c.ticks-low.ensures, c.ticks-high.ensures, to_z-of_z (on_fits a.lo), to_z-of_z (on_fits a.hi))
     at c.spans.ensures in
-    let t = e ∙ spans-is a.points.now (get_or a.edges.now s.k 0 % maxPoints) a.lo a.hi c.requires.0 c.requires.1 in
+    let t = e ∙ spans-is a.points.now (get_or a.edges.now s.k 0 % max_points) a.lo a.hi c.requires.0 c.requires.1 in
     record {
       low = omega arith;
       high = omega arith;
@@ -33,7 +33,7 @@ loop-k-preserved c =
     let s = c.loop-k in
     let e = simp (c.ticks-low.ensures, c.ticks-high.ensures, to_z-of_z (on_fits a.lo), to_z-of_z (on_fits a.hi))
     at c.spans.ensures in
-    let t = e ∙ spans-is a.points.now (get_or a.edges.now s.k 0 % maxPoints) a.lo a.hi c.requires.0 c.requires.1 in
+    let t = e ∙ spans-is a.points.now (get_or a.edges.now s.k 0 % max_points) a.lo a.hi c.requires.0 c.requires.1 in
     crossed-no a.points.now a.lo a.hi a.edges.now s.k c.loop-k-test.true c.requires.0 (sym t ∙ c.if-spans.false)
     ∙ s.invariant
 

@@ -6,7 +6,7 @@ use Rattle.cell.proofs.Offsets.{off-le}
 use Rattle.refusals.specs.Limits.{coordinate}
 use Rattle.strips.specs.Rings.{edge_at}
 use Rattle.strips.specs.Sorted.{picked, up_to}
-use Rattle.strips.specs.Walk.{unsortedEdges}
+use Rattle.strips.specs.Walk.{unsorted_edges}
 use Rattle.strips.specs.declared.ring.Edge.{Edge}
 use Rattle.strips.proofs.Picking.{front}
 use Rattle.strips.proofs.Walks.{unsorted-yes, unsorted-no}
@@ -14,7 +14,7 @@ use Rattle.strips.proofs.walk.gather_edges.Goals as goal
 use Rattle.strips.proofs.walk.gather_edges.Goals.{then-vertical, else-vertical}
 
 pub loop-i-init : goal.loop-i-init
-unfolding unsortedEdges picked up_to
+unfolding unsorted_edges picked up_to
 loop-i-init c = (omega arith, refl)
 
 -- an edge's x is a coordinate
@@ -38,7 +38,7 @@ loop-i-preserved c =
           let v = rw (c.vertical.ensures, c.edge_at-e.ensures) at w.if-vertical.true in (
             rw w.n-is (omega arith),
             rw (w.row-is, w.n-is)
-                (front s.row (unsortedEdges ps s.i) s.n _ (omega arith) s.invariant.1
+                (front s.row (unsorted_edges ps s.i) s.n _ (omega arith) s.invariant.1
                 ∙ rw (unsorted-yes ps s.i v, c.edge_at-e.ensures) refl),
           )
       | else-vertical w ↦
@@ -51,5 +51,5 @@ returns c =
     let ps = c.args.points.now in
     let s = c.loop-i in
     let e : s.i ≡ length ps = omega arith in
-    let f : take s.n s.row ≡ unsortedEdges ps (length ps) = s.invariant.1 ∙ rw e refl in
+    let f : take s.n s.row ≡ unsorted_edges ps (length ps) = s.invariant.1 ∙ rw e refl in
     record { front = f; count = sym (length-take-le s.n s.row (omega arith)) ∙ ap length f; fits = omega arith }

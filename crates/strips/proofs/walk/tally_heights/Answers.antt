@@ -2,20 +2,20 @@ use Rattle.std.proofs.Common.{length, ◌+◌, ◌-◌, ◌≡◌, refl}
 use mathlib.Core.Path.{ap, ◌∙◌}
 use native.Mathlib.Omega.{arith}
 use Rattle.cell.proofs.Offsets.{off-le}
-use Rattle.strips.specs.Rings.{yAt}
+use Rattle.strips.specs.Rings.{y_at}
 use Rattle.strips.specs.Sorted.{insert}
-use Rattle.strips.specs.Walk.{heightsOf}
+use Rattle.strips.specs.Walk.{heights_of}
 use Rattle.strips.proofs.Tallies.{heights-none, heights-more, heights-long}
 use Rattle.strips.proofs.walk.tally_heights.Goals as goal
 
 pub loop-i-init : goal.loop-i-init
-loop-i-init c = (omega arith, omega arith, heights-none (yAt c.args.points.now) (length c.args.points.now))
+loop-i-init c = (omega arith, omega arith, heights-none (y_at c.args.points.now) (length c.args.points.now))
 
 pub add-k-requires : goal.add-k-requires
 add-k-requires c =
     let ps = c.args.points.now in
     let s = c.loop-i in
-    let l = ap length s.invariant.2 ∙ heights-long (yAt ps) (length ps) s.i in
+    let l = ap length s.invariant.2 ∙ heights-long (y_at ps) (length ps) s.i in
     let p = c.requires.1 in
     (omega arith, omega arith, rw c.y_at.ensures (off-le _))
 
@@ -29,11 +29,11 @@ loop-i-preserved c =
       omega arith,
       c.add-k.ensures.same
           ∙ ap (insert _) s.invariant.2
-          ∙ rw c.y_at.ensures (rw e at (heights-more (yAt ps) (length ps) (s.i - 1) (omega arith))),
+          ∙ rw c.y_at.ensures (rw e at (heights-more (y_at ps) (length ps) (s.i - 1) (omega arith))),
     )
 
 pub returns : goal.returns
-unfolding heightsOf
+unfolding heights_of
 returns c =
     let s = c.loop-i in
     let z : s.i ≡ 0 = omega arith in

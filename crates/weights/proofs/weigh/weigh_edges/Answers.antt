@@ -1,21 +1,21 @@
 use native.Mathlib.Omega.{arith}
 use lib.Ieee.{nan}
 use Rattle.rows.proofs.Fill.{fill_begins, fill-above, front-turn, fill-ends}
-use Rattle.weights.specs.Weigh.{weightIn}
+use Rattle.weights.specs.Weigh.{weight_in}
 use Rattle.weights.proofs.Weighed.{edge-turn}
 use Rattle.weights.proofs.weigh.weigh_edges.Goals as goal
 
 pub loop-j-init : goal.loop-j-init
 loop-j-init c =
     let a = c.args in
-    let f = weightIn a.nodes.now a.n a.corners.now a.sheets.now a.l a.ends.now a.g.now in
+    let f = weight_in a.nodes.now a.n a.corners.now a.sheets.now a.l a.ends.now a.g.now in
     let r = c.requires.k_in_bounds in
     fill_begins nan a.g.now 0 a.k f (omega arith)
 
 pub loop-j-preserved : goal.loop-j-preserved
 loop-j-preserved c =
     let a = c.args in
-    let f = weightIn a.nodes.now a.n a.corners.now a.sheets.now a.l a.ends.now a.g.now in
+    let f = weight_in a.nodes.now a.n a.corners.now a.sheets.now a.l a.ends.now a.g.now in
     let r = c.requires.k_in_bounds in
     let i = c.loop-j in
     let t = c.loop-j-test.true in
@@ -27,7 +27,7 @@ loop-j-preserved c =
 pub returns : goal.returns
 returns c =
     let a = c.args in
-    let f = weightIn a.nodes.now a.n a.corners.now a.sheets.now a.l a.ends.now a.g.now in
+    let f = weight_in a.nodes.now a.n a.corners.now a.sheets.now a.l a.ends.now a.g.now in
     let r = c.requires.k_in_bounds in
     let i = c.loop-j.invariant in
     fill-ends nan a.g.now 0 a.k f (omega arith) _ _ i c.loop-j.auto.j-end c.loop-j-test.false

@@ -1,8 +1,8 @@
 -- The counts still to come add up to what is left as all do to all.
 use mathlib.Core.Path.{◌≡◌}
 use lib.ListN.{drop}
-use Rattle.writing.specs.Boards.{addUp}
+use Rattle.writing.specs.Boards.{add_up}
 use Rattle.writing.proofs.put.add_up.Given as goal
 
 abbrev pub invariant-loop-p : goal.invariant-loop-p
-invariant-loop-p l = addUp (drop l.p-index l.polygons) l.left ≡ addUp l.polygons l.points
+invariant-loop-p l = add_up (drop l.p-index l.polygons) l.left ≡ add_up l.polygons l.points

@@ -3,9 +3,9 @@ use mathlib.Core.List.{◌++◌}
 use native.Mathlib.Omega.{arith}
 use lib.ListN.{length}
 use lib.ListN.{length-append}
-use Rattle.board.specs.Writing.{bytes, each, entryBytes, polygonBytes}
+use Rattle.board.specs.Writing.{bytes, each, entry_bytes, polygon_bytes}
 use Rattle.board.proofs.RoundTrip.{bytes-length}
-use Rattle.writing.specs.Boards.{entriesOf, polygonsOf}
+use Rattle.writing.specs.Boards.{entries_of, polygons_of}
 use Rattle.writing.proofs.Stores.{sets_then}
 use Rattle.writing.proofs.Turns.{entries-long, polygons-long}
 use Rattle.writing.proofs.put.put_lists.Goals as goal
@@ -17,9 +17,9 @@ returns c =
     let ps = g.polygons.now in
     let qs = g.points.now in
     let l1 = bytes 2 (length ls) in
-    let l2 = each entryBytes (entriesOf ls) in
+    let l2 = each entry_bytes (entries_of ls) in
     let p1 = bytes 2 (length ps) in
-    let p2 = each polygonBytes (polygonsOf ps g.sheets.now qs) in
+    let p2 = each polygon_bytes (polygons_of ps g.sheets.now qs) in
     let k1 = bytes 2 (length g.splits.now) in
     let k2 = each (bytes 4) g.splits.now in
     let p = 18 + 10 * length ls in

@@ -8,8 +8,8 @@ use mir.Syntax.{w64}
 use mir.Val.{SFits}
 use mir.Facts.{to_z-of_z}
 use Rattle.std.proofs.Common.{rules}
-use Rattle.board.specs.Writing.{each, pointBytes}
-use Rattle.writing.specs.Boards.{ringOf}
+use Rattle.board.specs.Writing.{each, point_bytes}
+use Rattle.writing.specs.Boards.{ring_of}
 use Rattle.writing.proofs.Turns.{ring_turn}
 use Rattle.writing.proofs.put.put_ring.Goals as goal
 
@@ -20,5 +20,5 @@ loop-i-preserved c =
     let x : SFits w64 (get_or (get_or a.row.now l.i []) 0 (pos 0)) = search rules in
     let y : SFits w64 (get_or (get_or a.row.now l.i []) 1 (pos 0)) = search rules in
     let e = simp (to_z-of_z x, to_z-of_z y) at c.put_point.ensures in
-    ap (λ o. sets o (a.start + 16 * (l.i + 1)) (each pointBytes (ringOf (drop (l.i + 1) a.row.now)))) e
+    ap (λ o. sets o (a.start + 16 * (l.i + 1)) (each point_bytes (ring_of (drop (l.i + 1) a.row.now)))) e
     ∙ sym (ring_turn l.out a.row.now a.start l.i c.loop-i-test.true) ∙ l.invariant

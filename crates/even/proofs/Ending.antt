@@ -1,4 +1,4 @@
--- Demand 3 for each thing that can be said: what was done is the one coarsest splitting, where there was no room it needs more cells
+-- The coarsest splitting, for each thing that can be said: what was done is the one coarsest splitting, where there was no room it needs more cells
 -- than slots, and what is not well formed has none to keep. Assumes nothing.
 use Prim.Native.Nat.{ℕ, ◌+◌, ◌*◌, ◌-◌, ◌/◌, ◌<◌, ◌≤◌}
 use mathlib.Core.Path.{◌≡◌, refl, sym, ap, subst, ◌∙◌}
@@ -15,7 +15,7 @@ use Rattle.coarsest.specs.Names.{Evens}
 use Rattle.coarsest.proofs.Kept.{evened-quarter}
 use Rattle.coarsest.proofs.Laws.{evened-evens, evened-needs, needs-one}
 use Rattle.coarsest.proofs.Room.{over-needs, needs-over}
-use Rattle.even.specs.Even.{DemandThree}
+use Rattle.even.specs.Even.{EndsCoarsest}
 
 not-refused : (vs : List ℕ) (n p : ℕ) → accepted vs ≡ refused n p → ⊥
 not-refused vs n p e = let z : ◌≡◌ {A = ℕ} 0 1 = cc in omega arith
@@ -29,9 +29,9 @@ module _ (e : Engine) (k M : ℕ) (t u : List ℤ) (n : ℕ) (w : WellFormed t n
       let q = evened-quarter e k M (table t n) w.cells in
       omega (arith, q, ap length (sym c), length-table u r, length-table t n)
 
-  pub demand-done : (r : ℕ) → table u r ≡ evened e k M (table t n) → r ≤ length t / 8
-      → DemandThree k M t u n (accepted ((r - n) / 4 ∷ r ∷ M ∷ []))
-  demand-done r c room =
+  pub ends-done : (r : ℕ) → table u r ≡ evened e k M (table t n) → r ≤ length t / 8
+      → EndsCoarsest k M t u n (accepted ((r - n) / 4 ∷ r ∷ M ∷ []))
+  ends-done r c room =
       let l : r ≡ length (evened e k M (table t n)) = sym (length-table u r) ∙ ap length c in
       record {
         exists = λ f. (length (evened e k M (table t n)), evened-needs e k M (table t n) w.cells);
@@ -47,8 +47,8 @@ module _ (e : Engine) (k M : ℕ) (t u : List ℤ) (n : ℕ) (w : WellFormed t n
         over = λ f cells needs h. absurd (let q = needs-over e k (table t n) M w.cells (length t / 8) cells needs h in omega arith);
       }
 
-  pub demand-full : length t / 8 < length (evened e k M (table t n)) → u ≡ t → DemandThree k M t u n (refused 6 0)
-  demand-full h same =
+  pub ends-full : length t / 8 < length (evened e k M (table t n)) → u ≡ t → EndsCoarsest k M t u n (refused 6 0)
+  ends-full h same =
       record {
         exists = λ f. (length (evened e k M (table t n)), evened-needs e k M (table t n) w.cells);
         done = λ splits count s. absurd (not-refused (splits ∷ count ∷ M ∷ []) 6 0 (sym s));
@@ -57,8 +57,8 @@ module _ (e : Engine) (k M : ℕ) (t u : List ℤ) (n : ℕ) (w : WellFormed t n
         bad = λ f. absurd (f w);
       }
 
-pub demand-bad : (k M : ℕ) (t : List ℤ) (n : ℕ) → (WellFormed t n M → ⊥) → DemandThree k M t t n (refused 7 0)
-demand-bad k M t n bad =
+pub ends-bad : (k M : ℕ) (t : List ℤ) (n : ℕ) → (WellFormed t n M → ⊥) → EndsCoarsest k M t t n (refused 7 0)
+ends-bad k M t n bad =
     record {
       exists = λ f. absurd (bad f);
       done = λ splits count s. absurd (not-refused (splits ∷ count ∷ M ∷ []) 7 0 (sym s));
