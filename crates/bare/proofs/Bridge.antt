@@ -1,16 +1,7 @@
 -- What the rows hold is the net before the weights: nodes, cells and edges. Assumes nothing.
-use mathlib.Core.Path.{◌≡◌, refl, sym, ap, ap₂, ◌∙◌}
-use mathlib.Core.Bool.{Bool, true, false, ◌&&◌, not}
-use mathlib.Core.Logic.{◌⊎◌, inl, inr, ⊎_elim}
-use mathlib.Core.List.{List, [], ◌∷◌, ◌++◌, map}
-use Prim.Native.Nat.{ℕ, zero, suc, ◌+◌, ◌*◌, ◌/◌, ◌%◌, ◌^◌, ◌<◌, ◌≤◌}
-use native.Mathlib.Omega.{arith}
-use native.Mathlib.Nat.{zero-add, add-zero}
-use lib.Dec.{ltb, leb, eqb}
-use lib.ListN.{length, get_or, length-append, length-map, get_or-map}
-use lib.Seq.{get_or-append-add}
-use lib.Ieee.{Float, nan}
-use borrow.Author.Tests.{le-ltb, ltb-true, eqb-true}
+use Rattle.std.proofs.Common.{◌≡◌, refl, sym, ap, ap₂, ◌∙◌, Bool, true, false, ◌&&◌, not, ◌⊎◌, inl, inr, ⊎_elim, List, [], ◌∷◌, ◌++◌, map, ℕ, zero, suc, ◌+◌, ◌*◌, ◌/◌, ◌%◌, ◌^◌, ◌<◌, ◌≤◌, arith, zero-add, add-zero, ltb, leb, eqb, length, get_or, length-append, get_or-append-add, Float, le-ltb, ltb-true, eqb-true}
+use lib.ListN.{length-map, get_or-map}
+use lib.Ieee.{nan}
 use Rattle.rows.specs.Parts.{tab}
 use Rattle.rows.specs.Contract.{Small}
 use Rattle.rows.proofs.Fill.{length-tab, tab-at, tab-only}

@@ -1,10 +1,5 @@
 -- The rows, read: polygons, numbers and middles. Assumes nothing.
-use mathlib.Core.Path.{◌≡◌, refl, sym, ap, subst, ◌∙◌}
-use mathlib.Core.List.{List}
-use Prim.Native.Nat.{ℕ, ◌+◌, ◌*◌, ◌-◌, ◌<◌}
-use native.Mathlib.Omega.{arith}
-use native.Mathlib.Nat.{zero-add}
-use lib.ListN.{get_or, take, drop}
+use Rattle.std.proofs.Common.{◌≡◌, refl, sym, ap, subst, ◌∙◌, List, ℕ, ◌+◌, ◌*◌, ◌-◌, ◌<◌, arith, zero-add, get_or, take, drop}
 use Rattle.refusals.specs.Limits.{max_polygons}
 use Rattle.rows.specs.Contract.{Small}
 use Rattle.rows.specs.Parts.{part, tab}

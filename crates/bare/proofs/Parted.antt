@@ -1,20 +1,11 @@
 -- The slots, sorted: what the sort requires and leaves. And rows written one or two entries at a time. Assumes nothing.
-use mathlib.Core.Path.{◌≡◌, sym, ap, subst, ◌∙◌}
-use mathlib.Core.Bool.{Bool, true, false, ◌&&◌, not}
-use mathlib.Core.Logic.{inl, ⊎_elim}
-use mathlib.Core.List.{List, [], ◌∷◌, ◌++◌}
-use Prim.Native.Nat.{ℕ, ◌+◌, ◌*◌, ◌-◌, ◌/◌, ◌%◌, ◌^◌, ◌<◌, ◌≤◌, min, max}
-use native.Mathlib.Omega.{arith}
-use native.Mathlib.Nat.{add-zero, zero-add}
+use Rattle.std.proofs.Common.{◌≡◌, sym, ap, subst, ◌∙◌, Bool, true, false, ◌&&◌, not, inl, ⊎_elim, List, [], ◌∷◌, ◌++◌, ℕ, ◌+◌, ◌*◌, ◌-◌, ◌/◌, ◌%◌, ◌^◌, ◌<◌, ◌≤◌, min, max, arith, add-zero, zero-add, eqb, length, get_or, take, drop, set, length-drop, length-take-le, take-take, drop-drop, eq-eqb, ne_eqb}
 use borrow.Rule.Slice.PartMut.{put_mid}
-use lib.Dec.{eqb}
-use lib.ListN.{length, get_or, take, drop, set, length-drop, get_or-eq_default}
-use lib.Seq.{length-take-le, take-take, drop-drop}
+use lib.ListN.{get_or-eq_default}
 use Rattle.refusals.specs.Limits.{max_polygons}
 use Rattle.rows.specs.Order as Rows
 use Rattle.rows.specs.Parts.{part, put, tab}
 use Rattle.rows.specs.Contract.{Small}
-use borrow.Author.Tests.{eq-eqb, ne_eqb}
 use Rattle.rows.proofs.Parts.{part_at, take_put, put-nil, put-snoc, part-all}
 use Rattle.rows.proofs.Fill.{length-tab, tab-at, tab-same, filled-long, filled-part}
 use Rattle.rows.proofs.Lent.{block-long, block-other, block-third}

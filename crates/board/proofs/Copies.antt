@@ -1,14 +1,6 @@
 -- Laws of copying: a row is filled item by item, and each item is what its bytes say. Assumes nothing.
-use Prim.Native.Nat.{ℕ, suc, ◌+◌, ◌-◌, ◌≤◌, ◌<◌}
-use mathlib.Core.Path.{◌≡◌, sym, ap, subst, ◌∙◌}
-use mathlib.Core.List.{List, [], ◌∷◌, map}
-use native.Mathlib.Numerals.{add-one}
-use native.Mathlib.Omega.{arith}
-use lib.IntN.{ℤ}
-use lib.ListN.{length, set}
+use Rattle.std.proofs.Common.{ℕ, suc, ◌+◌, ◌-◌, ◌≤◌, ◌<◌, ◌≡◌, sym, ap, subst, ◌∙◌, List, [], ◌∷◌, map, add-one, arith, ℤ, length, set, w64, to_z}
 use lib.Seq.{sets}
-use mir.Syntax.{w64}
-use mir.Val.{to_z}
 use Rattle.refusals.specs.Limits.{max_cell}
 use Rattle.cell.specs.Ticks.{in_range}
 use Rattle.refusals.specs.declared.Refusal.TheVariants.{OutOfRange}

@@ -1,15 +1,6 @@
 -- What an accepted record is made of, where the second walk finds it, and what reading it comes to. Assumes nothing.
-use Prim.Native.Nat.{ℕ, ◌+◌, ◌-◌, ◌≤◌}
-use mathlib.Core.Path.{◌≡◌, refl, sym, ap, subst, ◌∙◌}
-use mathlib.Core.Bool.{Bool, true, false, cond, ◌||◌, ◌&&◌, false≢true}
-use borrow.Author.Tests.{leb-true}
-use lib.IntN.{ℤ}
-use lib.Ieee.{Float}
-use mathlib.Core.List.{List}
-use native.Mathlib.Omega.{arith}
-use lib.Dec.{leb, eqb}
-use lib.ListN.{length}
-use Rattle.std.specs.Prelude.{Result, Ok, Err}
+use Rattle.std.proofs.Common.{ℕ, ◌+◌, ◌-◌, ◌≤◌, ◌≡◌, refl, sym, ap, subst, ◌∙◌, Bool, true, false, cond, ◌||◌, ◌&&◌, leb-true, ℤ, Float, List, arith, leb, eqb, length, Result, Ok, Err}
+use mathlib.Core.Bool.{false≢true}
 use Rattle.refusals.specs.declared.Refusal.{Refusal}
 use Rattle.refusals.specs.declared.Refusal.TheVariants.{WrongVersion, WrongLength, OutOfRange, NoRoom}
 use Rattle.refusals.specs.Limits.{widest_level, max_cap, max_cell, max_layers, max_polygons}

@@ -1,20 +1,9 @@
 -- What was written is read again: for every board in range, the record of the board reads as the board. Assumes nothing.
-use Prim.Native.Nat.{ℕ, zero, suc, ◌+◌, ◌*◌, ◌-◌, ◌/◌, ◌%◌, ◌≤◌, ◌<◌, ◌^◌}
-use mathlib.Core.Path.{◌≡◌, refl, sym, ap, subst, ◌∙◌}
-use mathlib.Core.Bool.{Bool, true, false, ◌&&◌, false≢true}
-use mathlib.Core.List.{List, [], ◌∷◌, ◌++◌, append_assoc, append-nil}
-use native.Mathlib.Nat.{add_assoc, add-zero, mul-suc, pow-suc}
-use native.Mathlib.Numerals.{add-one}
-use native.Mathlib.Omega.{arith}
-use lib.IntN.{ℤ, pos, negsuc}
-use lib.ListN.{length, get_or, length-append}
+use Rattle.std.proofs.Common.{ℕ, zero, suc, ◌+◌, ◌*◌, ◌-◌, ◌/◌, ◌%◌, ◌≤◌, ◌<◌, ◌^◌, ◌≡◌, refl, sym, ap, subst, ◌∙◌, Bool, true, false, ◌&&◌, List, [], ◌∷◌, ◌++◌, append_assoc, append-nil, add_assoc, add-zero, mul-suc, pow-suc, add-one, arith, ℤ, pos, negsuc, length, get_or, length-append, le-leb, eq-eqb, ne_eqb, leb-true, leb, lit<, w64, of_z, SFits, to_z-of_z}
+use mathlib.Core.Bool.{false≢true}
 use lib.Seq.{get_or-append_seam}
-use borrow.Author.Tests.{le-leb, eq-eqb, ne_eqb, leb-true}
-use lib.Dec.{leb, lit<}
 use Rattle.record.specs.declared.Settings.{Settings}
-use mir.Syntax.{w64}
-use mir.Val.{of_z, SFits}
-use mir.Facts.{to_z-of_z, Fits-of_z}
+use mir.Facts.{Fits-of_z}
 use Rattle.refusals.specs.Limits.{widest_level, max_cap, max_cell, max_layers, max_polygons, max_points, coordinate as coordinate_max}
 use Rattle.cell.specs.Ticks.{in_range}
 use Rattle.record.specs.Fields.{Out, value, ◌then◌, many, several, big_endian, field, ranged, signed}

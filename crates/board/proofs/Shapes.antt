@@ -1,13 +1,8 @@
 -- Laws of copying polygons: three rows are filled polygon by polygon. Assumes nothing.
-use Prim.Native.Nat.{ℕ, suc, ◌+◌, ◌-◌, ◌≤◌, ◌<◌}
-use mathlib.Core.Path.{◌≡◌, refl, sym, ap, subst, ◌∙◌}
-use mathlib.Core.List.{List, [], ◌∷◌, ◌++◌, map, map-append}
-use native.Mathlib.Nat.{add-zero, add-suc, suc-add}
-use native.Mathlib.Numerals.{add-one}
-use native.Mathlib.Omega.{arith}
-use lib.IntN.{ℤ}
-use lib.Ieee.{Float, binary64, of_bits}
-use lib.ListN.{length, set, length-map}
+use Rattle.std.proofs.Common.{ℕ, suc, ◌+◌, ◌-◌, ◌≤◌, ◌<◌, ◌≡◌, refl, sym, ap, subst, ◌∙◌, List, [], ◌∷◌, ◌++◌, map, add-zero, add-suc, suc-add, add-one, arith, ℤ, Float, length, set}
+use mathlib.Core.List.{map-append}
+use lib.Ieee.{binary64, of_bits}
+use lib.ListN.{length-map}
 use lib.Seq.{sets, length-sets}
 use Rattle.record.specs.Fields.{value, big_endian}
 use Rattle.record.specs.Board.{Polygon, polygon, point, ring, shapes, points_in, points_of}

@@ -1,10 +1,5 @@
 -- The bits of an r_sheet in range are no NaN's. Assumes nothing.
-use Prim.Native.Nat.{ℕ, ◌≤◌, ◌%◌, ◌/◌}
-use mathlib.Core.Path.{◌≡◌}
-use mathlib.Core.Bool.{not}
-use native.Mathlib.Omega.{arith}
-use borrow.Author.Tests.{ne_eqb}
-use lib.Dec.{T}
+use Rattle.std.proofs.Common.{ℕ, ◌≤◌, ◌%◌, ◌/◌, ◌≡◌, not, arith, ne_eqb, T}
 use lib.Ieee.{binary64, nan_bits}
 use Rattle.record.specs.Board.{sheet_high}
 

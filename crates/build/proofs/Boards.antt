@@ -1,15 +1,5 @@
 -- A board's polygons one after another. Assumes nothing.
-use Prim.Native.Nat.{ℕ, zero, suc, ◌+◌, ◌-◌, ◌*◌, ◌^◌, ◌<◌, ◌≤◌}
-use mathlib.Core.Path.{◌≡◌, refl, sym, ap, ◌∙◌}
-use mathlib.Core.Bool.{true, false}
-use mathlib.Core.List.{List, [], ◌++◌}
-use mathlib.Core.Logic.{⊎_elim}
-use native.Mathlib.Omega.{arith}
-use native.Mathlib.Numerals.{add-one}
-use lib.Dec.{eqb}
-use lib.Pow.{pow_mono}
-use lib.IntN.{ℤ}
-use lib.ListN.{length, get_or, length-append}
+use Rattle.std.proofs.Common.{ℕ, zero, suc, ◌+◌, ◌-◌, ◌*◌, ◌^◌, ◌<◌, ◌≤◌, ◌≡◌, refl, sym, ap, ◌∙◌, true, false, List, [], ◌++◌, ⊎_elim, arith, add-one, eqb, pow_mono, ℤ, length, get_or, length-append}
 use borrow.Author.Tests.{eqb-false}
 use Rattle.cell.proofs.Offsets.{below?}
 use Rattle.refusals.specs.Limits.{widest_level, max_cell}

@@ -1,16 +1,6 @@
 -- A board that build accepts to cut is one that the steps can take. Assumes nothing.
-use Prim.Native.Nat.{ℕ, zero, suc, ◌+◌, ◌-◌, ◌*◌, ◌%◌, ◌^◌, ◌<◌, ◌≤◌}
-use mathlib.Core.Path.{◌≡◌, refl, sym, ap, ◌∙◌}
-use mathlib.Core.Bool.{true, ◌&&◌}
-use mathlib.Core.List.{List, [], ◌∷◌, ◌++◌}
-use mathlib.Core.Logic.{⊎_elim}
-use native.Mathlib.Omega.{arith}
-use lib.Dec.{eqb, ltb, leb}
-use lib.IntN.{ℤ, pos}
-use lib.Ieee.{Float, nan}
-use lib.ListN.{length, get_or, take, drop, replicate}
-use lib.Seq.{take_at, take_all}
-use borrow.Author.Tests.{eqb-true, leb-true}
+use Rattle.std.proofs.Common.{ℕ, zero, suc, ◌+◌, ◌-◌, ◌*◌, ◌%◌, ◌^◌, ◌<◌, ◌≤◌, ◌≡◌, refl, sym, ap, ◌∙◌, true, ◌&&◌, List, [], ◌∷◌, ◌++◌, ⊎_elim, arith, eqb, ltb, leb, ℤ, pos, Float, length, get_or, take, drop, replicate, take_at, take_all, eqb-true, leb-true}
+use lib.Ieee.{nan}
 use Rattle.cell.proofs.Offsets.{below?}
 use Rattle.cell.proofs.Contact.{and_left, and_right}
 use Rattle.refusals.specs.Limits.{widest_level, max_cap, max_cell, max_layers, max_points, max_polygons}

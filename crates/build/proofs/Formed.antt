@@ -1,18 +1,8 @@
 -- What build leaves is a well-formed table in which every cell is a root and a leaf: each slot below the count has level 0, no parent and
 -- no child, coordinates in range, sides that are positive multiples of 2^(max_level+1) and a polygon of the board; the rest is zero.
 -- Assumes nothing.
-use Prim.Native.Nat.{ℕ, zero, suc, ◌+◌, ◌-◌, ◌*◌, ◌/◌, ◌<◌, ◌≤◌}
-use mathlib.Core.Path.{◌≡◌, refl, ap, ◌∙◌}
-use mathlib.Core.Bool.{true}
-use mathlib.Core.List.{List, [], ◌∷◌, ◌++◌}
-use mathlib.Core.Logic.{⊎_elim}
-use native.Mathlib.Omega.{arith}
-use lib.Dec.{ltb}
-use lib.IntN.{ℤ, pos}
-use lib.Ieee.{Float}
-use lib.ListN.{length, get_or, take, drop, replicate, get_or-replicate, length-replicate, get_or-eq_default}
-use lib.Seq.{get_or-append-add}
-use borrow.Author.Tests.{ltb-false}
+use Rattle.std.proofs.Common.{ℕ, zero, suc, ◌+◌, ◌-◌, ◌*◌, ◌/◌, ◌<◌, ◌≤◌, ◌≡◌, refl, ap, ◌∙◌, true, List, [], ◌∷◌, ◌++◌, ⊎_elim, arith, ltb, ℤ, pos, Float, length, get_or, take, drop, replicate, get_or-append-add, ltb-false}
+use lib.ListN.{get_or-replicate, length-replicate, get_or-eq_default}
 use Rattle.cell.proofs.Offsets.{below?}
 use Rattle.cell.proofs.Contact.{and_left, and_right}
 use Rattle.refusals.specs.Said.{Said, accepted}

@@ -1,16 +1,7 @@
 -- The rows of a board: point counts that add up, the layer list, and the polygons judged one after another. Assumes nothing.
-use Prim.Native.Nat.{ℕ, zero, suc, ◌+◌, ◌-◌, ◌<◌, ◌≤◌}
-use mathlib.Core.Path.{◌≡◌, refl, sym, ◌∙◌}
-use mathlib.Core.Bool.{true, false}
-use mathlib.Core.List.{List}
-use mathlib.Core.Logic.{⊎_elim}
-use native.Mathlib.Omega.{arith}
-use native.Mathlib.Numerals.{add-one}
-use lib.IntN.{ℤ}
-use lib.Ieee.{Float, nan}
-use lib.ListN.{length, get_or, take, drop}
-use lib.Dec.{eqb}
-use borrow.Author.Tests.{eqb-true, eqb-false, eq-eqb, ne_eqb}
+use Rattle.std.proofs.Common.{ℕ, zero, suc, ◌+◌, ◌-◌, ◌<◌, ◌≤◌, ◌≡◌, refl, sym, ◌∙◌, true, false, List, ⊎_elim, arith, add-one, ℤ, Float, length, get_or, take, drop, eqb, eqb-true, eq-eqb, ne_eqb}
+use lib.Ieee.{nan}
+use borrow.Author.Tests.{eqb-false}
 use Rattle.cell.proofs.Offsets.{below?}
 use Rattle.refusals.specs.Said.{Said, refused}
 use Rattle.strips.specs.Rings.{ring_in_range, ring_slants}

@@ -1,16 +1,8 @@
 -- Roots placed in the table: their numbers one behind the other, and what is placed later behind what was placed before.
 -- Assumes nothing.
-use Prim.Native.Nat.{ℕ, zero, suc, ◌+◌, ◌*◌, ◌<◌, ◌≤◌}
-use mathlib.Core.Path.{◌≡◌, refl, sym, ap, ◌∙◌}
-use mathlib.Core.List.{List, [], ◌∷◌, ◌++◌, append_assoc}
-use native.Mathlib.Omega.{arith}
-use native.Mathlib.Numerals.{add-one}
-use native.Mathlib.Nat.{suc-mul, zero-mul}
-use mathlib.Core.Logic.{⊎_elim}
+use Rattle.std.proofs.Common.{ℕ, zero, suc, ◌+◌, ◌*◌, ◌<◌, ◌≤◌, ◌≡◌, refl, sym, ap, ◌∙◌, List, [], ◌∷◌, ◌++◌, append_assoc, arith, add-one, suc-mul, zero-mul, ⊎_elim, ℤ, pos, length, take, drop, set, length-append, take-append-drop, take_at, drop_at, length-take-le, drop-drop}
 use Rattle.cell.proofs.Offsets.{below?}
-use lib.IntN.{ℤ, pos}
-use lib.ListN.{length, take, drop, set, length-append, take-append-drop}
-use lib.Seq.{sets, sets-eq, take_at, drop_at, length-take-le, drop-drop}
+use lib.Seq.{sets, sets-eq}
 use Rattle.cell.specs.Cells.{no_cell}
 use Rattle.cell.specs.Ticks.{on}
 use Rattle.strips.specs.Said.{strip_row}

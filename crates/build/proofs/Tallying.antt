@@ -1,12 +1,5 @@
 -- Sides judged and roots counted, strip by strip. Assumes nothing.
-use Prim.Native.Nat.{ℕ, ◌+◌, ◌*◌, ◌<◌, ◌≤◌, min}
-use mathlib.Core.Path.{◌≡◌, refl, sym, ap, ◌∙◌}
-use mathlib.Core.Bool.{true, false}
-use mathlib.Core.List.{List, [], ◌∷◌}
-use mathlib.Core.Logic.{⊎_elim}
-use native.Mathlib.Omega.{arith}
-use lib.ListN.{length}
-use borrow.Author.Tests.{lt-ltb, le-ltb}
+use Rattle.std.proofs.Common.{ℕ, ◌+◌, ◌*◌, ◌<◌, ◌≤◌, min, ◌≡◌, refl, sym, ap, ◌∙◌, true, false, List, [], ◌∷◌, ⊎_elim, arith, length, lt-ltb, le-ltb}
 use Rattle.cell.proofs.Offsets.{below?}
 use Rattle.strips.specs.declared.walk.Strip.{Strip}
 use Rattle.build.specs.Grid.{cut_of, even_strip, all_even, roots_in}

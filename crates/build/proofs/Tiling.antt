@@ -1,13 +1,6 @@
 -- A strip's cells tile it: together they have its area, and no two overlap. Each is a root: in range, with positive sides that are
 -- multiples of the unit. Assumes nothing.
-use Prim.Native.Nat.{ℕ, zero, suc, ◌+◌, ◌-◌, ◌*◌, ◌/◌, ◌%◌, ◌<◌, ◌≤◌}
-use mathlib.Core.Path.{◌≡◌, sym, ap, ◌∙◌}
-use mathlib.Core.Bool.{true}
-use mathlib.Core.List.{List, [], ◌∷◌, ◌++◌}
-use mathlib.Core.Logic.{◌⊎◌, inl, inr, ⊎_elim}
-use native.Mathlib.Omega.{arith}
-use native.Mathlib.Nat.{mul_comm, mul_assoc, mul-add, add-mul, mul-one, zero-mul, mul-zero, div-add-mod', mul-le-mul_left, mul-div_cancel, add-zero, mul-suc}
-use borrow.Author.Tests.{eqb-true}
+use Rattle.std.proofs.Common.{ℕ, zero, suc, ◌+◌, ◌-◌, ◌*◌, ◌/◌, ◌%◌, ◌<◌, ◌≤◌, ◌≡◌, sym, ap, ◌∙◌, true, List, [], ◌∷◌, ◌++◌, ◌⊎◌, inl, inr, ⊎_elim, arith, mul_comm, mul_assoc, mul-add, add-mul, mul-one, zero-mul, mul-zero, div-add-mod', mul-le-mul_left, mul-div_cancel, add-zero, mul-suc, eqb-true}
 use Rattle.cell.proofs.Contact.{and_left, and_right}
 use Rattle.refusals.specs.Limits.{coordinate}
 use Rattle.strips.specs.Walk.{Sound}

@@ -1,16 +1,6 @@
 -- What build leaves is a well-formed table, by the rules' definition, in which every cell is a root and a leaf. Assumes nothing.
-use Prim.Native.Nat.{ℕ, ◌+◌, ◌*◌, min, ◌<◌, ◌≤◌}
-use mathlib.Core.Path.{◌≡◌, refl, ap, ◌∙◌}
-use mathlib.Core.Bool.{true}
-use mathlib.Core.Option.{none}
-use mathlib.Core.List.{List, [], ◌∷◌}
-use native.Mathlib.Omega.{arith}
-use lib.Dec.{eqb}
-use lib.IntN.{ℤ, pos}
-use lib.Ieee.{Float}
-use lib.ListN.{length, replicate, length-append, length-replicate}
-use lib.Seq.{get_or-take, get_or-drop}
-use borrow.Author.Tests.{eq-eqb}
+use Rattle.std.proofs.Common.{ℕ, ◌+◌, ◌*◌, min, ◌<◌, ◌≤◌, ◌≡◌, refl, ap, ◌∙◌, true, None, List, [], ◌∷◌, arith, eqb, ℤ, pos, Float, length, replicate, length-append, get_or-take, get_or-drop, eq-eqb}
+use lib.ListN.{length-replicate}
 use Rattle.refusals.specs.Limits.{max_polygons}
 use Rattle.refusals.specs.Said.{accepted}
 use Rattle.cell.specs.declared.Cell as Held
@@ -82,10 +72,10 @@ module _ (b : Board) (u : List ℤ) (n : ℕ) (w : RootsOnly b u n) (few : polyg
   built-at : (i : ℕ) → i < n → Mesh.at (Mesh.table u n) i ≡ Mesh.mesh_cell (root_cell (w.root i))
   built-at i h = at_table u n i h ∙ ap Mesh.mesh_cell (built-cell i h)
 
-  no_kids : (i : ℕ) → i < n → (Mesh.at (Mesh.table u n) i).kids ≡ none
+  no_kids : (i : ℕ) → i < n → (Mesh.at (Mesh.table u n) i).kids ≡ None
   no_kids i h = ap (λ (c : Mesh.Cell). c.kids) (built-at i h) ∙ opt_none no_cell refl
 
-  no-parent : (i : ℕ) → i < n → (Mesh.at (Mesh.table u n) i).parent ≡ none
+  no-parent : (i : ℕ) → i < n → (Mesh.at (Mesh.table u n) i).parent ≡ None
   no-parent i h = ap (λ (c : Mesh.Cell). c.parent) (built-at i h) ∙ opt_none no_cell refl
 
   inside : (i : ℕ) → i < length (Mesh.table u n) → i < n
@@ -136,5 +126,5 @@ module _ (b : Board) (components : List ℕ) (sheets : List Float) (t : List ℤ
   pub built-leaves : (i : ℕ) → i < n → leaf_at (build_leaves b components sheets t) i ≡ true
   built-leaves = built-leaf b (build_leaves b components sheets t) n (built-roots b components sheets t n e) (passed b components sheets t n e).board.polys
 
-  pub built-parentless : (i : ℕ) → i < n → (Mesh.at (Mesh.table (build_leaves b components sheets t) n) i).parent ≡ none
+  pub built-parentless : (i : ℕ) → i < n → (Mesh.at (Mesh.table (build_leaves b components sheets t) n) i).parent ≡ None
   built-parentless = no-parent b (build_leaves b components sheets t) n (built-roots b components sheets t n e) (passed b components sheets t n e).board.polys

@@ -1,14 +1,5 @@
 -- Of a polygon of one strip build leaves roots that are one grid, and balance then leaves no node of it hanging. Assumes nothing.
-use Prim.Native.Nat.{ℕ, zero, suc, ◌+◌, ◌*◌, ◌-◌, ◌/◌, ◌%◌, ◌<◌, ◌≤◌}
-use mathlib.Core.Path.{◌≡◌, refl, sym, ap, subst, ◌∙◌}
-use mathlib.Core.Bool.{true}
-use mathlib.Core.List.{List, [], ◌∷◌, ◌++◌, append-nil}
-use native.Mathlib.Omega.{arith}
-use native.Mathlib.Nat.{div-lt_iff_lt-mul, mod-lt}
-use lib.IntN.{ℤ, pos}
-use lib.Ieee.{Float}
-use lib.ListN.{length, get_or, drop, replicate}
-use lib.Seq.{get_or-take, get_or-drop}
+use Rattle.std.proofs.Common.{ℕ, zero, suc, ◌+◌, ◌*◌, ◌-◌, ◌/◌, ◌%◌, ◌<◌, ◌≤◌, ◌≡◌, refl, sym, ap, subst, ◌∙◌, true, List, [], ◌∷◌, ◌++◌, append-nil, arith, div-lt_iff_lt-mul, mod-lt, ℤ, pos, Float, length, get_or, drop, replicate, get_or-take, get_or-drop}
 use Rattle.refusals.specs.Limits.{coordinate}
 use Rattle.refusals.specs.Said.{accepted}
 use Rattle.cell.specs.Boxes.{Box}

@@ -1,12 +1,7 @@
 -- Contact: as facts; symmetric; a corner is none; and the lemma on quadrants: a box that shares an edge with another has a quadrant
 -- that does. The engines cite contact by these laws and never by its text. Assumes nothing.
-use mathlib.Core.Path.{◌≡◌, refl}
-use mathlib.Core.Bool.{Bool, true, false, ◌&&◌, ◌||◌, false≢true}
-use mathlib.Core.Logic.{◌⊎◌, inl, inr, ⊎_elim}
-use Prim.Native.Nat.{ℕ, ◌+◌, ◌<◌, ◌≤◌, min, max}
-use native.Mathlib.Omega.{arith}
-use lib.Dec.{ltb, eqb}
-use borrow.Author.Tests.{ltb-true, ltb-false, lt-ltb, eqb-true, eq-eqb}
+use Rattle.std.proofs.Common.{◌≡◌, refl, Bool, true, false, ◌&&◌, ◌||◌, ◌⊎◌, inl, inr, ⊎_elim, ℕ, ◌+◌, ◌<◌, ◌≤◌, min, max, arith, ltb, eqb, ltb-true, ltb-false, lt-ltb, eqb-true, eq-eqb}
+use mathlib.Core.Bool.{false≢true}
 use Rattle.cell.specs.Boxes.{Box, Quad, sw, se, nw, ne, quadrant, mid, overlaps, shares_edge}
 
 pub or_cases : (x y : Bool) → (x || y) ≡ true → (x ≡ true) ⊎ (y ≡ true)

@@ -1,15 +1,7 @@
 -- Laws of coordinates: what the code's steps ask, and that the offset and the way back undo one another. Assumes nothing.
-use Prim.Native.Nat.{ℕ, suc, ◌+◌, ◌-◌, min, ◌<◌, ◌≤◌}
-use mathlib.Core.Path.{◌≡◌, refl, ap, sym, subst}
-use mathlib.Core.Bool.{Bool, true, false}
-use mathlib.Core.Logic.{◌⊎◌, inl, inr, ⊎_elim}
-use native.Mathlib.Omega.{arith}
-use lib.IntN.{ℤ, pos, negsuc, sub_ℕ, ◌+ℤ◌, ◌-ℤ◌}
+use Rattle.std.proofs.Common.{ℕ, suc, ◌+◌, ◌-◌, min, ◌<◌, ◌≤◌, ◌≡◌, refl, ap, sym, subst, Bool, true, false, ◌⊎◌, inl, inr, ⊎_elim, arith, ℤ, pos, negsuc, ◌+ℤ◌, ◌-ℤ◌, T, ltb, lt-ltb, le-ltb, ltb-true, ltb-false, leb-true, leb-false, w64, SFits}
+use lib.IntN.{sub_ℕ}
 use lib.Signed.{le_z}
-use lib.Dec.{T, ltb}
-use borrow.Author.Tests.{lt-ltb, le-ltb, ltb-true, ltb-false, leb-true, leb-false}
-use mir.Syntax.{w64}
-use mir.Val.{SFits}
 use Rattle.refusals.specs.Limits.{coordinate}
 use Rattle.cell.specs.Ticks.{off, on}
 

@@ -1,10 +1,5 @@
 -- What the tests of the code say of the definitions. Assumes nothing.
-use Prim.Native.Nat.{ℕ, zero, suc, min, max}
-use mathlib.Core.Path.{◌≡◌, refl, sym}
-use mathlib.Core.Bool.{Bool, true, false, ◌&&◌}
-use native.Mathlib.Omega.{arith}
-use lib.Dec.{ltb}
-use borrow.Author.Tests.{ltb-true, ltb-false, lt-ltb, le-ltb}
+use Rattle.std.proofs.Common.{ℕ, zero, suc, min, max, ◌≡◌, refl, sym, Bool, true, false, ◌&&◌, arith, ltb, ltb-true, ltb-false, lt-ltb, le-ltb}
 use Rattle.cell.specs.Boxes.{ne, quad_at, overlaps}
 
 pub quad-last : (k : ℕ) → (k ≡ 0 → ⊥) → (k ≡ 1 → ⊥) → (k ≡ 2 → ⊥) → quad_at k ≡ ne

@@ -1,11 +1,5 @@
 -- What is known once the rows have passed. Assumes nothing.
-use Prim.Native.Nat.{ℕ, ◌+◌, ◌*◌, ◌<◌, ◌≤◌}
-use mathlib.Core.Path.{◌≡◌}
-use mathlib.Core.Bool.{Bool, true, false}
-use mathlib.Core.List.{List}
-use native.Mathlib.Omega.{arith}
-use lib.Dec.{leb, leb→le}
-use lib.IntN.{ℤ}
+use Rattle.std.proofs.Common.{ℕ, ◌+◌, ◌*◌, ◌<◌, ◌≤◌, ◌≡◌, Bool, true, false, List, arith, leb, leb→le, ℤ}
 use lib.Ieee.Fits.{and_l, and_r}
 use Rattle.table.specs.Slots.{cell_at}
 use Rattle.sound_net.specs.Nets.{Net, node_count, sound_net}

@@ -1,14 +1,5 @@
 -- Halving a row of sorted keys: the turns, and what stands where they end. Assumes nothing.
-use Prim.Native.Nat.{ℕ, ◌+◌, ◌-◌, ◌<◌, ◌≤◌}
-use mathlib.Core.Path.{◌≡◌, sym, ap, subst, ◌∙◌}
-use Rattle.std.specs.Prelude.{None, Some}
-use mathlib.Core.Logic.{⊎_elim}
-use mathlib.Core.List.{List}
-use native.Mathlib.Nat.{eq-or-lt_of_le}
-use native.Mathlib.Omega.{arith}
-use lib.ListN.{length, get_or}
-use lib.Dec.{eqb}
-use borrow.Author.Tests.{eq-eqb, ne_eqb}
+use Rattle.std.proofs.Common.{ℕ, ◌+◌, ◌-◌, ◌<◌, ◌≤◌, ◌≡◌, sym, ap, subst, ◌∙◌, None, Some, ⊎_elim, List, eq-or-lt_of_le, arith, length, get_or, eqb, eq-eqb, ne_eqb}
 use Rattle.cell.proofs.Offsets.{below?}
 use Rattle.rows.specs.Order.{key, ordered}
 use Rattle.rows.specs.Parts.{part}

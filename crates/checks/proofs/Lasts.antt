@@ -1,11 +1,5 @@
 -- Laws of the last index that passes a test. Assumes nothing.
-use Prim.Native.Nat.{ℕ, zero, suc, ◌<◌}
-use mathlib.Core.Path.{◌≡◌, refl, sym, ap, ◌∙◌}
-use mathlib.Core.Bool.{Bool, true, false}
-use Rattle.std.specs.Prelude.{None, Some}
-use mathlib.Core.Logic.{◌⊎◌, inl, inr, ⊎_elim}
-use native.Mathlib.Nat.{eq-or-lt_of_le}
-use native.Mathlib.Omega.{arith}
+use Rattle.std.proofs.Common.{ℕ, zero, suc, ◌<◌, ◌≡◌, refl, sym, ap, ◌∙◌, Bool, true, false, None, Some, ◌⊎◌, inl, inr, ⊎_elim, eq-or-lt_of_le, arith}
 use Rattle.conforming.specs.Nodes.{last_below, any_below}
 
 pub either : (b : Bool) → (b ≡ true) ⊎ (b ≡ false)

@@ -1,14 +1,6 @@
 -- The blocks of the row, one after another. Assumes nothing.
-use Prim.Native.Nat.{ℕ, ◌+◌, ◌*◌, ◌-◌, ◌/◌, ◌<◌, ◌≤◌}
-use mathlib.Core.Path.{◌≡◌, sym, ap, subst, ◌∙◌}
-use mathlib.Core.Bool.{Bool}
-use mathlib.Core.Logic.{inl}
-use mathlib.Core.List.{List, ◌++◌}
-use native.Mathlib.Omega.{arith}
+use Rattle.std.proofs.Common.{ℕ, ◌+◌, ◌*◌, ◌-◌, ◌/◌, ◌<◌, ◌≤◌, ◌≡◌, sym, ap, subst, ◌∙◌, Bool, inl, List, ◌++◌, arith, length, get_or, take, drop, length-append, take-take, ℤ, pos}
 use borrow.Rule.Slice.PartMut.{put_mid}
-use lib.ListN.{length, get_or, take, drop, length-append}
-use lib.Seq.{take-take}
-use lib.IntN.{ℤ, pos}
 use Rattle.cell.specs.Ticks.{off}
 use Rattle.sound_net.specs.Nets.{node_count}
 use Rattle.rows.specs.Order.{ordered, last_of, tabled}

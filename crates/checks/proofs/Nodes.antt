@@ -1,15 +1,7 @@
 -- The nodes by their keys are the nodes by their places. Assumes nothing.
-use Prim.Native.Nat.{ℕ, suc, ◌+◌, ◌-◌, ◌^◌, min, ◌<◌, ◌≤◌}
-use mathlib.Core.Path.{◌≡◌, refl, sym, ap, ap₂, ◌∙◌}
-use mathlib.Core.Bool.{Bool, true, false, not, ◌&&◌, ◌||◌}
-use Rattle.std.specs.Prelude.{Option}
-use mathlib.Core.List.{List}
-use native.Mathlib.Omega.{arith}
-use lib.ListN.{length, get_or}
-use lib.Dec.{T, eqb, leb, ltb, eqb→eq, leb→le, ltb→lt}
-use lib.IntN.{ℤ, pos, negsuc, sub_ℕ}
+use Rattle.std.proofs.Common.{ℕ, suc, ◌+◌, ◌-◌, ◌^◌, min, ◌<◌, ◌≤◌, ◌≡◌, refl, sym, ap, ap₂, ◌∙◌, Bool, true, false, not, ◌&&◌, ◌||◌, Option, List, arith, length, get_or, T, eqb, leb, ltb, eqb→eq, leb→le, ltb→lt, ℤ, pos, negsuc, eq-eqb, le-ltb, lt-ltb}
+use lib.IntN.{sub_ℕ}
 use lib.Ieee.Fits.{and_l, and_r}
-use borrow.Author.Tests.{eq-eqb, le-ltb, lt-ltb}
 use Rattle.refusals.specs.Limits.{coordinate}
 use Rattle.cell.specs.declared.Cell.{Cell}
 use Rattle.cell.specs.Boxes.{mid}

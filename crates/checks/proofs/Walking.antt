@@ -1,10 +1,5 @@
 -- The walk over the leaves: one leaf, one cell. Assumes nothing.
-use Prim.Native.Nat.{ℕ, ◌*◌, ◌^◌, ◌<◌}
-use mathlib.Core.Path.{◌≡◌, sym, subst}
-use mathlib.Core.Bool.{Bool, true}
-use mathlib.Core.List.{List}
-use lib.ListN.{get_or}
-use lib.IntN.{ℤ}
+use Rattle.std.proofs.Common.{ℕ, ◌*◌, ◌^◌, ◌<◌, ◌≡◌, sym, subst, Bool, true, List, get_or, ℤ}
 use Rattle.cell.proofs.Offsets.{off-le}
 use Rattle.table.specs.Slots.{cell_at}
 use Rattle.table.specs.Leaves.{leaf_at}

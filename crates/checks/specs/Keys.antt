@@ -1,7 +1,6 @@
 -- Nodes and edges by keys. A node's place is looked for in three rounds: its class, its column within the class, and its place in the
 -- column; each round's keys are the last index of equal key of the round before, and one coordinate.
-use Rattle.std.specs.Prelude.{ℕ, ◌+◌, ◌*◌, ◌/◌, ◌^◌, Bool, true, false, cond, List, length, get_or, eqb, ltb, ℤ, pos}
-use Rattle.std.specs.Prelude.{Option, None, Some}
+use Rattle.std.specs.Prelude.{ℕ, ◌+◌, ◌*◌, ◌/◌, ◌^◌, Bool, true, false, cond, List, length, get_or, eqb, ltb, ℤ, pos, Option, None, Some}
 use Rattle.cell.specs.Ticks.{off}
 use Rattle.table.specs.Slots.{counted}
 use Rattle.sound_net.specs.Nets.{node_count, layer_at, component_at, from_at, to_at}

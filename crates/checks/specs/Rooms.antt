@@ -1,6 +1,5 @@
 -- The row of work room: three blocks of nodes and one of edges, each of keys, their order, and for each index the last one of equal key.
-use Rattle.std.specs.Prelude.{ℕ, ◌+◌, ◌*◌, ◌/◌, ◌<◌, ◌≤◌, ◌≡◌, Bool, ◌&&◌, cond, List, length, replicate, leb, ℤ}
-use Rattle.std.specs.Prelude.{Option, None, Some}
+use Rattle.std.specs.Prelude.{ℕ, ◌+◌, ◌*◌, ◌/◌, ◌<◌, ◌≤◌, ◌≡◌, Bool, ◌&&◌, cond, List, length, replicate, leb, ℤ, Option, None, Some}
 use Rattle.sound_net.specs.Nets.{node_count}
 use Rattle.sound_net.specs.Facts.{SoundNode, SoundEdge}
 use Rattle.rows.specs.Order.{ordered, last_of}

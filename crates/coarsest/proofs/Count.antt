@@ -1,9 +1,5 @@
 -- The number of cells of a splitting: there is one, and a splitting that splits more has no fewer. Assumes nothing.
-use mathlib.Core.Path.{◌≡◌, refl, sym, ap, ◌∙◌}
-use mathlib.Core.Logic.{◌⊎◌, inl, inr, ⊎_elim, ◌≢◌}
-use Prim.Native.Nat.{ℕ, zero, suc, ◌<◌, ◌≤◌}
-use native.Mathlib.Omega.{arith}
-use native.Mathlib.Nat.{le_antisymm}
+use Rattle.std.proofs.Common.{◌≡◌, refl, sym, ap, ◌∙◌, ◌⊎◌, inl, inr, ⊎_elim, ◌≢◌, ℕ, zero, suc, ◌<◌, ◌≤◌, arith, le_antisymm}
 use native.Mathlib.Decide.{ℕ_discrete, dec_lt}
 use Rattle.coarsest.specs.Names.{Splitting, Roots, HasCells, ◌⊆◌}
 use Rattle.coarsest.proofs.Least.{stands-more}

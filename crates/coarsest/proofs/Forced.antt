@@ -1,12 +1,6 @@
 -- Splittings, with no table: the step that every admissible splitting must take, and the laws of the coarsest one.
 -- Assumes nothing.
-use mathlib.Core.Path.{◌≡◌, refl, sym}
-use mathlib.Core.Bool.{Bool, true, false}
-use mathlib.Core.Option.{some}
-use mathlib.Core.List.{◌∷◌}
-use Prim.Native.Nat.{ℕ, zero, suc, ◌+◌, ◌<◌, ◌≤◌}
-use native.Mathlib.Omega.{arith}
-use lib.ListN.{length}
+use Rattle.std.proofs.Common.{◌≡◌, refl, sym, Bool, true, false, Some, ◌∷◌, ℕ, zero, suc, ◌+◌, ◌<◌, ◌≤◌, arith, length}
 use Rattle.cell.specs.Boxes.{Box, Quad, shares_edge}
 use Rattle.coarsest.specs.Names.{Route, Splitting, Roots, place, Stands, Leaf, Admissible, ◌⊆◌, Coarsest}
 use Rattle.cell.proofs.Contact.{shares-quadrant}
@@ -21,7 +15,7 @@ module _ (k M : ℕ) (R : Roots) (S : Splitting) (adm : Admissible k M R S) wher
     shares : shares_edge box B ≡ true
 
   -- one step, given the way down from every cell one level finer
-  here : (l r : ℕ) (A B : Box) (p : Route) → l ≤ length p → R r ≡ some A → Stands S r p → shares_edge (place A p) B ≡ true
+  here : (l r : ℕ) (A B : Box) (p : Route) → l ≤ length p → R r ≡ Some A → Stands S r p → shares_edge (place A p) B ≡ true
       → ((q : Quad) → S r p ≡ true → shares_edge (place A (q ∷ p)) B ≡ true → Down r l B) → Down r l B
   here l r A B p h known st sh further = go (S r p) refl
     where
@@ -29,14 +23,14 @@ module _ (k M : ℕ) (R : Roots) (S : Splitting) (adm : Admissible k M R S) wher
       go true e = let f = shares-quadrant (place A p) B sh in further f.0 e f.1
       go false e = record { path = p; box = place A p; leaf = record { root = A; known = known; placed = refl; stands = st; whole = e }; fine = h; shares = sh }
 
-  descend : (n l r : ℕ) (A B : Box) (p : Route) → l ≤ length p → R r ≡ some A → M ≤ length p + n → Stands S r p → shares_edge (place A p) B ≡ true → Down r l B
+  descend : (n l r : ℕ) (A B : Box) (p : Route) → l ≤ length p → R r ≡ Some A → M ≤ length p + n → Stands S r p → shares_edge (place A p) B ≡ true → Down r l B
   descend zero l r A B p h known bound st sh =
       here l r A B p h known st sh (λ q e sh'. let d : length p < M = adm.deep r p e in absurd (omega arith))
   descend (suc n) l r A B p h known bound st sh =
       here l r A B p h known st sh (λ q e sh'. descend n l r A B (q ∷ p) (omega arith) known (omega arith) e sh')
 
   -- the step: where a leaf-or-finer cell of S shares an edge with a cell that is coarser by more than k levels, S splits that one
-  pub forced : (r s : ℕ) (p q : Route) (A B : Box) → R r ≡ some A → R s ≡ some B → Stands S r p → Stands S s q
+  pub forced : (r s : ℕ) (p q : Route) (A B : Box) → R r ≡ Some A → R s ≡ Some B → Stands S r p → Stands S s q
       → length q + k < length p → shares_edge (place A p) (place B q) ≡ true → S s q ≡ true
   forced r s p q A B kr ks st su finer sh = go (S s q) refl
     where

@@ -1,11 +1,6 @@
 -- What the passes keep of a table: the cells that were there, but for the children of those that were leaves; and what each cell hands on
 -- to its children. An undo goes by the first, the row's ranges by the second. Assumes nothing.
-use mathlib.Core.Path.{◌≡◌, refl, sym, ap, subst, ◌∙◌}
-use mathlib.Core.Option.{none, some}
-use mathlib.Core.List.{List}
-use Prim.Native.Nat.{ℕ, ◌+◌, ◌*◌, ◌-◌, ◌<◌, ◌≤◌}
-use native.Mathlib.Omega.{arith}
-use lib.ListN.{length}
+use Rattle.std.proofs.Common.{◌≡◌, refl, sym, ap, subst, ◌∙◌, None, Some, List, ℕ, ◌+◌, ◌*◌, ◌-◌, ◌<◌, ◌≤◌, arith, length}
 use Rattle.cell.specs.Boxes.{Quad, sw, se, nw, ne}
 use Rattle.table.specs.Mesh.{Cell, at, child, with_kids, split}
 use Rattle.table.specs.Formed.{Formed}
@@ -21,8 +16,8 @@ use Rattle.coarsest.proofs.Evened.{evened-keeps, evened-formed, evened-spent}
 pub record From (t u : List Cell) : Type 0 where
   pub longer : length t ≤ length u
   pub cell : (i : ℕ) → i < length t → Kept t u i
-  pub split : (i f : ℕ) → (at t i).kids ≡ some f → (at u i).kids ≡ some f
-  pub leaf : (i f : ℕ) → i < length t → (at t i).kids ≡ none → (at u i).kids ≡ some f → length t ≤ f
+  pub split : (i f : ℕ) → (at t i).kids ≡ Some f → (at u i).kids ≡ Some f
+  pub leaf : (i f : ℕ) → i < length t → (at t i).kids ≡ None → (at u i).kids ≡ Some f → length t ≤ f
 
 pub from_start : (t : List Cell) → From t t
 from_start t =
@@ -38,7 +33,7 @@ kept_on t u v i a b =
     record { box = b.box ∙ a.box; level = b.level ∙ a.level; parent = b.parent ∙ a.parent; polygon = b.polygon ∙ a.polygon }
 
 -- new children stand at the end
-leaf-on : (t u : List Cell) (c i f : ℕ) → c < length u → From t u → i < length t → (at t i).kids ≡ none → (at (split u c) i).kids ≡ some f → length t ≤ f
+leaf-on : (t u : List Cell) (c i f : ℕ) → c < length u → From t u → i < length t → (at t i).kids ≡ None → (at (split u c) i).kids ≡ Some f → length t ≤ f
 leaf-on t u c i f hc w h e d = go (view u c hc i)
   where
     go : View u c hc i → length t ≤ f

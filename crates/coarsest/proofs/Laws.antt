@@ -1,12 +1,7 @@
 -- The laws of `balance` and `conform`, over the engine and the allowed difference: what they end in depends on the table's roots and
 -- splitting alone, grows with it, may be reached in parts, is the one coarsest splitting and has the fewest cells. Assumes nothing.
-use mathlib.Core.Path.{◌≡◌, sym, subst, ◌∙◌, fun_ext}
-use mathlib.Core.Bool.{◌||◌}
-use mathlib.Core.Logic.{⊎_elim}
-use mathlib.Core.List.{List}
-use Prim.Native.Nat.{ℕ, ◌≤◌}
-use native.Mathlib.Nat.{le_antisymm}
-use lib.ListN.{length}
+use Rattle.std.proofs.Common.{◌≡◌, sym, subst, ◌∙◌, ◌||◌, ⊎_elim, List, ℕ, ◌≤◌, le_antisymm, length}
+use mathlib.Core.Path.{fun_ext}
 use Rattle.table.specs.Mesh.{Cell}
 use Rattle.coarsest.specs.Passes.{Engine, balancing, conforming, evened, balance, conform}
 use Rattle.coarsest.specs.Names.{Route, Splitting, Roots, Admissible, Coarsest, HasCells, roots_of, splitting, ◌⊆◌, Evens, Needs}

@@ -1,16 +1,8 @@
 -- One split that is due keeps what holds of every table on the way to the coarsest splitting; and a table with none due has reached it.
 -- Assumes nothing.
-use mathlib.Core.Path.{◌≡◌, refl, sym, ap, ◌∙◌}
-use mathlib.Core.Bool.{Bool, true, false, ◌&&◌, true≢false}
-use mathlib.Core.Logic.{⊎_elim, by_cases}
-use mathlib.Core.Option.{Option, none, some}
-use mathlib.Core.List.{List, [], ◌∷◌}
-use Prim.Native.Nat.{ℕ, ◌+◌, ◌<◌, ◌≤◌}
-use native.Mathlib.Omega.{arith}
+use mathlib.Core.Logic.{by_cases}
+use Rattle.std.proofs.Common.{◌≡◌, refl, sym, ap, ◌∙◌, Bool, true, false, ◌&&◌, true≢false, ⊎_elim, Option, None, Some, List, [], ◌∷◌, ℕ, ◌+◌, ◌<◌, ◌≤◌, arith, ltb, length, ltb-true, lt-ltb}
 use native.Mathlib.Decide.{dec_le}
-use lib.Dec.{ltb}
-use lib.ListN.{length}
-use borrow.Author.Tests.{ltb-true, lt-ltb}
 use Rattle.cell.specs.Boxes.{Box, num, shares_edge}
 use Rattle.table.specs.Mesh.{Cell, at, split, is_none, is_leaf}
 use Rattle.coarsest.specs.Passes.{due}
@@ -23,14 +15,14 @@ use Rattle.coarsest.proofs.Roots.{roots_kept}
 use Rattle.coarsest.proofs.Find.{at_split, at_leaf, split_at, stands_of, stands-found, find-up, find-rooted, is-root, root_is, tells, named, splits-kept, splits-back}
 
 pub record Due (k : ℕ) (t : List Cell) (f c : ℕ) : Type 0 where
-  pub fine : (at t f).kids ≡ none
-  pub coarse : (at t c).kids ≡ none
+  pub fine : (at t f).kids ≡ None
+  pub coarse : (at t c).kids ≡ None
   pub apart : (at t c).level + k < (at t f).level
   pub shares : shares_edge (at t f).box (at t c).box ≡ true
 
-is-none : (o : Option ℕ) → is_none o ≡ true → o ≡ none
-is-none none e = refl
-is-none (some f) e = let z : ◌≡◌ {A = ℕ} 0 1 = cc in absurd (omega arith)
+is-none : (o : Option ℕ) → is_none o ≡ true → o ≡ None
+is-none None e = refl
+is-none (Some f) e = let z : ◌≡◌ {A = ℕ} 0 1 = cc in absurd (omega arith)
 
 due-split : (x y z w : Bool) → (x && (y && (z && w))) ≡ true → (x ≡ true) × (y ≡ true) × (z ≡ true) × (w ≡ true)
 due-split true true true true e = (refl, refl, refl, refl)
@@ -57,8 +49,8 @@ pub level-most : (M : ℕ) (t : List Cell) → Formed M t → (i : ℕ) → i < 
 level-most M t formed i h = go (at t i).parent refl
   where
     go : (o : Option ℕ) → (at t i).parent ≡ o → (at t i).level ≤ M
-    go none e = let z = (formed.root i e).level in omega arith
-    go (some j) e =
+    go None e = let z = (formed.root i e).level in omega arith
+    go (Some j) e =
         let b = formed.born i j h e in
         let s = formed.split j b.first b.split in
         let g = b.here in
@@ -84,7 +76,7 @@ way-start k M t formed = record { formed = formed; roots = λ r. refl; keeps = �
 module _ (k M : ℕ) (R : Roots) (T : Splitting) (t : List Cell) (way : Way k M R T t) where
   -- an admissible splitting that has the table's splits splits the coarse cell of a pair that is due
   must : (f c : ℕ) → f < length t → Due k t f c → (S : Splitting) → Admissible k M R S → splitting t ⊆ S
-      → (r : ℕ) (p : Route) → find t r p ≡ some c → S r p ≡ true
+      → (r : ℕ) (p : Route) → find t r p ≡ Some c → S r p ≡ true
   must f c hf d S adm h r p found =
       let n = named M t way.formed f hf in
       let tf = tells M t way.formed n.root n.path f n.found in
@@ -119,7 +111,7 @@ module _ (k M : ℕ) (R : Roots) (T : Splitting) (t : List Cell) (way : Way k M 
     record AtLeaf (r : ℕ) (p : Route) (A : Box) : Type 0 where
       id : ℕ
       inside : id < length t
-      kids : (at t id).kids ≡ none
+      kids : (at t id).kids ≡ None
       box : (at t id).box ≡ A
       level : (at t id).level ≡ length p
 

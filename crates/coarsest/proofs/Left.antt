@@ -1,11 +1,5 @@
 -- The splits that a table can still see: each split takes one of them. Assumes nothing.
-use mathlib.Core.Path.{◌≡◌, ap}
-use mathlib.Core.Option.{Option, none}
-use mathlib.Core.List.{List, [], ◌∷◌, ◌++◌}
-use Prim.Native.Nat.{ℕ, zero, suc, ◌+◌, ◌*◌, ◌-◌, ◌<◌}
-use native.Mathlib.Omega.{arith}
-use native.Mathlib.Nat.{not-suc-le-zero}
-use lib.ListN.{length, set}
+use Rattle.std.proofs.Common.{◌≡◌, ap, Option, None, List, [], ◌∷◌, ◌++◌, ℕ, zero, suc, ◌+◌, ◌*◌, ◌-◌, ◌<◌, arith, not-suc-le-zero, length, set}
 use Rattle.table.specs.Mesh.{Cell, at, with_kids, brood, split, is_none}
 use Rattle.coarsest.specs.Passes.{splits_below, left_if, left_of, splits_left}
 
@@ -21,7 +15,7 @@ left-set M (c ∷ t) (suc i) x h = let r = left-set M t i x (omega arith) in ome
 below_step : (M l : ℕ) → l < M → splits_below (M - l) ≡ suc (4 * splits_below (M - suc l))
 below_step M l h = ap splits_below (let e : M - l ≡ suc (M - suc l) = omega arith in e)
 
-pub left_split : (M : ℕ) (t : List Cell) (c : ℕ) → c < length t → (at t c).kids ≡ none → (at t c).level < M → splits_left M (split t c) + 1 ≡ splits_left M t
+pub left_split : (M : ℕ) (t : List Cell) (c : ℕ) → c < length t → (at t c).kids ≡ None → (at t c).level < M → splits_left M (split t c) + 1 ≡ splits_left M t
 unfolding split
 left_split M t c h leaf finer =
     let a = left-append M (set t c (with_kids (at t c) (length t))) (brood c (at t c)) in

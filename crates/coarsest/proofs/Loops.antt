@@ -1,12 +1,6 @@
 -- What a loop over a row needs: a pair that is due, one that is not, a row that is done early, and the lengths on the way.
 -- Assumes nothing.
-use mathlib.Core.Path.{◌≡◌, refl, ap, ◌∙◌}
-use mathlib.Core.Bool.{Bool, true, false, ◌&&◌, true≢false}
-use mathlib.Core.List.{List}
-use Prim.Native.Nat.{ℕ, zero, suc, ◌+◌, ◌<◌, ◌≤◌}
-use native.Mathlib.Omega.{arith}
-use native.Mathlib.Nat.{add-zero, add-suc}
-use lib.ListN.{length}
+use Rattle.std.proofs.Common.{◌≡◌, refl, ap, ◌∙◌, Bool, true, false, ◌&&◌, true≢false, List, ℕ, zero, suc, ◌+◌, ◌<◌, ◌≤◌, arith, add-zero, add-suc, length}
 use Rattle.table.specs.Mesh.{Cell, split, is_none, is_leaf}
 use Rattle.coarsest.specs.Passes.{due, split_if, Engine, balancing, conforming, step}
 use Rattle.coarsest.specs.Sweep.{row, rows}

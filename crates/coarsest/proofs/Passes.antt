@@ -1,14 +1,6 @@
 -- A sweep over all ids below the count is the rules' pass, over the leaves of its start; so what one split keeps, a pass keeps; and
 -- a pass that makes no split leaves nothing due. Assumes nothing.
-use mathlib.Core.Path.{◌≡◌, refl, sym, ap, subst, ◌∙◌}
-use mathlib.Core.Bool.{Bool, true, false, true≢false}
-use mathlib.Core.Logic.{inl}
-use mathlib.Core.Option.{Option, none, some}
-use mathlib.Core.List.{List, [], ◌∷◌, ◌++◌}
-use Prim.Native.Nat.{ℕ, zero, suc, ◌<◌, ◌≤◌}
-use native.Mathlib.Omega.{arith}
-use native.Mathlib.Nat.{zero-add}
-use lib.ListN.{length}
+use Rattle.std.proofs.Common.{◌≡◌, refl, sym, ap, subst, ◌∙◌, Bool, true, false, true≢false, inl, Option, None, Some, List, [], ◌∷◌, ◌++◌, ℕ, zero, suc, ◌<◌, ◌≤◌, arith, zero-add, length}
 use Rattle.table.specs.Mesh.{Cell, at, split, is_none, is_leaf}
 use Rattle.table.specs.Leaves.{one_if, ids_to}
 use Rattle.coarsest.specs.Passes.{due, Engine, balancing, conforming, step, with_each, each_with, pass}
@@ -22,12 +14,12 @@ use Rattle.coarsest.proofs.Loops.{row-skip, row_done, no-leaf-b}
 abbrev Stays : List Cell → List Cell → Type 0
 Stays t u = (i : ℕ) → is_leaf t i ≡ false → is_leaf u i ≡ false
 
-still : (u : List Cell) (c : ℕ) → c < length u → (at u c).kids ≡ none → (i : ℕ) → is_leaf u i ≡ false → is_leaf (split u c) i ≡ false
+still : (u : List Cell) (c : ℕ) → c < length u → (at u c).kids ≡ None → (i : ℕ) → is_leaf u i ≡ false → is_leaf (split u c) i ≡ false
 still u c hc leaf i h = go (at u i).kids refl
   where
     go : (o : Option ℕ) → (at u i).kids ≡ o → is_leaf (split u c) i ≡ false
-    go none e = absurd (true≢false (sym (ap is_none e) ∙ h))
-    go (some f) e = ap is_none (kids-kept u c hc leaf i f e)
+    go None e = absurd (true≢false (sym (ap is_none e) ∙ h))
+    go (Some f) e = ap is_none (kids-kept u c hc leaf i f e)
 
 stays-keeps : (k : ℕ) (t : List Cell) → Keeps k (Stays t)
 stays-keeps k t u f c hf hc p d = λ i h. still u c hc (due-of k u f c d).coarse i (p i h)

@@ -1,10 +1,6 @@
 -- Room: no table on the way has more cells than what the passes end in, so an engine that finds no room for one more split may refuse at
 -- once. Assumes nothing.
-use mathlib.Core.Path.{◌≡◌, ap, subst, ◌∙◌}
-use mathlib.Core.List.{List}
-use Prim.Native.Nat.{ℕ, suc, ◌+◌, ◌-◌, ◌<◌, ◌≤◌}
-use native.Mathlib.Omega.{arith}
-use lib.ListN.{length}
+use Rattle.std.proofs.Common.{◌≡◌, ap, subst, ◌∙◌, List, ℕ, suc, ◌+◌, ◌-◌, ◌<◌, ◌≤◌, arith, length}
 use Rattle.table.specs.Mesh.{Cell}
 use Rattle.table.specs.Formed.{Formed}
 use Rattle.coarsest.specs.Passes.{Engine, pass, evened}

@@ -1,9 +1,5 @@
 -- A split changes no root. Assumes nothing.
-use mathlib.Core.Path.{◌≡◌, sym, ap, ◌∙◌}
-use mathlib.Core.List.{List}
-use Prim.Native.Nat.{ℕ, ◌<◌}
-use native.Mathlib.Omega.{arith}
-use lib.ListN.{length}
+use Rattle.std.proofs.Common.{◌≡◌, sym, ap, ◌∙◌, List, ℕ, ◌<◌, arith, length}
 use Rattle.table.specs.Mesh.{Cell, at, split}
 use Rattle.table.proofs.Meshes.{beyond, View, old, self, new, out, view}
 use Rattle.coarsest.specs.Names.{roots_of, root_if}

@@ -1,10 +1,6 @@
 -- The cuts are exact: a cell's sides are positive multiples of a power of two that its level tells. Assumes nothing.
-use mathlib.Core.Path.{◌≡◌, sym, ap, subst, ◌∙◌}
-use mathlib.Core.List.{List, [], ◌∷◌}
-use Prim.Native.Nat.{ℕ, suc, ◌+◌, ◌*◌, ◌-◌, ◌^◌, ◌<◌, ◌≤◌}
-use native.Mathlib.Omega.{arith}
-use native.Mathlib.Nat.{pow-suc, mul_assoc, sub-zero}
-use lib.ListN.{length}
+use Rattle.std.proofs.Common.{◌≡◌, sym, ap, subst, ◌∙◌, List, [], ◌∷◌, ℕ, suc, ◌+◌, ◌*◌, ◌-◌, ◌^◌, ◌<◌, ◌≤◌, arith, pow-suc, mul_assoc, length}
+use native.Mathlib.Nat.{sub-zero}
 use Rattle.cell.specs.Boxes.{Box, Quad, sw, se, nw, ne, quadrant, mid}
 use Rattle.table.specs.Mesh.{Cell, at}
 use Rattle.coarsest.specs.Names.{Route, place}

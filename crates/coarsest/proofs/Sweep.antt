@@ -1,12 +1,7 @@
 -- The rows of a sweep: what one split keeps, they keep; and rows that make no split leave nothing due. Assumes nothing.
-use mathlib.Core.Path.{◌≡◌, refl, ap, subst}
-use mathlib.Core.Bool.{Bool, true, false}
-use mathlib.Core.Logic.{◌⊎◌, inl, inr, ⊎_elim, by_cases}
-use mathlib.Core.List.{List}
-use Prim.Native.Nat.{ℕ, zero, suc, ◌<◌, ◌≤◌}
-use native.Mathlib.Omega.{arith}
+use Rattle.std.proofs.Common.{◌≡◌, refl, ap, subst, Bool, true, false, ◌⊎◌, inl, inr, ⊎_elim, List, ℕ, zero, suc, ◌<◌, ◌≤◌, arith, length}
+use mathlib.Core.Logic.{by_cases}
 use native.Mathlib.Decide.{ℕ_discrete}
-use lib.ListN.{length}
 use Rattle.table.specs.Mesh.{Cell, split}
 use Rattle.coarsest.specs.Passes.{due, split_if, Engine, balancing, conforming, step}
 use Rattle.coarsest.specs.Sweep.{row, rows}

@@ -1,8 +1,7 @@
 -- Cells by name, a root's id and the route of quadrants from it; splittings as tests on names; and the coarsest one that keeps a table's
 -- splits, goes no deeper than max_level, and has no two leaves that share an edge and differ by more than k levels. Nothing here knows
 -- of the passes.
-use Rattle.std.specs.Prelude.{ℕ, ◌+◌, ◌≤◌, ◌<◌, ◌≡◌, Bool, true, false, not, List, [], ◌∷◌, length}
-use Rattle.std.proofs.Math.Option.{Option, none, some}
+use Rattle.std.specs.Prelude.{ℕ, ◌+◌, ◌≤◌, ◌<◌, ◌≡◌, Bool, true, false, not, List, [], ◌∷◌, length, Option, None, Some}
 use Rattle.cell.specs.Boxes.{Box, Quad, num, quadrant, shares_edge}
 use Rattle.table.specs.Mesh.{Cell, at, is_none}
 use Rattle.table.specs.Formed.{Formed}
@@ -31,7 +30,7 @@ Stands S r (q ∷ p) = S r p ≡ true
 
 pub record Leaf (R : Roots) (S : Splitting) (r : ℕ) (p : Route) (B : Box) : Type 0 where
   pub root : Box
-  pub known : R r ≡ some root
+  pub known : R r ≡ Some root
   pub placed : place root p ≡ B
   pub stands : Stands S r p
   pub whole : S r p ≡ false
@@ -39,7 +38,7 @@ pub record Leaf (R : Roots) (S : Splitting) (r : ℕ) (p : Route) (B : Box) : Ty
 -- a splitting of the roots R, of split cells down to level M - 1, in which a leaf is finer than one that it shares an edge with by at
 -- most k levels
 pub record Admissible (k M : ℕ) (R : Roots) (S : Splitting) : Type 0 where
-  pub rooted : (r : ℕ) (p : Route) → S r p ≡ true → (A : Box) × (R r ≡ some A)
+  pub rooted : (r : ℕ) (p : Route) → S r p ≡ true → (A : Box) × (R r ≡ Some A)
   pub closed : (r : ℕ) (q : Quad) (p : Route) → S r (q ∷ p) ≡ true → S r p ≡ true
   pub deep : (r : ℕ) (p : Route) → S r p ≡ true → length p < M
   pub even : (r s : ℕ) (p q : Route) (A B : Box) → Leaf R S r p A → Leaf R S s q B → shares_edge A B ≡ true → length p ≤ length q + k
@@ -59,39 +58,39 @@ pub record Coarsest (k M : ℕ) (R : Roots) (T C : Splitting) : Type 0 where
 pub record HasCells (R : Roots) (S : Splitting) (n : ℕ) : Type 0 where
   pub root : ℕ → ℕ
   pub route : ℕ → Route
-  pub known : (i : ℕ) → i < n → (A : Box) × (R (root i) ≡ some A)
+  pub known : (i : ℕ) → i < n → (A : Box) × (R (root i) ≡ Some A)
   pub stands : (i : ℕ) → i < n → Stands S (root i) (route i)
   pub once : (i j : ℕ) → i < n → j < n → root i ≡ root j → route i ≡ route j → i ≡ j
-  pub all : (r : ℕ) (p : Route) (A : Box) → R r ≡ some A → Stands S r p → (i : ℕ) × (i < n) × (root i ≡ r) × (route i ≡ p)
+  pub all : (r : ℕ) (p : Route) (A : Box) → R r ≡ Some A → Stands S r p → (i : ℕ) × (i < n) × (root i ≡ r) × (route i ≡ p)
 
 -- ---- of a table: its roots, the id of a name, and its splitting
 
 abbrev pub root_if : Option ℕ → Box → Option Box
-root_if none B = some B
-root_if (some j) B = none
+root_if None B = Some B
+root_if (Some j) B = None
 
 unfoldable pub roots_of : List Cell → Roots
 roots_of t r = root_if (at t r).parent (at t r).box
 
 abbrev pub id_if : Option ℕ → ℕ → Option ℕ
-id_if none r = some r
-id_if (some j) r = none
+id_if None r = Some r
+id_if (Some j) r = None
 
 abbrev pub plus : Option ℕ → Quad → Option ℕ
-plus none q = none
-plus (some f) q = some (f + num q)
+plus None q = None
+plus (Some f) q = Some (f + num q)
 
 abbrev pub kid_of : List Cell → Option ℕ → Quad → Option ℕ
-kid_of t none q = none
-kid_of t (some i) q = plus (at t i).kids q
+kid_of t None q = None
+kid_of t (Some i) q = plus (at t i).kids q
 
 unfoldable pub find : List Cell → ℕ → Route → Option ℕ
 find t r [] = id_if (at t r).parent r
 find t r (q ∷ p) = kid_of t (find t r p) q
 
 abbrev pub split_in : List Cell → Option ℕ → Bool
-split_in t none = false
-split_in t (some i) = not (is_none (at t i).kids)
+split_in t None = false
+split_in t (Some i) = not (is_none (at t i).kids)
 
 unfoldable pub splitting : List Cell → Splitting
 splitting t r p = split_in t (find t r p)

@@ -1,8 +1,5 @@
 -- Small nets, computed of the definitions: a root of 8 by 8 ticks, and a fifth node at the middle of its south edge. Assumes nothing.
-use Prim.Native.Nat.{ℕ}
-use mathlib.Core.Path.{◌≡◌, refl}
-use mathlib.Core.List.{List, [], ◌∷◌}
-use lib.IntN.{ℤ, pos}
+use Rattle.std.proofs.Common.{ℕ, ◌≡◌, refl, List, [], ◌∷◌, ℤ, pos}
 use Rattle.cell.specs.Cells.{no_cell}
 use Rattle.cell.specs.Ticks.{off, on}
 use Rattle.table.specs.Slots.{counted, cell_at}

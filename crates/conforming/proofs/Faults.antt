@@ -1,14 +1,5 @@
 -- Laws of the first fault, and of the polygons' test. Assumes nothing.
-use Prim.Native.Nat.{ℕ, zero, suc, ◌<◌}
-use mathlib.Core.Path.{◌≡◌, sym, ap, ◌∙◌}
-use mathlib.Core.Bool.{Bool, true}
-use mathlib.Core.List.{List, [], ◌∷◌}
-use mathlib.Core.Logic.{⊎_elim}
-use native.Mathlib.Nat.{eq-or-lt_of_le}
-use native.Mathlib.Omega.{arith}
-use lib.ListN.{length}
-use lib.Dec.{eqb, ltb, eqb→eq, ltb→lt}
-use lib.IntN.{ℤ}
+use Rattle.std.proofs.Common.{ℕ, zero, suc, ◌<◌, ◌≡◌, sym, ap, ◌∙◌, Bool, true, List, [], ◌∷◌, ⊎_elim, eq-or-lt_of_le, arith, length, eqb, ltb, eqb→eq, ltb→lt, ℤ}
 use lib.Ieee.Fits.{and_l, and_r}
 use Rattle.table.specs.Slots.{cell_at}
 use Rattle.sound_net.specs.Nets.{all_below}

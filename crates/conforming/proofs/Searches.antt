@@ -1,10 +1,5 @@
 -- A search that has a hit finds one. Assumes nothing.
-use Prim.Native.Nat.{ℕ, zero, suc, ◌<◌}
-use mathlib.Core.Path.{◌≡◌, refl}
-use mathlib.Core.Bool.{Bool, true, false, ◌||◌}
-use mathlib.Core.Logic.{⊎_elim}
-use native.Mathlib.Nat.{eq-or-lt_of_le}
-use native.Mathlib.Omega.{arith}
+use Rattle.std.proofs.Common.{ℕ, zero, suc, ◌<◌, ◌≡◌, refl, Bool, true, false, ◌||◌, ⊎_elim, eq-or-lt_of_le, arith}
 use Rattle.conforming.specs.Nodes.{any_below}
 
 or-true : (b : Bool) → (b || true) ≡ true

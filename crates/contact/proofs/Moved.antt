@@ -1,15 +1,9 @@
 -- The move by 2^36 keeps "less" and "equal" of coordinates in range, so that contact of the moved rectangles is that of the caller's
 -- own. Assumes nothing.
-use Prim.Native.Nat.{ℕ, ◌-◌, ◌<◌, ◌≤◌}
-use mathlib.Core.Path.{◌≡◌, sym, ap, ◌∙◌}
-use mathlib.Core.Bool.{true}
+use Rattle.std.proofs.Common.{ℕ, ◌-◌, ◌<◌, ◌≤◌, ◌≡◌, sym, ap, ◌∙◌, true, arith, ltb, ℤ, pos, negsuc, neg_ℤ, leb-true, lt-ltb, le-ltb}
 use mathlib.Core.Logic.{by_cases}
-use native.Mathlib.Omega.{arith}
 use native.Mathlib.Decide.{dec_lt}
-use lib.Dec.{ltb}
-use lib.IntN.{ℤ, pos, negsuc, neg_ℤ}
 use lib.Signed.{le_z, lt_z}
-use borrow.Author.Tests.{leb-true, lt-ltb, le-ltb}
 use Rattle.refusals.specs.Limits.{coordinate}
 use Rattle.cell.specs.Ticks.{in_range, off}
 use Rattle.cell.proofs.Contact.{and_left}

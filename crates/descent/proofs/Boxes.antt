@@ -1,14 +1,8 @@
 -- Boxes that hold others, and the index of the roots: it is kept by every split, and a block that lies apart holds no root that meets.
 -- Assumes nothing.
-use Prim.Native.Nat.{ℕ, ◌+◌, ◌*◌, ◌/◌, ◌%◌, ◌<◌, ◌≤◌}
-use mathlib.Core.Path.{◌≡◌, sym, ap, subst, ◌∙◌}
-use mathlib.Core.Bool.{false}
 use mathlib.Core.Logic.{by_cases}
-use mathlib.Core.Option.{none}
-use mathlib.Core.List.{List}
-use native.Mathlib.Omega.{arith}
+use Rattle.std.proofs.Common.{ℕ, ◌+◌, ◌*◌, ◌/◌, ◌%◌, ◌<◌, ◌≤◌, ◌≡◌, sym, ap, subst, ◌∙◌, false, None, List, arith, ℤ}
 use native.Mathlib.Decide.{dec_lt, ℕ_discrete}
-use lib.IntN.{ℤ}
 use Rattle.cell.specs.Boxes.{Box}
 use Rattle.cell.specs.Cells.{box_of}
 use Rattle.table.specs.Slots.{cell_at}
@@ -51,7 +45,7 @@ module _ (t : List Cell) (a c : ℕ) where
       let z : j / 64 ≡ i / 64 = omega arith in
       clear (at t j).box (subst (λ (y : ℕ). Within (at t j).box (block_box boxes y)) z (x j e).1))
 
-  pub passed-one : (i : ℕ) → Passed t a c i → ((at t i).parent ≡ none → meet (at t a).box (at t i).box ≡ false) → Passed t a c (i + 1)
+  pub passed-one : (i : ℕ) → Passed t a c i → ((at t i).parent ≡ None → meet (at t a).box (at t i).box ≡ false) → Passed t a c (i + 1)
   passed-one i before own j g l e =
       by_cases (ℕ_discrete j i)
       (λ d. subst (λ (y : ℕ). meet (at t a).box (at t y).box ≡ false) (sym d) (own (ap (λ (y : ℕ). (at t y).parent) (sym d) ∙ e)))

@@ -1,9 +1,6 @@
 -- Whether anything asks, put together from parts of what is to be seen. Assumes nothing.
-use mathlib.Core.Path.{◌≡◌, sym, ap, ◌∙◌}
-use mathlib.Core.Bool.{Bool, true, false, true≢false, false≢true}
-use mathlib.Core.Option.{some}
-use mathlib.Core.List.{List}
-use Prim.Native.Nat.{ℕ, ◌+◌, ◌<◌, ◌≤◌}
+use mathlib.Core.Bool.{false≢true}
+use Rattle.std.proofs.Common.{◌≡◌, sym, ap, ◌∙◌, Bool, true, false, true≢false, Some, List, ℕ, ◌+◌, ◌<◌, ◌≤◌}
 use Rattle.table.specs.Mesh.{Cell, at}
 use Rattle.coarsest.specs.Passes.{due}
 use Rattle.coarsest.proofs.Least.{due-of}
@@ -26,7 +23,7 @@ module _ (asks : ℕ → Bool) (stop : ℕ) where
   found_as seen less r x h = record { yes = x.yes; no = λ d b s l f. x.no d b (h b s f) l f }
 
 -- nothing in the four subtrees
-pub found-kids : (t : List Cell) (f k a stop c j : ℕ) → (at t c).kids ≡ some f → f + 4 ≤ j
+pub found-kids : (t : List Cell) (f k a stop c j : ℕ) → (at t c).kids ≡ Some f → f + 4 ≤ j
     → Found (λ (b : ℕ). due k t b a) (Among t f j) stop false → Found (λ (b : ℕ). due k t b a) (Under t c) stop false
 found-kids t f k a stop c j kids h x =
     found_as (λ (b : ℕ). due k t b a) stop (Among t f j) (Under t c) false x

@@ -1,11 +1,6 @@
 -- The least id of a kind, put together from parts of what is to be seen. Assumes nothing.
-use mathlib.Core.Path.{◌≡◌, sym, ap, subst, ◌∙◌}
-use mathlib.Core.Bool.{Bool, true}
-use mathlib.Core.Logic.{◌⊎◌, inl, inr, ⊎_elim, by_cases}
-use mathlib.Core.Option.{none, some}
-use mathlib.Core.List.{List, [], ◌∷◌}
-use Prim.Native.Nat.{ℕ, ◌+◌, ◌<◌, ◌≤◌}
-use native.Mathlib.Omega.{arith}
+use mathlib.Core.Logic.{by_cases}
+use Rattle.std.proofs.Common.{◌≡◌, sym, ap, subst, ◌∙◌, Bool, true, ◌⊎◌, inl, inr, ⊎_elim, None, Some, List, [], ◌∷◌, ℕ, ◌+◌, ◌<◌, ◌≤◌, arith}
 use native.Mathlib.Decide.{dec_lt}
 use Rattle.cell.specs.Boxes.{num}
 use Rattle.table.specs.Mesh.{Cell, at}
@@ -45,7 +40,7 @@ module _ (asks : ℕ → Bool) (from : ℕ) where
 -- ---- the subtree of a cell
 
 module _ (t : List Cell) (c : ℕ) where
-  pub under-leaf : (at t c).kids ≡ none → (b : ℕ) → Under t c b → c ≡ b
+  pub under-leaf : (at t c).kids ≡ None → (b : ℕ) → Under t c b → c ≡ b
   under-leaf e b u = go u.route u.reach
     where
       go : (p : Route) → Reach t p c b → c ≡ b
@@ -63,7 +58,7 @@ among_next t f j b u =
     (λ h. inr (let l = u.2 in let e : u.0 ≡ j = omega arith in subst (λ (x : ℕ). Under t x b) e u.3))
 
 -- a leaf in the subtree of a split cell stands in the subtree of one of its four
-pub among_kids : (t : List Cell) (c f j : ℕ) → (at t c).kids ≡ some f → f + 4 ≤ j → (b : ℕ) → Under t c b → (at t b).kids ≡ none → Among t f j b
+pub among_kids : (t : List Cell) (c f j : ℕ) → (at t c).kids ≡ Some f → f + 4 ≤ j → (b : ℕ) → Under t c b → (at t b).kids ≡ None → Among t f j b
 among_kids t c f j kids h b u d = go u.route u.reach
   where
     go : (p : Route) → Reach t p c b → Among t f j b
@@ -74,7 +69,7 @@ among_kids t c f j kids h b u d = go u.route u.reach
         (f + num q, omega arith, omega arith, subst (λ (x : ℕ). Under t (x + num q) b) g (record { route = p; reach = r.2 }))
 
 -- the least of the four subtrees
-pub least-kids : (t : List Cell) (f k a from best c j r : ℕ) → (at t c).kids ≡ some f → f + 4 ≤ j
+pub least-kids : (t : List Cell) (f k a from best c j r : ℕ) → (at t c).kids ≡ Some f → f + 4 ≤ j
     → Least (due k t a) (Among t f j) from best r → Least (due k t a) (Under t c) from best r
 least-kids t f k a from best c j r kids h x =
     least-as (due k t a) from (Among t f j) (Under t c) best r x

@@ -1,12 +1,5 @@
 -- Marks put together from parts of what is to be seen. Assumes nothing.
-use Prim.Native.Nat.{ℕ, ◌+◌, ◌/◌, ◌<◌, ◌≤◌}
-use mathlib.Core.Path.{◌≡◌, refl, sym, ap, subst, ◌∙◌}
-use mathlib.Core.Bool.{Bool, true, false, true≢false}
-use mathlib.Core.Logic.{◌⊎◌, ⊎_elim}
-use mathlib.Core.Option.{none, some}
-use mathlib.Core.List.{List}
-use native.Mathlib.Omega.{arith}
-use lib.ListN.{length}
+use Rattle.std.proofs.Common.{ℕ, ◌+◌, ◌/◌, ◌<◌, ◌≤◌, ◌≡◌, refl, sym, ap, subst, ◌∙◌, Bool, true, false, true≢false, ◌⊎◌, ⊎_elim, None, Some, List, arith, length}
 use Rattle.cell.specs.Boxes.{Quad, num, quadrant, shares_edge}
 use Rattle.table.specs.Mesh.{Cell, at}
 use Rattle.table.specs.Formed.{Formed}
@@ -48,7 +41,7 @@ module _ (M : ℕ) (t : List Cell) (formed : Formed M t) (p low high c : ℕ) wh
   pub fine-unwanted : high < (at t c).level → (a : ℕ) → Under t c a → Wanted t p low high a → ⊥
   fine-unwanted h a u w = let l = (above a u w).level in let g = w.coarse in omega arith
 
-  pub leaf-marked : (level : ℕ) (old new : List Bool) → (at t c).kids ≡ none → (at t c).level ≡ level → Marked (λ (a : ℕ). c ≡ a) (λ (a : ℕ). low ≤ level) old new
+  pub leaf-marked : (level : ℕ) (old new : List Bool) → (at t c).kids ≡ None → (at t c).level ≡ level → Marked (λ (a : ℕ). c ≡ a) (λ (a : ℕ). low ≤ level) old new
       → Marked (Under t c) (Wanted t p low high) old new
   leaf-marked level old new e l x =
       record {
@@ -70,7 +63,7 @@ module _ (M : ℕ) (t : List Cell) (formed : Formed M t) (p low high c : ℕ) wh
         marked-as w (λ (a : ℕ). Among t f j a ⊎ Under t j a) (Among t f (j + 1)) old new
         (marked-then w (Among t f j) (Under t j) old mid new x y) (λ a u v. among_next t f j a u)
 
-    pub kids-marked : (j : ℕ) (old new : List Bool) → (at t c).kids ≡ some f → f + 4 ≤ j → Marked (Among t f j) (Wanted t p low high) old new
+    pub kids-marked : (j : ℕ) (old new : List Bool) → (at t c).kids ≡ Some f → f + 4 ≤ j → Marked (Among t f j) (Wanted t p low high) old new
         → Marked (Under t c) (Wanted t p low high) old new
     kids-marked j old new kids h x =
         marked-as (Wanted t p low high) (Among t f j) (Under t c) old new x (λ a u v. among_kids t c f j kids h a u v.leaf)
@@ -80,7 +73,7 @@ pub aside-unwanted : (M : ℕ) (t : List Cell) → Formed M t → (p low high a 
 aside-unwanted M t formed p low high a s w = apart-unwanted M t formed p low high s.0 s.2 a s.3 w
 
 -- a leaf that shares an edge with a child of p meets p
-pub kid-meets : (M : ℕ) (t : List Cell) → Formed M t → (p f y a : ℕ) (q : Quad) → (at t p).kids ≡ some f → y ≡ f + num q → a < length t
+pub kid-meets : (M : ℕ) (t : List Cell) → Formed M t → (p f y a : ℕ) (q : Quad) → (at t p).kids ≡ Some f → y ≡ f + num q → a < length t
     → shares_edge (at t a).box (at t y).box ≡ true → meet (at t p).box (at t a).box ≡ true
 kid-meets M t formed p f y a q kids e ha shares =
     let s = formed.split p f kids in

@@ -1,14 +1,7 @@
 -- Closed boxes that meet: boxes that share an edge do, and a box meets what one of its quadrants meets. So a leaf that is to be split for
 -- a has only cells above it that are near a. Assumes nothing.
-use mathlib.Core.Path.{◌≡◌, refl, sym, ap, subst, ◌∙◌}
-use mathlib.Core.Bool.{Bool, true, false, ◌&&◌}
-use mathlib.Core.Option.{none, some}
-use mathlib.Core.List.{List, [], ◌∷◌, ◌++◌}
-use Prim.Native.Nat.{ℕ, ◌+◌, ◌<◌, ◌≤◌}
-use native.Mathlib.Omega.{arith}
-use lib.Dec.{ltb, leb}
-use lib.ListN.{length}
-use borrow.Author.Tests.{leb-true, le-leb, lt-leb, le-ltb, lt-ltb}
+use Rattle.std.proofs.Common.{◌≡◌, refl, sym, ap, subst, ◌∙◌, Bool, true, false, ◌&&◌, None, Some, List, [], ◌∷◌, ◌++◌, ℕ, ◌+◌, ◌<◌, ◌≤◌, arith, ltb, leb, length, leb-true, le-leb, le-ltb, lt-ltb}
+use borrow.Author.Tests.{lt-leb}
 use Rattle.cell.specs.Boxes.{Box, Quad, sw, se, nw, ne, num, quadrant, shares_edge}
 use Rattle.cell.proofs.Contact.{and_both, and_left, and_right, Touch, east, west, north, south, shares→touch, shares-sym}
 use Rattle.table.specs.Mesh.{Cell, past, at}
@@ -101,12 +94,12 @@ past-due k t a b h d = by (subst (λ (x : Cell). Touch x.box (at t a).box) (beyo
 -- ---- the tree
 
 -- one step further down
-reach-kid : (t : List Cell) (p : Route) (c j f : ℕ) (q : Quad) → Reach t p c j → (at t j).kids ≡ some f → Reach t (p ++ (q ∷ [])) c (f + num q)
+reach-kid : (t : List Cell) (p : Route) (c j f : ℕ) (q : Quad) → Reach t p c j → (at t j).kids ≡ Some f → Reach t (p ++ (q ∷ [])) c (f + num q)
 reach-kid t [] c j f q r e = (f, ap (λ (x : ℕ). (at t x).kids) r ∙ e, refl)
 reach-kid t (o ∷ p) c j f q r e = (r.0, r.1, reach-kid t p (r.0 + num o) j f q r.2 e)
 
 -- every name leads from its root down to its cell
-reach-find : (t : List Cell) (r : ℕ) (p : Route) (i : ℕ) → find t r p ≡ some i → Under t r i
+reach-find : (t : List Cell) (r : ℕ) (p : Route) (i : ℕ) → find t r p ≡ Some i → Under t r i
 reach-find t r [] i e = record { route = []; reach = sym (find-root t r i e).0 }
 reach-find t r (q ∷ p) i e =
     let u = find-up t r q p i e in
@@ -119,7 +112,7 @@ reach-find t r (q ∷ p) i e =
 module _ (M : ℕ) (t : List Cell) (formed : Formed M t) where
   pub record Rooted (i : ℕ) : Type 0 where
     pub root : ℕ
-    pub top : (at t root).parent ≡ none
+    pub top : (at t root).parent ≡ None
     pub under : Under t root i
 
   -- every cell stands in the subtree of a root

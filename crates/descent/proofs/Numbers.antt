@@ -1,13 +1,6 @@
 -- Coordinates in range are in the order of their numbers as they stand in the row. Assumes nothing.
-use Prim.Native.Nat.{ℕ, ◌-◌, ◌<◌}
-use mathlib.Core.Path.{◌≡◌, sym, subst}
-use mathlib.Core.Bool.{true, false, ◌&&◌}
-use mathlib.Core.List.{List}
-use lib.Dec.{T}
-use native.Mathlib.Omega.{arith}
-use lib.IntN.{ℤ, pos, negsuc, neg_ℤ}
+use Rattle.std.proofs.Common.{ℕ, ◌-◌, ◌<◌, ◌≡◌, sym, subst, true, false, ◌&&◌, List, T, arith, ℤ, pos, negsuc, neg_ℤ, ltb-true, leb-true}
 use lib.Signed.{le_z, lt_z, non_neg}
-use borrow.Author.Tests.{ltb-true, leb-true}
 use Rattle.refusals.specs.Limits.{coordinate}
 use Rattle.cell.specs.Ticks.{in_range, off}
 use Rattle.cell.proofs.Contact.{and_left, and_right}

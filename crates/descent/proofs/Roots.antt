@@ -1,14 +1,7 @@
 -- All cells from the roots: each stands in the subtree of one, and those that do not meet a hold nothing for it. Assumes nothing.
-use mathlib.Core.Path.{◌≡◌, sym, subst, ◌∙◌}
-use mathlib.Core.Bool.{true, false}
-use mathlib.Core.Option.{none}
-use mathlib.Core.Logic.{◌⊎◌, inl, inr, by_cases}
-use mathlib.Core.List.{List}
-use Prim.Native.Nat.{ℕ, ◌+◌, ◌<◌, ◌≤◌}
-use native.Mathlib.Omega.{arith}
+use Rattle.std.proofs.Common.{◌≡◌, sym, subst, ◌∙◌, true, false, None, ◌⊎◌, inl, inr, List, ℕ, ◌+◌, ◌<◌, ◌≤◌, arith, ℤ, length}
+use mathlib.Core.Logic.{by_cases}
 use native.Mathlib.Decide.{dec_lt, ℕ_discrete}
-use lib.IntN.{ℤ}
-use lib.ListN.{length}
 use Rattle.table.specs.Slots.{cell_at}
 use Rattle.table.specs.Mesh.{Cell, at, table, mesh_cell}
 use Rattle.table.specs.Formed.{Formed, WellFormed}
@@ -21,11 +14,11 @@ use Rattle.descent.proofs.Slots.{far_none, apart_none, meet-slots}
 
 -- b stands in the subtree of a root whose id is below c
 abbrev pub Seen : List Cell → ℕ → ℕ → Type 0
-Seen t c b = (r : ℕ) × (r < c) × ((at t r).parent ≡ none) × Under t r b
+Seen t c b = (r : ℕ) × (r < c) × ((at t r).parent ≡ None) × Under t r b
 
 -- or of one that does not meet a
 abbrev pub Aside : List Cell → ℕ → ℕ → Type 0
-Aside t a b = (r : ℕ) × ((at t r).parent ≡ none) × (meet (at t a).box (at t r).box ≡ false) × Under t r b
+Aside t a b = (r : ℕ) × ((at t r).parent ≡ None) × (meet (at t a).box (at t r).box ≡ false) × Under t r b
 
 pub seen_first : (t : List Cell) (a r b : ℕ) → Passed t a 0 r → Seen t r b → Aside t a b
 seen_first t a r b p s = (s.0, s.2, p s.0 (omega arith) s.1 s.2, s.3)
@@ -48,7 +41,7 @@ seen_all M t formed top c boxes x l b h =
 
 -- nothing there is to be split for a, or asks for a to be split
 module _ (k M : ℕ) (t : List ℤ) (n a : ℕ) (w : WellFormed t n M) (ha : a < n) where
-  inside : (r : ℕ) → (at (table t n) r).parent ≡ none → r < n
+  inside : (r : ℕ) → (at (table t n) r).parent ≡ None → r < n
   inside r e = rw (← length-table t n) (root_in (table t n) r e)
 
   pub aside_none : (b : ℕ) → Aside (table t n) a b → due k (table t n) a b ≡ true → ⊥

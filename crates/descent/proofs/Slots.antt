@@ -1,14 +1,7 @@
 -- The tree in the row's slots. Assumes nothing.
-use mathlib.Core.Path.{◌≡◌, sym, ap, ap₂, subst, ◌∙◌}
-use mathlib.Core.Bool.{Bool, true, false, true≢false}
 use mathlib.Core.Logic.{by_cases}
-use mathlib.Core.Option.{none, some}
-use mathlib.Core.List.{List}
-use Prim.Native.Nat.{ℕ, ◌+◌, ◌-◌, ◌<◌, ◌≤◌}
-use native.Mathlib.Omega.{arith}
+use Rattle.std.proofs.Common.{◌≡◌, sym, ap, ap₂, subst, ◌∙◌, Bool, true, false, true≢false, None, Some, List, ℕ, ◌+◌, ◌-◌, ◌<◌, ◌≤◌, arith, ℤ, eq-eqb, ne_eqb}
 use native.Mathlib.Decide.{dec_lt}
-use lib.IntN.{ℤ}
-use borrow.Author.Tests.{eq-eqb, ne_eqb}
 use Rattle.cell.specs.Boxes.{Quad, num, quad_at}
 use Rattle.cell.specs.Cells.{no_cell, box_of}
 use Rattle.table.specs.Slots.{cell_at}
@@ -30,10 +23,10 @@ module _ (t : List ℤ) (n : ℕ) where
   pub near-slots : (k a c : ℕ) → a < n → c < n → near_cells k (at (table t n) a) (at (table t n) c) ≡ near_cells k (mesh_cell (cell_at t a)) (mesh_cell (cell_at t c))
   near-slots k a c ha hc = ap₂ (near_cells k) (at_table t n a ha) (at_table t n c hc)
 
-  pub leaf-slot : (c : ℕ) → c < n → (cell_at t c).first ≡ no_cell → (at (table t n) c).kids ≡ none
+  pub leaf-slot : (c : ℕ) → c < n → (cell_at t c).first ≡ no_cell → (at (table t n) c).kids ≡ None
   leaf-slot c h e = ap (λ (x : Cell). x.kids) (at_table t n c h) ∙ ap (λ (b : Bool). opt_if b (cell_at t c).first) (eq-eqb (cell_at t c).first no_cell e)
 
-  pub split-slot : (c : ℕ) → c < n → ((cell_at t c).first ≡ no_cell → ⊥) → (at (table t n) c).kids ≡ some (cell_at t c).first
+  pub split-slot : (c : ℕ) → c < n → ((cell_at t c).first ≡ no_cell → ⊥) → (at (table t n) c).kids ≡ Some (cell_at t c).first
   split-slot c h e = ap (λ (x : Cell). x.kids) (at_table t n c h) ∙ ap (λ (b : Bool). opt_if b (cell_at t c).first) (ne_eqb (cell_at t c).first no_cell e)
 
   -- a child is in the table, and one level further down

@@ -1,6 +1,5 @@
 -- Marks on ids, one mark for each eight of them: which leaves a search marked.
-use Rattle.std.specs.Prelude.{ℕ, ◌/◌, ◌≤◌, ◌≡◌, Bool, true, false, List, length, get_or}
-use Rattle.std.proofs.Math.Option.{none}
+use Rattle.std.specs.Prelude.{ℕ, ◌/◌, ◌≤◌, ◌≡◌, Bool, true, false, List, length, get_or, None}
 use Rattle.table.specs.Mesh.{Cell, at}
 use Rattle.descent.specs.Search.{meet}
 
@@ -9,7 +8,7 @@ mark_at marks a = get_or marks (a / 8) false
 
 -- a is a leaf of a level from low to high that meets the cell p
 pub record Wanted (t : List Cell) (p low high a : ℕ) : Type 0 where
-  pub leaf : (at t a).kids ≡ none
+  pub leaf : (at t a).kids ≡ None
   pub fine : low ≤ (at t a).level
   pub coarse : (at t a).level ≤ high
   pub meets : meet (at t p).box (at t a).box ≡ true

@@ -1,6 +1,5 @@
 -- What the searches find: closed boxes that meet, the subtree of a cell, and the least id of a kind.
-use Rattle.std.specs.Prelude.{ℕ, ◌+◌, ◌/◌, ◌<◌, ◌≤◌, ◌≡◌, Bool, true, false, ◌&&◌, List, [], ◌∷◌, ltb, leb, get_or}
-use Rattle.std.proofs.Math.Option.{none, some}
+use Rattle.std.specs.Prelude.{ℕ, ◌+◌, ◌/◌, ◌<◌, ◌≤◌, ◌≡◌, Bool, true, false, ◌&&◌, List, [], ◌∷◌, ltb, leb, get_or, None, Some}
 use Rattle.cell.specs.Boxes.{Box, num}
 use Rattle.table.specs.Mesh.{Cell, at}
 use Rattle.coarsest.specs.Names.{Route}
@@ -16,7 +15,7 @@ near_cells k A C = ltb (C.level + k) A.level && meet A.box C.box
 -- the route from c, the topmost quadrant first, leads to b
 abbrev pub Reach : List Cell → Route → ℕ → ℕ → Type 0
 Reach t [] c b = c ≡ b
-Reach t (q ∷ p) c b = (f : ℕ) × ((at t c).kids ≡ some f) × Reach t p (f + num q) b
+Reach t (q ∷ p) c b = (f : ℕ) × ((at t c).kids ≡ Some f) × Reach t p (f + num q) b
 
 -- b stands in the subtree of c
 pub record Under (t : List Cell) (c b : ℕ) : Type 0 where
@@ -36,7 +35,7 @@ pub record Found (asks : ℕ → Bool) (seen : ℕ → Type 0) (stop : ℕ) (r :
 
 -- no root has this id or one above it
 abbrev pub RootsBelow : List Cell → ℕ → Type 0
-RootsBelow t top = (i : ℕ) → (at t i).parent ≡ none → i < top
+RootsBelow t top = (i : ℕ) → (at t i).parent ≡ None → i < top
 
 -- the box b holds the box a
 pub record Within (a b : Box) : Type 0 where
@@ -56,8 +55,8 @@ block_box boxes j =
 
 -- each root's id is below top, and its block's box holds it
 abbrev pub Indexed : ℕ → List (List ℕ) → List Cell → Type 0
-Indexed top boxes t = (i : ℕ) → (at t i).parent ≡ none → (i < top) × Within (at t i).box (block_box boxes (i / 64))
+Indexed top boxes t = (i : ℕ) → (at t i).parent ≡ None → (i < top) × Within (at t i).box (block_box boxes (i / 64))
 
 -- no root from c below r meets the cell a
 abbrev pub Passed : List Cell → ℕ → ℕ → ℕ → Type 0
-Passed t a c r = (i : ℕ) → c ≤ i → i < r → (at t i).parent ≡ none → meet (at t a).box (at t i).box ≡ false
+Passed t a c r = (i : ℕ) → c ≤ i → i < r → (at t i).parent ≡ None → meet (at t a).box (at t i).box ≡ false

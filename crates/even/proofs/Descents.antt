@@ -1,15 +1,7 @@
 -- A row by the searches: what lies before the least id that is due is not due, and no split makes a root. Assumes nothing.
-use Prim.Native.Nat.{ℕ, zero, suc, ◌+◌, ◌-◌, ◌/◌, ◌<◌, ◌≤◌}
-use mathlib.Core.Path.{◌≡◌, sym, ap, subst, ◌∙◌}
-use mathlib.Core.Bool.{true, false}
+use Rattle.std.proofs.Common.{ℕ, zero, suc, ◌+◌, ◌-◌, ◌/◌, ◌<◌, ◌≤◌, ◌≡◌, sym, ap, subst, ◌∙◌, true, false, List, arith, add-zero, add-suc, ℤ, length, Some, None}
 use mathlib.Core.Logic.{by_cases}
-use mathlib.Core.List.{List}
-use native.Mathlib.Omega.{arith}
 use native.Mathlib.Decide.{dec_lt}
-use native.Mathlib.Nat.{add-zero, add-suc}
-use lib.IntN.{ℤ}
-use lib.ListN.{length}
-use Rattle.std.specs.Prelude.{Some, None}
 use Rattle.table.specs.Mesh.{Cell, table}
 use Rattle.coarsest.specs.Passes.{Engine, balancing, due, pass}
 use Rattle.coarsest.specs.Sweep.{row, rows}

@@ -1,9 +1,5 @@
 -- Tests of all ids below a bound, and what a search found. Assumes nothing.
-use Prim.Native.Nat.{ℕ, zero, suc, ◌<◌, ◌≤◌}
-use mathlib.Core.Path.{◌≡◌, refl, sym, ap}
-use mathlib.Core.Bool.{Bool, true, false, ◌||◌}
-use mathlib.Core.Logic.{⊎_elim}
-use native.Mathlib.Omega.{arith}
+use Rattle.std.proofs.Common.{ℕ, zero, suc, ◌<◌, ◌≤◌, ◌≡◌, refl, sym, ap, Bool, true, false, ◌||◌, ⊎_elim, arith}
 use Rattle.table.proofs.All.{top?}
 use Rattle.coarsest.specs.Sweep.{any_to}
 use Rattle.descent.specs.Search.{Found}

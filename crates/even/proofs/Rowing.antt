@@ -1,15 +1,6 @@
 -- A well-formed row is the row of its cells: each number of a cell in its slot is exact, and behind the cells are zeros. Assumes nothing.
-use Prim.Native.Nat.{ℕ, zero, suc, ◌+◌, ◌*◌, ◌-◌, ◌<◌, ◌≤◌}
-use mathlib.Core.Path.{◌≡◌, refl, sym, ap, ◌∙◌}
-use mathlib.Core.Bool.{Bool, true, false}
-use mathlib.Core.List.{List, [], ◌∷◌, ◌++◌, append-nil, append_assoc}
-use native.Mathlib.Omega.{arith}
-use native.Mathlib.Nat.{add-zero}
-use lib.Dec.{eqb}
-use lib.IntN.{ℤ, pos}
-use lib.ListN.{length, get_or, take, drop, replicate, length-drop, length-replicate, get_or-replicate, take-append-drop}
-use lib.Seq.{ext_get_or, drop-cons, length-take-le, get_or-drop, take-add}
-use borrow.Author.Tests.{eqb-true}
+use Rattle.std.proofs.Common.{ℕ, zero, suc, ◌+◌, ◌*◌, ◌-◌, ◌<◌, ◌≤◌, ◌≡◌, refl, sym, ap, ◌∙◌, Bool, true, false, List, [], ◌∷◌, ◌++◌, append-nil, append_assoc, arith, add-zero, eqb, ℤ, pos, length, get_or, take, drop, replicate, length-drop, take-append-drop, ext_get_or, drop-cons, length-take-le, get_or-drop, take-add, eqb-true}
+use lib.ListN.{length-replicate, get_or-replicate}
 use Rattle.cell.specs.Cells.{no_cell}
 use Rattle.table.specs.Slots.{cell_at}
 use Rattle.table.specs.Mesh.{Cell, opt, opt_if, mesh_cell, table}

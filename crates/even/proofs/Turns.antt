@@ -1,15 +1,5 @@
 -- The turns of the engine's loops: a row that holds certain cells, and what a split and the end of the room do to it. Assumes nothing.
-use Prim.Native.Nat.{ℕ, suc, ◌+◌, ◌-◌, ◌/◌, ◌<◌, ◌≤◌}
-use mathlib.Core.Path.{◌≡◌, refl, sym, ap, subst, ◌∙◌}
-use mathlib.Core.Bool.{true}
-use mathlib.Core.Option.{Option, none, some}
-use mathlib.Core.List.{List}
-use native.Mathlib.Omega.{arith}
-use native.Mathlib.Numerals.{add-one}
-use lib.Dec.{eqb}
-use lib.IntN.{ℤ}
-use lib.ListN.{length}
-use Rattle.std.specs.Prelude.{Some, None}
+use Rattle.std.proofs.Common.{ℕ, suc, ◌+◌, ◌-◌, ◌/◌, ◌<◌, ◌≤◌, ◌≡◌, refl, sym, ap, subst, ◌∙◌, true, Option, None, Some, List, arith, add-one, eqb, ℤ, length}
 use Rattle.cell.specs.Cells.{no_cell}
 use Rattle.table.specs.Slots.{cell_at}
 use Rattle.table.specs.Mesh.{Cell, at, table, split, is_none, is_leaf}
@@ -75,12 +65,12 @@ on_then M mid goal t u v n r s o p =
     let b = p.more in
     record { formed = p.formed; cells = p.cells; size = p.size ∙ o.size; more = omega arith; back = λ m h. p.back m (omega arith) ∙ o.back m h }
 
-none-leaf : (u : List ℤ) (r c : ℕ) → c < r → (at (table u r) c).kids ≡ none → leaf_at u c ≡ true
+none-leaf : (u : List ℤ) (r c : ℕ) → c < r → (at (table u r) c).kids ≡ None → leaf_at u c ≡ true
 unfolding leaf_at
 none-leaf u r c h e = sym (leaf-is (cell_at u c).first) ∙ ap (λ (x : Cell). is_none x.kids) (sym (at_table u r c h)) ∙ ap is_none e
 
 module _ (M : ℕ) (what : List Cell) (t u : List ℤ) (n r : ℕ) (o : On M what t u n r) (c : ℕ) (inside : c < r)
-    (leaf : (at what c).kids ≡ none) (finer : (at what c).level < M) where
+    (leaf : (at what c).kids ≡ None) (finer : (at what c).level < M) where
   leaf-row : leaf_at u c ≡ true
   leaf-row = none-leaf u r c inside (ap (λ (x : List Cell). (at x c).kids) o.cells ∙ leaf)
 
@@ -119,12 +109,12 @@ module _ (e : Engine) (k M : ℕ) (T : List Cell) (t u : List ℤ) (n r a b : �
       omega (arith, w.apart)
 
   abbrev Ready : Type 0
-  Ready = ((at (row e k T a b) (coarser e a b)).kids ≡ none) × ((at (row e k T a b) (coarser e a b)).level < M)
+  Ready = ((at (row e k T a b) (coarser e a b)).kids ≡ None) × ((at (row e k T a b) (coarser e a b)).level < M)
 
   pub ready : due_of e k (row e k T a b) a b ≡ true → Ready
   ready = by e refl
     where
-      by : (d : Engine) → d ≡ e → due_of d k (row e k T a b) a b ≡ true → ((at (row e k T a b) (coarser d a b)).kids ≡ none) × ((at (row e k T a b) (coarser d a b)).level < M)
+      by : (d : Engine) → d ≡ e → due_of d k (row e k T a b) a b ≡ true → ((at (row e k T a b) (coarser d a b)).kids ≡ None) × ((at (row e k T a b) (coarser d a b)).level < M)
       by Rattle.coarsest.specs.Passes.balancing q d = ((due-of k (row e k T a b) a b d).coarse, finer-of a b ha d)
       by Rattle.coarsest.specs.Passes.conforming q d = ((due-of k (row e k T a b) b a d).coarse, finer-of b a hb d)
 
@@ -149,6 +139,6 @@ module _ (e : Engine) (k M : ℕ) (T : List Cell) (t u : List ℤ) (n r a b : �
 pub kids-of : (t : List ℤ) (n i : ℕ) → i < n → is_leaf (table t n) i ≡ eqb (cell_at t i).first no_cell
 kids-of t n i h = ap (λ (x : Cell). is_none x.kids) (at_table t n i h) ∙ leaf-is (cell_at t i).first
 
-pub none_of : (o : Option ℕ) → is_none o ≡ true → o ≡ none
-none_of none e = refl
-none_of (some f) e = let z : ◌≡◌ {A = ℕ} 0 1 = cc in absurd (omega arith)
+pub none_of : (o : Option ℕ) → is_none o ≡ true → o ≡ None
+none_of None e = refl
+none_of (Some f) e = let z : ◌≡◌ {A = ℕ} 0 1 = cc in absurd (omega arith)

@@ -1,18 +1,10 @@
 -- Taking splits back: what stands at each index, that a well-formed row is as it was, and that a split leaves no trace. Assumes nothing.
-use Prim.Native.Nat.{ℕ, zero, suc, ◌+◌, ◌*◌, ◌/◌, ◌%◌, ◌<◌, ◌≤◌}
-use mathlib.Core.Path.{◌≡◌, refl, sym, ap, ◌∙◌}
-use mathlib.Core.Bool.{Bool, true, false, cond}
-use mathlib.Core.List.{List, [], ◌∷◌, ◌++◌, append-nil}
-use mathlib.Core.Logic.{◌≢◌, inl, by_cases}
-use native.Mathlib.Omega.{arith}
+use Rattle.std.proofs.Common.{ℕ, zero, suc, ◌+◌, ◌*◌, ◌/◌, ◌%◌, ◌<◌, ◌≤◌, ◌≡◌, refl, sym, ap, ◌∙◌, Bool, true, false, cond, List, [], ◌∷◌, ◌++◌, append-nil, ◌≢◌, inl, arith, add-zero, add-one, ℤ, pos, length, get_or, set, take, drop, ext_get_or, take_all, take-suc, drop-cons, length-take-le, le-leb, eq-eqb, ne_eqb, eqb-true}
+use mathlib.Core.Logic.{by_cases}
 use native.Mathlib.Decide.{dec_lt, ℕ_discrete}
-use native.Mathlib.Nat.{add-zero}
-use native.Mathlib.Numerals.{add-one}
-use lib.IntN.{ℤ, pos}
 use lib.Signed.{le_z}
-use lib.ListN.{length, get_or, set, take, drop}
-use lib.Seq.{ext_get_or, take_all, take-suc, drop-cons, drop-length, length-take-le, set_at, get_or_at, append_snoc}
-use borrow.Author.Tests.{le-leb, lt-leb, eq-eqb, ne_eqb, eqb-true}
+use lib.Seq.{drop-length, set_at, get_or_at, append_snoc}
+use borrow.Author.Tests.{lt-leb}
 use Rattle.refusals.specs.Limits.{max_slots}
 use Rattle.cell.specs.declared.Cell as Held
 use Rattle.cell.specs.Boxes.{quad_at}

@@ -1,16 +1,7 @@
 -- The rows that have no mark have nothing due, and what is marked after a pass is all that can be. Assumes nothing.
-use Prim.Native.Nat.{ℕ, zero, suc, ◌+◌, ◌-◌, ◌*◌, ◌/◌, ◌<◌, ◌≤◌}
-use mathlib.Core.Path.{◌≡◌, refl, sym, ap, ◌∙◌}
-use mathlib.Core.Bool.{Bool, true, false, true≢false}
 use mathlib.Core.Logic.{by_cases}
-use mathlib.Core.Option.{some}
-use mathlib.Core.List.{List}
-use native.Mathlib.Omega.{arith}
+use Rattle.std.proofs.Common.{ℕ, zero, suc, ◌+◌, ◌-◌, ◌*◌, ◌/◌, ◌<◌, ◌≤◌, ◌≡◌, refl, sym, ap, ◌∙◌, Bool, true, false, true≢false, Some, List, arith, add-zero, add-suc, ℤ, length, get_or, replicate, eq-eqb, ne_eqb}
 use native.Mathlib.Decide.{dec_lt, ℕ_discrete}
-use native.Mathlib.Nat.{add-zero, add-suc}
-use lib.IntN.{ℤ}
-use lib.ListN.{length, get_or, replicate}
-use borrow.Author.Tests.{eq-eqb, ne_eqb}
 use Rattle.cell.specs.Boxes.{Quad, num, quad_at}
 use Rattle.cell.specs.Cells.{no_cell}
 use Rattle.cell.proofs.Contact.{shares-sym}
@@ -66,7 +57,7 @@ watched-all e k t n m h a b ha hb d = go m (a / 8) (omega arith)
 
 -- ---- new cells
 
-module _ (e : Engine) (k M : ℕ) (t : List Cell) (formed : Formed M t) (p f low high : ℕ) (kids : (at t p).kids ≡ some f)
+module _ (e : Engine) (k M : ℕ) (t : List Cell) (formed : Formed M t) (p f low high : ℕ) (kids : (at t p).kids ≡ Some f)
     (spans : (x : ℕ) → Reaches e k M ((at t p).level + 1) x → (low ≤ x) × (x ≤ high)) where
   wanted_by : (d : Engine) → ((x : ℕ) → Reaches d k M ((at t p).level + 1) x → (low ≤ x) × (x ≤ high)) → (q : Quad) (y a : ℕ) → y ≡ f + num q → a < length t
       → due_of d k t a y ≡ true → Wanted t p low high a
@@ -115,12 +106,12 @@ settled-pass e k M T t u n r stop o h a b ha hb = ap (λ (x : List Cell). due_of
 
 pub record Group (t : List ℤ) (n x p f : ℕ) : Type 0 where
   pub inside : p < n
-  pub kids : (at (table t n) p).kids ≡ some f
+  pub kids : (at (table t n) p).kids ≡ Some f
   pub low : f ≤ x
   pub high : x < f + 4
   pub below : f + 4 ≤ n
 
-born-group : (M : ℕ) (t : List ℤ) (n x p : ℕ) → WellFormed t n M → x < n → (at (table t n) x).parent ≡ some p → Group t n x p (cell_at t p).first
+born-group : (M : ℕ) (t : List ℤ) (n x p : ℕ) → WellFormed t n M → x < n → (at (table t n) x).parent ≡ Some p → Group t n x p (cell_at t p).first
 born-group M t n x p w h e =
     let b = w.cells.born x p (rw (length-table t n) h) e in
     let i : p < n = rw (length-table t n) at (kids-in (table t n) p b.first b.split) in
@@ -132,7 +123,7 @@ born-group M t n x p w h e =
     let l = length-table t n in
     let q = num-below b.place in
     let g = b.here in
-    record { inside = i; kids = b.split ∙ ap some (sym same); low = omega arith; high = omega arith; below = omega arith }
+    record { inside = i; kids = b.split ∙ ap Some (sym same); low = omega arith; high = omega arith; below = omega arith }
 
 pub group_of : (M : ℕ) (t : List ℤ) (n top x : ℕ) (boxes : List (List ℕ)) → WellFormed t n M → Indexed top boxes (table t n) → top ≤ x → x < n
     → Group t n x (cell_at t x).parent (cell_at t (cell_at t x).parent).first

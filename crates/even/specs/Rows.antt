@@ -1,14 +1,13 @@
 -- The row that holds a list of cells: eight numbers a cell, and zeros behind them.
-use Rattle.std.specs.Prelude.{ℕ, ◌-◌, List, [], ◌∷◌, ◌++◌, ℤ, pos, length, replicate}
-use Rattle.std.proofs.Math.Option.{Option, none, some}
+use Rattle.std.specs.Prelude.{ℕ, ◌-◌, List, [], ◌∷◌, ◌++◌, ℤ, pos, length, replicate, Option, None, Some}
 use Rattle.cell.specs.Cells.{no_cell}
 use Rattle.cell.specs.Ticks.{on}
 use Rattle.table.specs.Mesh.{Cell}
 
 -- NO_CELL where there is none
 abbrev pub marked : Option ℕ → ℤ
-marked none = pos no_cell
-marked (some i) = pos i
+marked None = pos no_cell
+marked (Some i) = pos i
 
 -- x0 y0 x1 y1 level parent first-child polygon
 abbrev pub numbers_of : Cell → List ℤ

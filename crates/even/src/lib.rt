@@ -3,7 +3,7 @@
 #![tactic(auto)]
 
 ghost use Rattle.std.specs.Prelude.{◌≡◌, ℕ, ◌+◌, ◌*◌, ◌<◌, ◌≤◌, length};
-ghost use Rattle.std.proofs.Math.Option.{some};
+ghost use Rattle.std.specs.Prelude.{Some};
 ghost use Rattle.table.specs.Mesh.{at, table};
 ghost use Rattle.table.specs.Formed.{WellFormed};
 ghost use Rattle.coarsest.specs.Passes.{balancing, conforming};
@@ -205,7 +205,7 @@ fn mark_kids(
 )
     requires well_formed { WellFormed t.now n m }
     requires top_le_n { ((top ≤ n) × (length boxes.now ≡ 256)) × Indexed top boxes.now (table t.now n) }
-    requires p_lt_n { (((p < n) × (k ≤ 64)) × (length marks.old ≡ 2048)) × ((at (table t.now n) p).kids ≡ some f) }
+    requires p_lt_n { (((p < n) × (k ≤ 64)) × (length marks.old ≡ 2048)) × ((at (table t.now n) p).kids ≡ Some f) }
     ensures kept { Kept marks.old marks.new }
     ensures by_index { (y : ℕ) → f ≤ y → y < f + 4
         → Met (engine_of conforms) k marks.new (table t.now n) n y }

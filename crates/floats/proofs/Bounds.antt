@@ -1,12 +1,7 @@
 -- What the rules' ranges say of a number. Assumes nothing.
-use mathlib.Core.Path.{subst}
-use Prim.Native.Nat.{ℕ, ◌*◌, ◌^◌, ◌≤◌, ◌<◌}
-use native.Mathlib.Nat.{le_of_lt, mul-one}
-use mathlib.Core.Bool.{true, false}
-use lib.Dec.{T, le→leb}
-use lib.IntN.{pos}
+use Rattle.std.proofs.Common.{subst, ℕ, ◌*◌, ◌^◌, ◌≤◌, ◌<◌, le_of_lt, mul-one, true, false, T, le→leb, pos, Float}
 use lib.Ieee as Ieee
-use lib.Ieee.{Float, nan, inf, fin, binary64, up, down, le, of_int, in_float, round}
+use lib.Ieee.{nan, inf, fin, binary64, up, down, le, of_int, in_float, round}
 use lib.Ieee.Fits.{and_l, and_r}
 use lib.Ieee.Back.{round_whole}
 use lib.Ieee.Exact.{HasValue}

@@ -1,11 +1,6 @@
 -- Ranges with positive ends, and what an operation makes of them. Assumes nothing.
-use mathlib.Core.Path.{◌≡◌, refl, sym, ◌∙◌}
-use Prim.Native.Nat.{ℕ, ◌+◌, ◌*◌, ◌≤◌, ◌<◌}
-use native.Mathlib.Nat.{le_trans, le_of_eq, mul_comm, mul_assoc, mul_left_comm, add-mul, add-le-add, mul-le-mul, mul-le-mul_right, mul-pos, zero-lt-suc}
-use mathlib.Core.Bool.{true, false}
-use lib.IntN.{pos}
-use lib.Dec.{T, eqb}
-use lib.Ieee.{Float, nan, inf, fin, Format, binary64, round, sum, add, mul, div, le, of_int}
+use Rattle.std.proofs.Common.{◌≡◌, refl, sym, ◌∙◌, ℕ, ◌+◌, ◌*◌, ◌≤◌, ◌<◌, le_trans, le_of_eq, mul_comm, mul_assoc, mul_left_comm, add-mul, add-le-add, mul-le-mul, mul-le-mul_right, mul-pos, zero-lt-suc, true, false, pos, T, eqb, Float, sum}
+use lib.Ieee.{nan, inf, fin, Format, binary64, round, add, mul, div, le, of_int}
 use lib.Ieee.Bits.{cond_no}
 use lib.Ieee.Order.{round_mono}
 use lib.Ieee.Positive.{positive, num, den, den_pos, own_value, value_pos, le→cross, between}

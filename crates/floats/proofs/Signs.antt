@@ -1,10 +1,7 @@
 -- Where a result is no NaN, and where it has no minus sign either: laws of the operations. Assumes nothing.
-use mathlib.Core.Path.{◌≡◌, sym, subst}
-use Prim.Native.Nat.{ℕ, zero, suc, ◌+◌, ◌*◌, ◌^◌, ◌<◌}
-use native.Mathlib.Omega.{arith}
-use mathlib.Core.Bool.{Bool, true, false, not, cond}
-use lib.Dec.{T, ltb, eqb, eqb→eq, ltb→lt, not_T}
-use lib.Ieee.{Float, nan, inf, fin, Format, prec, emax, low, up, down, unlike, odd, units, round, sum, add, mul, div, is_nan}
+use Rattle.std.proofs.Common.{◌≡◌, sym, subst, ℕ, zero, suc, ◌+◌, ◌*◌, ◌^◌, ◌<◌, arith, Bool, true, false, not, cond, T, ltb, eqb, eqb→eq, ltb→lt, Float, sum, is_nan}
+use lib.Dec.{not_T}
+use lib.Ieee.{nan, inf, fin, Format, prec, emax, low, up, down, unlike, odd, units, round, add, mul, div}
 use lib.Ieee.Fits.{round_is}
 use lib.Ieee.Bits.{cond_no}
 use lib.Ieee.Scale.{finite}

@@ -1,12 +1,8 @@
 -- Finite values of a bounded size, and what sums and differences make of them. Assumes nothing.
-use mathlib.Core.Path.{◌≡◌, sym, ap, ◌∙◌, subst}
-use Prim.Native.Nat.{ℕ, zero, suc, ◌+◌, ◌-◌, ◌*◌, ◌^◌, ◌≤◌, ◌<◌}
-use native.Mathlib.Nat.{le_trans, le_of_eq, le_of_lt, mul-one, one-mul, mul_comm, mul_assoc, mul_right_comm, mul-le-mul_right, le_of_mul-le-mul_right, mul-pos, zero-lt-suc, pow-suc}
-use native.Mathlib.Omega.{arith}
-use mathlib.Core.Bool.{Bool, true, false, ◌&&◌, ◌||◌, cond, beq, true≢false}
-use lib.Dec.{T, ltb, eqb, eqb→eq, ltb→lt, lit<}
-use lib.Pow.{pow-lt, pow-add}
-use lib.Ieee.{Float, nan, inf, fin, Format, binary64, prec, emax, low, up, down, odd, units, round, neg, sum, add, sub, le, is_nan}
+use Rattle.std.proofs.Common.{◌≡◌, sym, ap, ◌∙◌, subst, ℕ, zero, suc, ◌+◌, ◌-◌, ◌*◌, ◌^◌, ◌≤◌, ◌<◌, le_trans, le_of_eq, le_of_lt, mul-one, one-mul, mul_comm, mul_assoc, mul_right_comm, mul-le-mul_right, le_of_mul-le-mul_right, mul-pos, zero-lt-suc, pow-suc, arith, Bool, true, false, ◌&&◌, ◌||◌, cond, true≢false, T, ltb, eqb, eqb→eq, ltb→lt, lit<, pow-add, Float, sum, is_nan}
+use mathlib.Core.Bool.{beq}
+use lib.Pow.{pow-lt}
+use lib.Ieee.{nan, inf, fin, Format, binary64, prec, emax, low, up, down, odd, units, round, neg, add, sub, le}
 use lib.Ieee.Fits.{down_pos, and_l, round_is}
 use lib.Ieee.Exact.{HasValue, round_exact}
 use lib.Ieee.Order.{round_mono}

@@ -1,15 +1,6 @@
 -- The work room, step by step, until the nodes are sorted along their lines. Assumes nothing.
-use mathlib.Core.Path.{◌≡◌, sym, ap, subst, ◌∙◌}
-use mathlib.Core.Bool.{Bool}
-use mathlib.Core.Logic.{inr}
-use mathlib.Core.List.{List, ◌++◌}
-use Prim.Native.Nat.{ℕ, ◌+◌, ◌*◌, ◌-◌, ◌^◌, ◌<◌, ◌≤◌}
-use native.Mathlib.Omega.{arith}
-use native.Mathlib.Nat.{zero-add, add-zero}
+use Rattle.std.proofs.Common.{◌≡◌, sym, ap, subst, ◌∙◌, Bool, inr, List, ◌++◌, ℕ, ◌+◌, ◌*◌, ◌-◌, ◌^◌, ◌<◌, ◌≤◌, arith, zero-add, add-zero, ℤ, length, get_or, take, length-take-le, take-take}
 use borrow.Rule.Slice.PartMut.{put_mid}
-use lib.IntN.{ℤ}
-use lib.ListN.{length, get_or, take}
-use lib.Seq.{length-take-le, take-take}
 use Rattle.refusals.specs.Limits.{max_slots}
 use Rattle.rows.specs.Order as Rows
 use Rattle.rows.specs.Parts.{part, put, tab}

@@ -1,13 +1,7 @@
 -- The loop that writes for each index what lies between it and its neighbours in the order. Assumes nothing.
-use mathlib.Core.Path.{◌≡◌, refl, sym, ap, subst, ◌∙◌}
-use mathlib.Core.Logic.{◌⊎◌, ◌≢◌, inl, ⊎_elim, by_cases}
-use mathlib.Core.List.{List}
-use Prim.Native.Nat.{ℕ, suc, ◌+◌, ◌*◌, ◌<◌, ◌≤◌}
-use native.Mathlib.Omega.{arith}
-use native.Mathlib.Numerals.{add-one}
+use Rattle.std.proofs.Common.{◌≡◌, refl, sym, ap, subst, ◌∙◌, ◌⊎◌, ◌≢◌, inl, ⊎_elim, List, ℕ, suc, ◌+◌, ◌*◌, ◌<◌, ◌≤◌, arith, add-one, length, get_or, set, length-set, get_or-set_same, get_or-set_other, ext_get_or}
+use mathlib.Core.Logic.{by_cases}
 use native.Mathlib.Decide.{ℕ_discrete}
-use lib.ListN.{length, get_or, set, length-set}
-use lib.Seq.{get_or-set_same, get_or-set_other, ext_get_or}
 use Rattle.rows.specs.Order.{ordered}
 use Rattle.rows.specs.Parts.{part}
 use Rattle.rows.proofs.Parts.{length_part, part_at}

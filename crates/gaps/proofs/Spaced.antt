@@ -1,12 +1,5 @@
 -- The gaps in the work room: of the columns or of the rows, then of both. Assumes nothing.
-use mathlib.Core.Path.{◌≡◌, sym, ap, subst, ◌∙◌}
-use mathlib.Core.Bool.{Bool, true, false}
-use mathlib.Core.Logic.{inl}
-use mathlib.Core.List.{List}
-use Prim.Native.Nat.{ℕ, zero, suc, ◌+◌, ◌*◌, ◌<◌, ◌≤◌}
-use native.Mathlib.Omega.{arith}
-use lib.IntN.{ℤ}
-use lib.ListN.{length, get_or}
+use Rattle.std.proofs.Common.{◌≡◌, sym, ap, subst, ◌∙◌, Bool, true, false, inl, List, ℕ, zero, suc, ◌+◌, ◌*◌, ◌<◌, ◌≤◌, arith, ℤ, length, get_or}
 use Rattle.net.specs.Net.{next_gap, prev_gap, gap}
 use Rattle.node_rows.specs.Rows.{nodes_in, Gapped, extent_at, way_of}
 use Rattle.gaps.specs.Gaps.{all_facing, rank_at, rise_at, fall_at, Ranked, Risen, Spaced}

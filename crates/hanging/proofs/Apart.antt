@@ -1,12 +1,7 @@
 -- Two leaves of a polygon of one strip do not overlap. Assumes nothing.
-use mathlib.Core.Path.{◌≡◌, refl, sym, ap, subst, subst₂, ◌∙◌}
 use mathlib.Core.Logic.{by_cases}
-use mathlib.Core.Option.{none, some}
-use mathlib.Core.List.{List, [], ◌∷◌}
-use Prim.Native.Nat.{ℕ, suc, ◌≤◌}
-use native.Mathlib.Omega.{arith}
+use Rattle.std.proofs.Common.{◌≡◌, refl, sym, ap, subst, subst₂, ◌∙◌, None, Some, List, [], ◌∷◌, ℕ, suc, ◌≤◌, arith, length}
 use native.Mathlib.Decide.{ℕ_discrete, dec_le}
-use lib.ListN.{length}
 use Rattle.cell.specs.Boxes.{Box, Quad, sw, se, nw, ne, num, quadrant, mid}
 use Rattle.table.specs.Mesh.{Cell, at}
 use Rattle.table.specs.Formed.{Formed}
@@ -66,13 +61,13 @@ module _ (M : ℕ) (t : List Cell) (formed : Formed M t) where
   kid-box : (r : ℕ) (q : Quad) (p : Route) (i : ℕ) (u : Up t r q p i) → (at t i).box ≡ quadrant (at t u.parent).box q
   kid-box r q p i u = ap (λ (x : ℕ). (at t x).box) u.here ∙ ((formed.split u.parent u.first u.kids).kid q).box
 
-  root-polygon : (r : ℕ) (p : Route) (i : ℕ) → find t r p ≡ some i → (at t i).polygon ≡ (at t r).polygon
+  root-polygon : (r : ℕ) (p : Route) (i : ℕ) → find t r p ≡ Some i → (at t i).polygon ≡ (at t r).polygon
   root-polygon r [] i e = ap (λ (x : ℕ). (at t x).polygon) (find-root t r i e).0
   root-polygon r (q ∷ p) i e =
       let u = find-up t r q p i e in
       ap (λ (x : ℕ). (at t x).polygon) u.here ∙ ((formed.split u.parent u.first u.kids).kid q).polygon ∙ root-polygon r p u.parent u.found
 
-  pub root-of : (k r : ℕ) (p : Route) (i : ℕ) → find t r p ≡ some i → (at t i).polygon ≡ k → RootOf t k r
+  pub root-of : (k r : ℕ) (p : Route) (i : ℕ) → find t r p ≡ Some i → (at t i).polygon ≡ k → RootOf t k r
   root-of k r p i e h = record { top = find-rooted t r p i e; polygon = sym (root-polygon r p i e) ∙ h }
 
   module _ (k : ℕ) (strip : OneStrip t k) where
@@ -83,7 +78,7 @@ module _ (M : ℕ) (t : List Cell) (formed : Formed M t) where
         strip.once r s a b (same_step g.west g.wide (strip.column r) (strip.column s) m.0) (same_step g.south g.high (strip.row r) (strip.row s) m.1)
 
     -- cells of one level that overlap are the same
-    level-one : (r s : ℕ) (p q : Route) (i j : ℕ) → RootOf t k r → RootOf t k s → length p ≡ length q → find t r p ≡ some i → find t s q ≡ some j
+    level-one : (r s : ℕ) (p q : Route) (i j : ℕ) → RootOf t k r → RootOf t k s → length p ≡ length q → find t r p ≡ Some i → find t s q ≡ Some j
         → Overlap (at t i).box (at t j).box → i ≡ j
     level-one r s [] [] i j a b l e d o =
         let x = (find-root t r i e).0 in
@@ -107,8 +102,8 @@ module _ (M : ℕ) (t : List Cell) (formed : Formed M t) where
         omega arith
 
     -- a leaf overlaps no other cell that is as fine as it or finer
-    leaf-over : (r s : ℕ) (p q : Route) (i j : ℕ) → RootOf t k r → RootOf t k s → length p ≤ length q → find t r p ≡ some i → find t s q ≡ some j
-        → (at t i).kids ≡ none → Overlap (at t i).box (at t j).box → i ≡ j
+    leaf-over : (r s : ℕ) (p q : Route) (i j : ℕ) → RootOf t k r → RootOf t k s → length p ≤ length q → find t r p ≡ Some i → find t s q ≡ Some j
+        → (at t i).kids ≡ None → Overlap (at t i).box (at t j).box → i ≡ j
     leaf-over r s p [] i j a b l e d leaf o = level-one r s p [] i j a b (omega arith) e d o
     leaf-over r s p (y ∷ q) i j a b l e d leaf o =
         by_cases (ℕ_discrete (length p) (suc (length q)))

@@ -1,11 +1,8 @@
 -- One axis: ranges that overlap, their ends, halves and multiples. Assumes nothing.
-use mathlib.Core.Path.{◌≡◌, sym, ap, subst, ◌∙◌}
+use Rattle.std.proofs.Common.{◌≡◌, sym, ap, subst, ◌∙◌, ℕ, suc, ◌+◌, ◌*◌, ◌-◌, ◌^◌, ◌<◌, ◌≤◌, min, max, arith, mul-suc, mul_assoc, pow-suc, pow-add}
 use mathlib.Core.Logic.{by_cases}
-use Prim.Native.Nat.{ℕ, suc, ◌+◌, ◌*◌, ◌-◌, ◌^◌, ◌<◌, ◌≤◌, min, max}
-use native.Mathlib.Omega.{arith}
 use native.Mathlib.Decide.{ℕ_discrete}
-use native.Mathlib.Nat.{mul-suc, mul_assoc, pow-suc, lt_of_mul-lt-mul_left}
-use lib.Pow.{pow-add}
+use native.Mathlib.Nat.{lt_of_mul-lt-mul_left}
 use Rattle.cell.specs.Boxes.{mid}
 use Rattle.hanging.specs.Nodes.{End, lower, upper, EndOrMiddle, end, middle}
 

@@ -1,10 +1,6 @@
 -- In a balanced table, a corner of a leaf of a polygon of one strip that lies on a side of another of its leaves is an end of that side
 -- or its middle. Assumes nothing.
-use mathlib.Core.Path.{◌≡◌, sym, subst}
-use mathlib.Core.Logic.{◌⊎◌, inl, inr, ⊎_elim}
-use mathlib.Core.List.{List}
-use Prim.Native.Nat.{ℕ, ◌+◌, ◌<◌, ◌≤◌}
-use native.Mathlib.Omega.{arith}
+use Rattle.std.proofs.Common.{◌≡◌, sym, subst, ◌⊎◌, inl, inr, ⊎_elim, List, ℕ, ◌+◌, ◌<◌, ◌≤◌, arith}
 use Rattle.cell.specs.Boxes.{Box}
 use Rattle.cell.proofs.Contact.{Touch, east, west, north, south, touch→shares, shares-sym}
 use Rattle.table.specs.Mesh.{Cell, at}

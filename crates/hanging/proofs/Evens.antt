@@ -1,11 +1,5 @@
 -- What balance and conform end in is balanced or conformed, and a polygon of one strip stays one. Assumes nothing.
-use mathlib.Core.Path.{◌≡◌, sym, ap, ◌∙◌}
-use mathlib.Core.Bool.{false, not}
-use mathlib.Core.Option.{Option, none, some}
-use mathlib.Core.List.{List}
-use Prim.Native.Nat.{ℕ, ◌<◌}
-use native.Mathlib.Omega.{arith}
-use lib.ListN.{length}
+use Rattle.std.proofs.Common.{◌≡◌, sym, ap, ◌∙◌, false, not, Option, None, Some, List, ℕ, ◌<◌, arith, length}
 use Rattle.table.specs.Mesh.{Cell, at, split, is_none}
 use Rattle.table.specs.Formed.{Formed}
 use Rattle.table.proofs.Meshes.{root_in, Kept, kept, formed-split}
@@ -18,13 +12,13 @@ use Rattle.coarsest.proofs.Evened.{evened-roots}
 use Rattle.coarsest.proofs.Laws.{SameRoots, balance-evens, conform-evens}
 use Rattle.hanging.specs.Strip.{RootOf, OneStrip, Even, Balanced, Conformed, Splits, start, next}
 
-leaf-whole : (t : List Cell) (r : ℕ) (p : Route) (i : ℕ) → find t r p ≡ some i → (at t i).kids ≡ none → splitting t r p ≡ false
+leaf-whole : (t : List Cell) (r : ℕ) (p : Route) (i : ℕ) → find t r p ≡ Some i → (at t i).kids ≡ None → splitting t r p ≡ false
 unfolding splitting
 leaf-whole t r p i e k = ap (split_in t) e ∙ ap (λ (o : Option ℕ). not (is_none o)) k
 
 -- a table that has the coarsest splitting is even
 module _ (d M : ℕ) (t u : List Cell) (evens : Evens d M t u) where
-  leaf-of : (i : ℕ) → (at u i).kids ≡ none → (n : Named M u evens.formed i) → Leaf (roots_of t) (splitting u) n.root n.path (at u i).box
+  leaf-of : (i : ℕ) → (at u i).kids ≡ None → (n : Named M u evens.formed i) → Leaf (roots_of t) (splitting u) n.root n.path (at u i).box
   leaf-of i k n =
       record {
         root = (at u n.root).box;

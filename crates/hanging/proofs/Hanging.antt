@@ -1,14 +1,6 @@
 -- No node hangs: in a balanced table, every node of a polygon of one strip that lies on a leaf's edge is an end of that edge or its
 -- middle, and at the middle both halves are edges of the net. Assumes nothing.
-use mathlib.Core.Path.{◌≡◌, refl, sym, ap, ap₂, subst, ◌∙◌}
-use mathlib.Core.Bool.{Bool, true, false, ◌&&◌}
-use mathlib.Core.Option.{Option, none, some}
-use mathlib.Core.List.{List, [], ◌∷◌, ◌++◌}
-use Prim.Native.Nat.{ℕ, suc, ◌+◌, ◌<◌}
-use native.Mathlib.Omega.{arith}
-use lib.Dec.{eqb}
-use lib.ListN.{length}
-use borrow.Author.Tests.{eqb-true, lt-ltb}
+use Rattle.std.proofs.Common.{◌≡◌, refl, sym, ap, ap₂, subst, ◌∙◌, Bool, true, false, ◌&&◌, Option, None, Some, List, [], ◌∷◌, ◌++◌, ℕ, suc, ◌+◌, ◌<◌, arith, eqb, length, eqb-true, lt-ltb}
 use Rattle.cell.specs.Boxes.{Box, mid}
 use Rattle.cell.proofs.Contact.{and_left, and_right}
 use Rattle.table.specs.Mesh.{Cell, at, is_none}
@@ -32,9 +24,9 @@ NoneHangs n q = All (λ (r : Box). All (HangsNot n q.poly r) (corners_of q)) q.l
 abbrev Leafs : List Cell → ℕ → Box → Type 0
 Leafs t k b = (i : ℕ) × LeafOf t k i × ((at t i).box ≡ b)
 
-is-none : (o : Option ℕ) → is_none o ≡ true → o ≡ none
-is-none none e = refl
-is-none (some f) e = let z : ◌≡◌ {A = ℕ} 0 1 = cc in absurd (omega arith)
+is-none : (o : Option ℕ) → is_none o ≡ true → o ≡ None
+is-none None e = refl
+is-none (Some f) e = let z : ◌≡◌ {A = ℕ} 0 1 = cc in absurd (omega arith)
 
 pub leaves_by : (t : List Cell) (k : ℕ) → All (Leafs t k) (leaves_of t k)
 unfolding All leaves_of

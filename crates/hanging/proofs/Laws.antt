@@ -1,10 +1,5 @@
 -- No node hangs: of what balance and conform end in, of a row's table, and of a board of one polygon. Assumes nothing.
-use mathlib.Core.Path.{◌≡◌, refl, sym, subst}
-use mathlib.Core.Bool.{true}
-use mathlib.Core.List.{List, [], ◌∷◌, ◌++◌}
-use Prim.Native.Nat.{ℕ, ◌+◌, ◌<◌}
-use lib.IntN.{ℤ}
-use lib.ListN.{length}
+use Rattle.std.proofs.Common.{◌≡◌, refl, sym, subst, true, List, [], ◌∷◌, ◌++◌, ℕ, ◌+◌, ◌<◌, ℤ, length}
 use Rattle.cell.specs.Boxes.{Box}
 use Rattle.table.specs.Mesh.{Cell, at, table}
 use Rattle.table.specs.Formed.{Formed, well_formed}

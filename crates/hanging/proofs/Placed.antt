@@ -1,11 +1,6 @@
 -- Every cell of a polygon of one strip is a cell of the grid of its level. Assumes nothing.
-use mathlib.Core.Path.{◌≡◌, sym, ap, subst, ◌∙◌}
-use mathlib.Core.List.{List, [], ◌∷◌}
-use Prim.Native.Nat.{ℕ, suc, ◌+◌, ◌*◌, ◌-◌, ◌^◌, ◌<◌, ◌≤◌}
-use native.Mathlib.Omega.{arith}
-use native.Mathlib.Nat.{mul-add, mul-pos, sub-zero}
-use lib.ListN.{length}
-use lib.Pow.{pow_pos}
+use Rattle.std.proofs.Common.{◌≡◌, sym, ap, subst, ◌∙◌, List, [], ◌∷◌, ℕ, suc, ◌+◌, ◌*◌, ◌-◌, ◌^◌, ◌<◌, ◌≤◌, arith, mul-add, mul-pos, length, pow_pos}
+use native.Mathlib.Nat.{sub-zero}
 use Rattle.cell.specs.Boxes.{Box, Quad, sw, se, nw, ne, quadrant, mid}
 use Rattle.table.specs.Mesh.{Cell, at}
 use Rattle.table.specs.Formed.{Formed}

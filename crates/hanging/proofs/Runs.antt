@@ -1,9 +1,5 @@
 -- Roots that stand row by row, as build leaves those of a strip, are one grid. Assumes nothing.
-use mathlib.Core.Path.{◌≡◌, sym, ap₂, ◌∙◌}
-use mathlib.Core.List.{List}
-use Prim.Native.Nat.{ℕ, ◌+◌, ◌*◌, ◌-◌, ◌/◌, ◌%◌, ◌≤◌}
-use native.Mathlib.Omega.{arith}
-use native.Mathlib.Nat.{div-add-mod'}
+use Rattle.std.proofs.Common.{◌≡◌, sym, ap₂, ◌∙◌, List, ℕ, ◌+◌, ◌*◌, ◌-◌, ◌/◌, ◌%◌, ◌≤◌, arith, div-add-mod'}
 use Rattle.table.specs.Mesh.{Cell, at}
 use Rattle.hanging.specs.Strip.{RootOf, OneStrip, Grid, grid_box}
 

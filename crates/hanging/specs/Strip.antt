@@ -1,17 +1,16 @@
 -- A polygon of one strip, and a balanced table. Definitions only.
-use Rattle.std.specs.Prelude.{ℕ, ◌+◌, ◌*◌, ◌<◌, ◌≤◌, ◌≡◌, true, List, length}
-use Rattle.std.proofs.Math.Option.{none}
+use Rattle.std.specs.Prelude.{ℕ, ◌+◌, ◌*◌, ◌<◌, ◌≤◌, ◌≡◌, true, List, length, None}
 use Rattle.cell.specs.Boxes.{Box, shares_edge}
 use Rattle.table.specs.Mesh.{Cell, at, split}
 
 -- a root and a leaf of the polygon k, by id
 pub record RootOf (t : List Cell) (k r : ℕ) : Type 0 where
-  pub top : (at t r).parent ≡ none
+  pub top : (at t r).parent ≡ None
   pub polygon : (at t r).polygon ≡ k
 
 pub record LeafOf (t : List Cell) (k i : ℕ) : Type 0 where
   pub inside : i < length t
-  pub whole : (at t i).kids ≡ none
+  pub whole : (at t i).kids ≡ None
   pub polygon : (at t i).polygon ≡ k
 
 -- a grid: its south-west corner, and the sides of its cells
@@ -42,7 +41,7 @@ pub record OneStrip (t : List Cell) (k : ℕ) : Type 0 where
 -- no leaf is finer by more than d levels than one that it shares an edge with
 abbrev pub Even : ℕ → List Cell → Type 0
 Even d t =
-    (i j : ℕ) → i < length t → j < length t → (at t i).kids ≡ none → (at t j).kids ≡ none
+    (i j : ℕ) → i < length t → j < length t → (at t i).kids ≡ None → (at t j).kids ≡ None
     → shares_edge (at t i).box (at t j).box ≡ true → (at t i).level ≤ (at t j).level + d
 
 -- "a balanced table", and a conformed one
@@ -55,4 +54,4 @@ Conformed t = Even 0 t
 -- the tables that refinement makes of t: leaves above the level M are split, one after another
 pub data Splits (M : ℕ) (t : List Cell) : List Cell → Type 0 where
   start : Splits M t t
-  next : {u : List Cell} → Splits M t u → (c : ℕ) → c < length u → (at u c).kids ≡ none → (at u c).level < M → Splits M t (split u c)
+  next : {u : List Cell} → Splits M t u → (c : ℕ) → c < length u → (at u c).kids ≡ None → (at u c).level < M → Splits M t (split u c)

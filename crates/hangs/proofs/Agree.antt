@@ -1,14 +1,6 @@
 -- Items of equal key are at the same place; the items from 4 * l on are the nodes, and those before them the middles. Assumes nothing.
-use mathlib.Core.Path.{◌≡◌, refl, sym, ap, ap₂, ◌∙◌}
-use mathlib.Core.Bool.{Bool, true, false, ◌&&◌, and_assoc}
-use mathlib.Core.List.{List}
-use Prim.Native.Nat.{ℕ, zero, suc, ◌+◌, ◌*◌, ◌/◌, ◌%◌, ◌<◌}
-use native.Mathlib.Omega.{arith}
-use native.Mathlib.Nat.{add-zero}
-use lib.Dec.{eqb}
-use lib.ListN.{length, get_or}
-use lib.IntN.{ℤ}
-use lib.Ieee.{Float}
+use Rattle.std.proofs.Common.{◌≡◌, refl, sym, ap, ap₂, ◌∙◌, Bool, true, false, ◌&&◌, List, ℕ, zero, suc, ◌+◌, ◌*◌, ◌/◌, ◌%◌, ◌<◌, arith, add-zero, eqb, length, get_or, ℤ, Float}
+use mathlib.Core.Bool.{and_assoc}
 use Rattle.cell.specs.Boxes.{Box, mid}
 use Rattle.rows.specs.Order.{key, first_of, last_of}
 use Rattle.rows.specs.Parts.{tab}

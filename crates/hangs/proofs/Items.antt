@@ -1,12 +1,5 @@
 -- Items: their corners, where they are, and how large their keys are. Assumes nothing.
-use mathlib.Core.Path.{◌≡◌, refl, sym, subst}
-use mathlib.Core.Logic.{⊎_elim}
-use mathlib.Core.List.{List}
-use Prim.Native.Nat.{ℕ, zero, suc, ◌+◌, ◌*◌, ◌-◌, ◌/◌, ◌%◌, ◌^◌, ◌<◌, ◌≤◌}
-use native.Mathlib.Omega.{arith}
-use lib.ListN.{get_or}
-use lib.IntN.{ℤ, pos}
-use borrow.Author.Tests.{lt-ltb, le-ltb, ne_eqb}
+use Rattle.std.proofs.Common.{◌≡◌, refl, sym, subst, ⊎_elim, List, ℕ, zero, suc, ◌+◌, ◌*◌, ◌-◌, ◌/◌, ◌%◌, ◌^◌, ◌<◌, ◌≤◌, arith, get_or, ℤ, pos, lt-ltb, le-ltb, ne_eqb}
 use Rattle.refusals.specs.Limits.{max_slots}
 use Rattle.cell.specs.Boxes.{Box, mid}
 use Rattle.net.specs.Net.{mid_x, mid_y}

@@ -1,15 +1,8 @@
 -- The last node at a place, among others that stand in front of the nodes: the last index of equal key. Assumes nothing.
-use mathlib.Core.Path.{◌≡◌, refl, sym, ap, ◌∙◌}
-use mathlib.Core.Bool.{Bool, true, not, true≢false}
-use mathlib.Core.Logic.{⊎_elim, by_cases}
-use mathlib.Core.List.{List}
-use Prim.Native.Nat.{ℕ, zero, suc, ◌+◌, ◌-◌, ◌<◌, ◌≤◌}
-use native.Mathlib.Omega.{arith}
+use Rattle.std.proofs.Common.{◌≡◌, refl, sym, ap, ◌∙◌, Bool, true, not, true≢false, ⊎_elim, List, ℕ, zero, suc, ◌+◌, ◌-◌, ◌<◌, ◌≤◌, arith, eqb, length, drop, length-drop, get_or-drop, ltb-true, lt-ltb, eqb-true, eq-eqb, ne_eqb}
+use mathlib.Core.Logic.{by_cases}
 use native.Mathlib.Decide.{ℕ_discrete}
-use lib.Dec.{eqb}
-use lib.ListN.{length, drop, length-drop}
-use lib.Seq.{get_or-drop}
-use borrow.Author.Tests.{ltb-true, lt-ltb, eqb-true, eq-eqb, ne_eqb, not-true}
+use borrow.Author.Tests.{not-true}
 use Rattle.rows.specs.Order.{key, or_else, last_below, last_of}
 use Rattle.rows.proofs.Equal.{last-below}
 use Rattle.net.specs.Net.{find, has, Node, same_place, nth, nowhere, is_last}

@@ -1,19 +1,7 @@
 -- The extents, side by side: what a turn of the loop does, and what there is in the end. Assumes nothing.
-use mathlib.Core.Path.{◌≡◌, refl, sym, ap, ap₂, subst, ◌∙◌}
-use mathlib.Core.Bool.{Bool, true, false}
+use Rattle.std.proofs.Common.{◌≡◌, refl, sym, ap, ap₂, subst, ◌∙◌, Bool, true, false, List, ℕ, zero, suc, ◌+◌, ◌*◌, ◌-◌, ◌/◌, ◌%◌, ◌<◌, ◌≤◌, max, arith, add-one, mul_comm, eqb, length, get_or, set, length-set, get_or-set_same, get_or-set_other, ℤ, Float, eqb-true, eq-eqb, ne_eqb}
 use mathlib.Core.Logic.{by_cases}
-use mathlib.Core.List.{List}
-use Prim.Native.Nat.{ℕ, zero, suc, ◌+◌, ◌*◌, ◌-◌, ◌/◌, ◌%◌, ◌<◌, ◌≤◌, max}
-use native.Mathlib.Omega.{arith}
-use native.Mathlib.Numerals.{add-one}
 use native.Mathlib.Decide.{ℕ_discrete}
-use native.Mathlib.Nat.{mul_comm}
-use lib.Dec.{eqb}
-use lib.ListN.{length, get_or, set, length-set}
-use lib.Seq.{get_or-set_same, get_or-set_other}
-use lib.IntN.{ℤ}
-use lib.Ieee.{Float}
-use borrow.Author.Tests.{eqb-true, eq-eqb, ne_eqb}
 use Rattle.rows.specs.Order.{last_of}
 use Rattle.rows.specs.Parts.{part, tab}
 use Rattle.rows.proofs.Fill.{tab-at}

@@ -1,11 +1,7 @@
 -- The contracts of the exported calls, and of the calls beneath them, permit one answer each. An export's contract gives the whole answer;
 -- of the others, any two answers of which the same is said are one. (Contact, table, even, power and the checks have this law beside them.)
 -- Assumes nothing.
-use Prim.Native.Nat.{ℕ}
-use mathlib.Core.Path.{◌≡◌, refl, sym, ◌∙◌}
-use mathlib.Core.List.{List, [], ◌∷◌}
-use lib.ListN.{get_or}
-use Rattle.std.specs.Prelude.{Result}
+use Rattle.std.proofs.Common.{ℕ, ◌≡◌, refl, sym, ◌∙◌, List, [], ◌∷◌, get_or, Result}
 use Rattle.refusals.specs.declared.Refusal.{Refusal}
 use Rattle.refusals.specs.Said.{Said}
 use Rattle.refusals.proofs.Settled.{one-said}

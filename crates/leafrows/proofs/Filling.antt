@@ -1,13 +1,7 @@
 -- The loop that fills the rows: box and polygon of the first leaves. Assumes nothing.
-use mathlib.Core.Path.{◌≡◌, refl, sym, ap, ap₂, ◌∙◌}
-use mathlib.Core.List.{List, [], ◌∷◌, ◌++◌, map}
-use Prim.Native.Nat.{ℕ, ◌+◌, ◌*◌, ◌<◌, ◌≤◌}
-use native.Mathlib.Omega.{arith}
-use native.Mathlib.Nat.{zero-add}
-use native.Mathlib.Numerals.{add-one}
-use lib.IntN.{ℤ}
-use lib.ListN.{length, get_or, set, take, length-map}
-use lib.Seq.{sets, length-sets, sets-eq, take-suc, take_all, length-take-le}
+use Rattle.std.proofs.Common.{◌≡◌, refl, sym, ap, ap₂, ◌∙◌, List, [], ◌∷◌, ◌++◌, map, ℕ, ◌+◌, ◌*◌, ◌<◌, ◌≤◌, arith, zero-add, add-one, ℤ, length, get_or, set, take, take-suc, take_all, length-take-le}
+use lib.ListN.{length-map}
+use lib.Seq.{sets, length-sets, sets-eq}
 use Rattle.table.specs.Slots.{cell_at}
 use Rattle.table.specs.Leaves.{order_ids}
 use Rattle.rows.specs.Parts.{put}

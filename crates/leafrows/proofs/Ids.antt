@@ -1,10 +1,5 @@
 -- The ids of leaves are ids of the table. Assumes nothing.
-use mathlib.Core.Bool.{Bool, true, false}
-use mathlib.Core.List.{List}
-use Prim.Native.Nat.{ℕ, zero, suc, ◌<◌}
-use native.Mathlib.Omega.{arith}
-use lib.IntN.{ℤ}
-use lib.ListN.{length, get_or}
+use Rattle.std.proofs.Common.{Bool, true, false, List, ℕ, zero, suc, ◌<◌, arith, ℤ, length, get_or}
 use Rattle.refusals.specs.Limits.{max_polygons}
 use Rattle.table.specs.Leaves.{one_if, ids_to, leaf_of, order_to, order_ids}
 use Rattle.net.proofs.All.{All, all_append, all-by, all_nil, all_one, all-at}

@@ -1,17 +1,9 @@
 -- The rows that `fill_leaves` leaves are what the next steps ask for: a board of upright boxes; and the pieces are what the net's laws ask for.
 -- Assumes nothing.
-use mathlib.Core.Path.{◌≡◌, refl, sym, ap, subst, ◌∙◌}
-use mathlib.Core.Bool.{true}
-use mathlib.Core.List.{List, [], ◌∷◌, map}
-use Prim.Native.Nat.{ℕ, zero, suc, ◌+◌, ◌*◌, ◌<◌, ◌≤◌}
-use native.Mathlib.Omega.{arith}
-use native.Mathlib.Nat.{add-zero}
-use lib.Dec.{T, ltb}
-use lib.IntN.{ℤ}
-use lib.Ieee.{Float, nan}
+use Rattle.std.proofs.Common.{◌≡◌, refl, sym, ap, subst, ◌∙◌, true, List, [], ◌∷◌, map, ℕ, zero, suc, ◌+◌, ◌*◌, ◌<◌, ◌≤◌, arith, add-zero, T, ltb, ℤ, Float, length, get_or, take, ltb-true}
+use lib.Ieee.{nan}
 use lib.Ieee.Positive.{positive}
-use lib.ListN.{length, get_or, take, length-map}
-use borrow.Author.Tests.{ltb-true}
+use lib.ListN.{length-map}
 use Rattle.refusals.specs.Limits.{coordinate, max_slots, max_polygons}
 use Rattle.cell.specs.Cells.{box_of}
 use Rattle.table.specs.Slots.{cell_at}

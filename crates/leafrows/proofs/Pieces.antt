@@ -1,11 +1,5 @@
 -- What holds of every cell holds of every leaf of the pieces, and of the nodes. Assumes nothing.
-use mathlib.Core.Path.{sym, subst}
-use mathlib.Core.Bool.{Bool, true, false, ◌&&◌}
-use mathlib.Core.List.{List, [], ◌∷◌}
-use Prim.Native.Nat.{ℕ, zero, suc, ◌<◌, ◌≤◌}
-use native.Mathlib.Omega.{arith}
-use lib.Dec.{T, eqb}
-use lib.IntN.{ℤ}
+use Rattle.std.proofs.Common.{sym, subst, Bool, true, false, ◌&&◌, List, [], ◌∷◌, ℕ, zero, suc, ◌<◌, ◌≤◌, arith, T, eqb, ℤ}
 use lib.Ieee.Positive.{positive}
 use Rattle.cell.specs.Boxes.{Box}
 use Rattle.table.specs.Slots.{cell_at}

@@ -1,13 +1,6 @@
 -- Every cell of a well-formed table has positive sides: a root's are multiples of 2 ^ (M + 1), and each level halves them. Assumes nothing.
-use mathlib.Core.Path.{◌≡◌, refl, sym, ap, subst, ◌∙◌}
-use mathlib.Core.Bool.{true}
-use mathlib.Core.Option.{Option, none, some}
-use mathlib.Core.List.{List}
-use Prim.Native.Nat.{ℕ, zero, suc, ◌+◌, ◌*◌, ◌^◌, ◌<◌}
-use native.Mathlib.Omega.{arith}
-use native.Mathlib.Nat.{two-pow-succ, mul-add, suc-mul, one-le-pow}
-use lib.IntN.{ℤ}
-use lib.ListN.{length}
+use Rattle.std.proofs.Common.{◌≡◌, refl, sym, ap, subst, ◌∙◌, true, Option, None, Some, List, ℕ, zero, suc, ◌+◌, ◌*◌, ◌^◌, ◌<◌, arith, mul-add, suc-mul, ℤ, length}
+use native.Mathlib.Nat.{two-pow-succ, one-le-pow}
 use Rattle.cell.specs.Boxes.{Box, Quad, sw, se, nw, ne, num, mid, quadrant}
 use Rattle.cell.specs.Cells.{box_of}
 use Rattle.table.specs.Slots.{cell_at}
@@ -76,8 +69,8 @@ module _ (M : ℕ) (t : List Cell) (F : Formed M t) where
           kid-cut i j b.first b.place e s (lower j (omega arith) (kids-in t j b.first b.split))
 
       by : (o : Option ℕ) → (at t i).parent ≡ o → Cut M (at t i)
-      by none e = (let r = F.root i e in record { depth = M + 1; left = (let z = r.level in omega arith); sides = record { wide = r.wide; high = r.high } })
-      by (some j) e = born j (F.born i j l e)
+      by None e = (let r = F.root i e in record { depth = M + 1; left = (let z = r.level in omega arith); sides = record { wide = r.wide; high = r.high } })
+      by (Some j) e = born j (F.born i j l e)
 
   cut : (k i : ℕ) → i < k → i < length t → Cut M (at t i)
   cut zero i h l = absurd (omega arith)

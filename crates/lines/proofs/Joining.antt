@@ -1,14 +1,7 @@
 -- Laws of text put behind text. Assumes nothing.
-use Prim.Native.Nat.{ℕ, zero, suc, ◌+◌, ◌-◌, ◌<◌, ◌≤◌}
-use mathlib.Core.Path.{◌≡◌, refl, sym, ap, ap₂, subst, ◌∙◌}
-use mathlib.Core.List.{List, [], ◌∷◌, ◌++◌, append_assoc, append-nil}
-use native.Mathlib.Nat.{add-zero, add-suc, suc-add}
-use native.Mathlib.Omega.{arith}
-use native.Mathlib.Numerals.{add-one}
-use lib.ListN.{length, get_or, take, drop, set, length-append}
-use lib.IntN.{ℤ, pos}
+use Rattle.std.proofs.Common.{ℕ, zero, suc, ◌+◌, ◌-◌, ◌<◌, ◌≤◌, ◌≡◌, refl, sym, ap, ap₂, subst, ◌∙◌, List, [], ◌∷◌, ◌++◌, append_assoc, append-nil, add-zero, add-suc, suc-add, arith, add-one, length, get_or, take, drop, set, length-append, ℤ, pos, drop-drop, take-suc}
 use borrow.Rule.Slice.PartMut.{put_mid}
-use lib.Seq.{drop-drop, sets, sets-eq, length-sets, take-suc}
+use lib.Seq.{sets, sets-eq, length-sets}
 use Rattle.io.specs.Counts.{IsPrefixLen}
 use Rattle.io.proofs.Counting.{prefix_len_of_le}
 use Rattle.lines.specs.Text.{newline, space, decimal, signed, numbers, line, edge_word, named, written, Puts}

@@ -1,10 +1,6 @@
 -- The rules' lines for the worked board, and a refusal. Assumes nothing.
-use Prim.Native.Nat.{ℕ}
-use mathlib.Core.Path.{◌≡◌, refl}
-use mathlib.Core.List.{List, [], ◌∷◌}
-use mathlib.Core.Bool.{false}
-use lib.IntN.{pos, negsuc}
-use lib.Ieee.{Float, fin, to_bits}
+use Rattle.std.proofs.Common.{ℕ, ◌≡◌, refl, List, [], ◌∷◌, false, pos, negsuc, Float, to_bits}
+use lib.Ieee.{fin}
 use Rattle.lines.specs.Text.{tens, decimal, signed, hex_of, numbers, totals_text, leaf_text, node_text, edge_text, refused_text}
 
 pub half : Float

@@ -1,9 +1,6 @@
 -- The polygons must differ: two of one layer and component, whose squares overlap, computed of the definitions. The second one's node in the
 -- middle of the first one's south side leaves that side whole. Assumes nothing.
-use mathlib.Core.Path.{◌≡◌, refl}
-use mathlib.Core.List.{List, [], ◌∷◌}
-use Prim.Native.Nat.{ℕ}
-use lib.IntN.{ℤ, pos}
+use Rattle.std.proofs.Common.{◌≡◌, refl, List, [], ◌∷◌, ℕ, ℤ, pos}
 use Rattle.cell.specs.Cells.{no_cell}
 use Rattle.cell.specs.Ticks.{off, on}
 use Rattle.table.specs.Mesh.{table}

@@ -1,13 +1,6 @@
 -- No edge of a leaf is a fault where the nodes at the middles of its sides are halved. Assumes nothing.
-use mathlib.Core.Path.{◌≡◌, refl, sym, ap, ◌∙◌}
-use mathlib.Core.Bool.{true, ◌&&◌, cond, or_comm}
-use mathlib.Core.List.{List, [], ◌∷◌}
-use Prim.Native.Nat.{ℕ, zero, suc, ◌<◌, ◌≤◌}
-use native.Mathlib.Omega.{arith}
-use lib.Dec.{eqb}
-use lib.ListN.{length, get_or}
-use borrow.Author.Tests.{lt-ltb}
-use Rattle.std.specs.Prelude.{Option, None, Some}
+use Rattle.std.proofs.Common.{◌≡◌, refl, sym, ap, ◌∙◌, true, ◌&&◌, cond, List, [], ◌∷◌, ℕ, zero, suc, ◌<◌, ◌≤◌, arith, eqb, length, get_or, lt-ltb, Option, None, Some}
+use mathlib.Core.Bool.{or_comm}
 use Rattle.cell.specs.declared.Cell.{Cell}
 use Rattle.cell.specs.Boxes.{mid}
 use Rattle.cell.specs.Cells.{box_of}

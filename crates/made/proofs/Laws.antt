@@ -1,16 +1,7 @@
 -- The by-layer check of a made net answers 'none', whatever the table, where its polygons differ in layer or component; so does the check by
 -- x and y alone where there is one polygon. Assumes nothing.
-use mathlib.Core.Path.{◌≡◌, refl, sym, ap, subst, ◌∙◌}
-use mathlib.Core.Bool.{Bool, true, false, ◌&&◌, cond}
-use mathlib.Core.List.{List, [], ◌∷◌, ◌++◌}
-use Prim.Native.Nat.{ℕ, zero, suc, ◌+◌, ◌<◌}
-use native.Mathlib.Nat.{zero-add}
-use native.Mathlib.Omega.{arith}
-use lib.Dec.{T, ltb, eqb, lt→ltb}
-use lib.IntN.{ℤ, pos}
-use lib.Ieee.{Float}
-use lib.ListN.{length, take, drop, length-map, get_or-map}
-use borrow.Author.Tests.{eq-eqb}
+use Rattle.std.proofs.Common.{◌≡◌, refl, sym, ap, subst, ◌∙◌, Bool, true, false, ◌&&◌, cond, List, [], ◌∷◌, ◌++◌, ℕ, zero, suc, ◌+◌, ◌<◌, zero-add, arith, T, ltb, eqb, lt→ltb, ℤ, pos, Float, length, take, drop, eq-eqb}
+use lib.ListN.{length-map, get_or-map}
 use Rattle.refusals.specs.Said.{accepted, refused}
 use Rattle.cell.specs.Cells.{box_of}
 use Rattle.table.specs.Mesh.{Cell, at, table}

@@ -1,16 +1,5 @@
 -- The leaves and the nodes of one polygon among those of all. Assumes nothing.
-use mathlib.Core.Path.{◌≡◌, refl, sym, ap, subst, ◌∙◌}
-use mathlib.Core.Bool.{true, false, ◌&&◌}
-use mathlib.Core.Option.{none}
-use mathlib.Core.Logic.{⊎_elim}
-use mathlib.Core.List.{List, [], ◌∷◌, ◌++◌}
-use Prim.Native.Nat.{ℕ, zero, suc, ◌+◌, ◌<◌, ◌≤◌}
-use native.Mathlib.Omega.{arith}
-use lib.Dec.{eqb}
-use lib.IntN.{ℤ}
-use lib.ListN.{length, take, drop, length-append, length-drop}
-use lib.Seq.{get_or-drop}
-use borrow.Author.Tests.{eq-eqb, eqb-true}
+use Rattle.std.proofs.Common.{◌≡◌, refl, sym, ap, subst, ◌∙◌, true, false, ◌&&◌, None, ⊎_elim, List, [], ◌∷◌, ◌++◌, ℕ, zero, suc, ◌+◌, ◌<◌, ◌≤◌, arith, eqb, ℤ, length, take, drop, length-append, length-drop, get_or-drop, eq-eqb, eqb-true}
 use Rattle.cell.specs.Boxes.{Box}
 use Rattle.cell.specs.Cells.{box_of}
 use Rattle.cell.proofs.Offsets.{off-le}
@@ -50,7 +39,7 @@ module _ (P : Box → Type 0) (k : ℕ) where
       (λ e. subst (All P) (sym (leaves-no c cs k e)) rest)
       (test (is_none c.kids && eqb c.polygon k))
 
-  pub leaf-in : (cs : List Cell) → All P (leaves_of cs k) → (i : ℕ) → i < length cs → (at cs i).kids ≡ none → (at cs i).polygon ≡ k → P (at cs i).box
+  pub leaf-in : (cs : List Cell) → All P (leaves_of cs k) → (i : ℕ) → i < length cs → (at cs i).kids ≡ None → (at cs i).polygon ≡ k → P (at cs i).box
   unfolding All
   leaf-in [] a i h e f = absurd (omega arith)
   leaf-in (c ∷ cs) a zero h e f =

@@ -1,11 +1,6 @@
 -- The numbers of a net's rows, read back. Assumes nothing.
-use mathlib.Core.Path.{◌≡◌, refl, ap, ◌∙◌}
-use mathlib.Core.List.{List, [], ◌∷◌, ◌++◌}
-use Prim.Native.Nat.{ℕ, zero, suc, ◌+◌, ◌*◌, ◌<◌}
-use native.Mathlib.Omega.{arith}
-use lib.IntN.{pos}
-use lib.ListN.{length, get_or, length-append, get_or-append}
-use lib.Seq.{get_or-append-add}
+use Rattle.std.proofs.Common.{◌≡◌, refl, ap, ◌∙◌, List, [], ◌∷◌, ◌++◌, ℕ, zero, suc, ◌+◌, ◌*◌, ◌<◌, arith, pos, length, get_or, length-append, get_or-append-add}
+use lib.ListN.{get_or-append}
 use Rattle.cell.specs.Ticks.{on}
 use Rattle.sound_net.specs.Nets.{node_count, layer_at, component_at, x_at, y_at, from_at, to_at, sw_at, se_at, ne_at, nw_at}
 use Rattle.net.specs.Net.{each, Node, Edge, Patch, nth, nowhere}

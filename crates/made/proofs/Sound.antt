@@ -1,16 +1,9 @@
 -- The rows of a made net are a sound net. Assumes nothing.
-use mathlib.Core.Path.{◌≡◌, sym, ap, subst, ◌∙◌}
-use mathlib.Core.Bool.{true}
-use mathlib.Core.Logic.{⊎_elim}
-use mathlib.Core.List.{List}
-use Prim.Native.Nat.{ℕ, suc, ◌+◌, ◌-◌, ◌^◌, ◌<◌, ◌≤◌, min}
-use native.Mathlib.Omega.{arith}
-use lib.Dec.{T, ltb, leb, lt→ltb}
-use lib.IntN.{ℤ, pos, negsuc, sub_ℕ}
+use Rattle.std.proofs.Common.{◌≡◌, sym, ap, subst, ◌∙◌, true, ⊎_elim, List, ℕ, suc, ◌+◌, ◌-◌, ◌^◌, ◌<◌, ◌≤◌, min, arith, T, ltb, leb, lt→ltb, ℤ, pos, negsuc, length, get_or, lt-ltb, le-ltb, le-leb}
+use lib.IntN.{sub_ℕ}
 use lib.Ieee.Fits.{and_i}
-use lib.ListN.{length, get_or, length-map}
+use lib.ListN.{length-map}
 use lib.Signed.{lt_z}
-use borrow.Author.Tests.{lt-ltb, le-ltb, le-leb}
 use Rattle.refusals.specs.Limits.{coordinate}
 use Rattle.cell.specs.Ticks.{on, in_range}
 use Rattle.cell.proofs.Offsets.{below?}

@@ -1,11 +1,8 @@
 -- Items stored from a row's front on, one after another. Assumes nothing.
-use Prim.Native.Nat.{ℕ, ◌+◌, ◌≤◌, ◌<◌}
-use mathlib.Core.Path.{◌≡◌, sym, ap, ◌∙◌}
-use mathlib.Core.List.{List, [], ◌∷◌, map, map-append}
-use native.Mathlib.Numerals.{add-one}
-use native.Mathlib.Omega.{arith}
-use lib.ListN.{length, get_or, set, take, drop, length-map}
-use lib.Seq.{sets, sets-eq, length-take-le, take-suc, take-append_seam}
+use Rattle.std.proofs.Common.{ℕ, ◌+◌, ◌≤◌, ◌<◌, ◌≡◌, sym, ap, ◌∙◌, List, [], ◌∷◌, map, add-one, arith, length, get_or, set, take, drop, length-take-le, take-suc}
+use mathlib.Core.List.{map-append}
+use lib.ListN.{length-map}
+use lib.Seq.{sets, sets-eq, take-append_seam}
 use Rattle.table.proofs.Ids.{sets_more}
 
 -- one item more

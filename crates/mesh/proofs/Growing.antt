@@ -1,12 +1,6 @@
 -- The steps of a table put together: what is said and left where a step refuses, and where none does. Assumes nothing.
-use Prim.Native.Nat.{ℕ, ◌-◌, ◌/◌}
-use mathlib.Core.Path.{◌≡◌, refl, sym, ap, ◌∙◌}
-use mathlib.Core.Bool.{Bool, true, false, cond, false≢true}
-use mathlib.Core.List.{List, [], ◌∷◌}
-use lib.Dec.{leb}
-use lib.Ieee.{Float}
-use lib.IntN.{ℤ}
-use lib.ListN.{length}
+use Rattle.std.proofs.Common.{ℕ, ◌-◌, ◌/◌, ◌≡◌, refl, sym, ap, ◌∙◌, Bool, true, false, cond, List, [], ◌∷◌, leb, Float, ℤ, length}
+use mathlib.Core.Bool.{false≢true}
 use Rattle.refusals.specs.Said.{Said, accepted, refused, refusal}
 use Rattle.refusals.specs.declared.Refusal.{Refusal}
 use Rattle.refusals.specs.declared.Refusal.TheVariants.{BadTable, NoRoom}

@@ -1,9 +1,5 @@
 -- An accepted record's layers have 16 bits and its components 32. Assumes nothing.
-use Prim.Native.Nat.{ℕ, zero, suc, ◌+◌, ◌^◌, ◌<◌}
-use mathlib.Core.Path.{◌≡◌, refl, subst}
-use mathlib.Core.List.{List, [], ◌∷◌, map}
-use native.Mathlib.Omega.{arith}
-use lib.ListN.{length, get_or}
+use Rattle.std.proofs.Common.{ℕ, zero, suc, ◌+◌, ◌^◌, ◌<◌, ◌≡◌, refl, subst, List, [], ◌∷◌, map, arith, length, get_or}
 use Rattle.record.specs.Fields.{value}
 use Rattle.record.specs.Board.{Polygon, polygon, shapes, Board, board}
 use Rattle.record.proofs.Numbers.{number-below}

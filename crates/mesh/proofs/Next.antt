@@ -1,12 +1,6 @@
 -- What a caller goes on with after an accepted call: whose the totals are, and what stands at the rows' fronts. Assumes nothing.
-use Prim.Native.Nat.{ℕ}
-use mathlib.Core.Path.{◌≡◌, refl, sym, ap, ◌∙◌}
-use mathlib.Core.Bool.{Bool, true, false, cond}
-use mathlib.Core.List.{List, [], ◌∷◌, map}
-use lib.Dec.{leb}
-use lib.Ieee.{Float}
-use lib.IntN.{ℤ}
-use lib.ListN.{length, take, length-map, replicate}
+use Rattle.std.proofs.Common.{ℕ, ◌≡◌, refl, sym, ap, ◌∙◌, Bool, true, false, cond, List, [], ◌∷◌, map, leb, Float, ℤ, length, take, replicate, Ok}
+use lib.ListN.{length-map}
 use Rattle.refusals.specs.Said.{accepted, refused}
 use Rattle.build.proofs.Fitting.{refused-accepted}
 use Rattle.record.specs.Fields.{value}
@@ -15,7 +9,6 @@ use Rattle.board.specs.Rows.{sheet_of}
 use Rattle.table.specs.Formed.{well_formed}
 use Rattle.table.specs.Leaves.{order_ids, list_says}
 use Rattle.mesh.specs.declared.Totals.{Totals}
-use Rattle.std.specs.Prelude.{Ok}
 use Rattle.mesh.specs.Growing.{level_of, value_at, balance_say, balanced_row, grow_says}
 use Rattle.mesh.specs.Says.{polygon_room, leaf_room, input_room, meshed_said, totals_say, count_of, leaf_order, table_says, board_in, mesh_of, mesh_says, given_by, Made}
 use Rattle.mesh.proofs.Fronts.{front-map}

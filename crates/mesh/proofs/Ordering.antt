@@ -1,11 +1,7 @@
 -- A table's leaf order and its totals. Assumes nothing.
-use Prim.Native.Nat.{ℕ}
-use mathlib.Core.Path.{◌≡◌, refl, sym, ap, ◌∙◌}
-use mathlib.Core.Bool.{Bool, true, false, cond, ◌&&◌, false≢true}
-use mathlib.Core.List.{List, [], ◌∷◌}
-use lib.Dec.{leb}
-use lib.IntN.{ℤ}
-use lib.ListN.{length, replicate, length-replicate}
+use Rattle.std.proofs.Common.{ℕ, ◌≡◌, refl, sym, ap, ◌∙◌, Bool, true, false, cond, ◌&&◌, List, [], ◌∷◌, leb, ℤ, length, replicate}
+use mathlib.Core.Bool.{false≢true}
+use lib.ListN.{length-replicate}
 use Rattle.refusals.specs.declared.Refusal.{Refusal}
 use Rattle.refusals.specs.declared.Refusal.TheVariants.{BadTable, NoRoom}
 use Rattle.refusals.specs.Said.{Said, accepted, refused, refusal}

@@ -1,10 +1,6 @@
 -- The net before the weights is what first places give: nodes, parts of edges and cells, all boards. Assumes nothing.
-use mathlib.Core.Path.{◌≡◌, refl, sym, ap, ap₂, ◌∙◌, subst}
-use mathlib.Core.List.{List, [], ◌∷◌, ◌++◌, map, append_assoc}
-use Prim.Native.Nat.{ℕ, zero, suc, ◌+◌, ◌*◌, ◌≤◌, ◌<◌}
-use native.Mathlib.Omega.{arith}
-use lib.ListN.{length, get_or, take, length-append, get_or-append}
-use lib.Seq.{get_or-append-add, take_at}
+use Rattle.std.proofs.Common.{◌≡◌, refl, sym, ap, ap₂, ◌∙◌, subst, List, [], ◌∷◌, ◌++◌, map, append_assoc, ℕ, zero, suc, ◌+◌, ◌*◌, ◌≤◌, ◌<◌, arith, length, get_or, take, length-append, get_or-append-add, take_at}
+use lib.ListN.{get_or-append}
 use Rattle.cell.specs.Boxes.{Box}
 use Rattle.net.specs.Net.{weld, each, Poly, Node, Patch, Piece, same_node, nth, nowhere, corners_at, corners_of, nodes_from, sides_at, patch_at, patches_from, leaf_sum}
 use Rattle.net.specs.First.{news, Part, part, parts_of, parts_from, mids_at, mids_of, places, row_parts, board_parts, row_patches, board_patches}

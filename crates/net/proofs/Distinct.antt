@@ -1,13 +1,7 @@
 -- The nodes have no duplicates: each is the first that is the same as itself. Assumes nothing.
-use mathlib.Core.Path.{◌≡◌, sym, ap, ◌∙◌, subst}
-use mathlib.Core.Bool.{Bool, true, false}
-use mathlib.Core.Logic.{◌⊎◌, ⊎_elim}
-use mathlib.Core.List.{List, [], ◌∷◌, ◌++◌}
-use Prim.Native.Nat.{ℕ, ◌+◌, ◌≤◌, ◌<◌}
-use native.Mathlib.Omega.{arith}
-use lib.ListN.{length, get_or, length-append, get_or-append}
+use Rattle.std.proofs.Common.{◌≡◌, sym, ap, ◌∙◌, subst, Bool, true, false, ◌⊎◌, ⊎_elim, List, [], ◌∷◌, ◌++◌, ℕ, ◌+◌, ◌≤◌, ◌<◌, arith, length, get_or, length-append, ltb-false}
+use lib.ListN.{get_or-append}
 use lib.Seq.{get_or-append_seam}
-use borrow.Author.Tests.{ltb-false}
 use Rattle.table.specs.Mesh.{Cell}
 use Rattle.net.specs.Net.{find, has, weld, Poly, Node, Piece, same_node, nth, nowhere, number, pieces, corners_of, nodes_from, bare, weigh, network}
 use Rattle.net.proofs.Find.{order, test, find-left, find-right, find-yes}

@@ -1,14 +1,6 @@
 -- The net before the weights from one list of leaves. Assumes nothing.
-use mathlib.Core.Path.{◌≡◌, refl, sym, ap, ap₂, ◌∙◌, subst}
-use mathlib.Core.Bool.{Bool, true, false}
-use mathlib.Core.Logic.{⊎_elim}
-use mathlib.Core.List.{List, [], ◌∷◌, ◌++◌, map, append_assoc}
-use Prim.Native.Nat.{ℕ, suc, ◌+◌, ◌*◌, ◌≤◌, ◌<◌}
-use native.Mathlib.Omega.{arith}
-use lib.Dec.{ltb}
-use lib.ListN.{length, get_or, length-append, length-map}
-use lib.Ieee.{Float}
-use borrow.Author.Tests.{lt-ltb, eq-eqb}
+use Rattle.std.proofs.Common.{◌≡◌, refl, sym, ap, ap₂, ◌∙◌, subst, Bool, true, false, ⊎_elim, List, [], ◌∷◌, ◌++◌, map, append_assoc, ℕ, suc, ◌+◌, ◌*◌, ◌≤◌, ◌<◌, arith, ltb, length, get_or, length-append, Float, lt-ltb, eq-eqb}
+use lib.ListN.{length-map}
 use Rattle.cell.specs.Boxes.{Box}
 use Rattle.net.specs.Net.{find, has, weld, each, Poly, Node, Edge, Patch, Piece, same_node, nth, nowhere, corners_at, corners_of, nodes_from, edges_from, patches_from, leaf_sum, across, upright, One, Half, ◌·◌, ◌÷◌}
 use Rattle.net.specs.First.{first_of, number_by, patch_by, mids_at, mids_of, places, side_by, sides_by, Part, part, same_part, news, row_parts, board_parts, row_patches, board_patches}

@@ -1,14 +1,7 @@
 -- Where a node made so far stands at the middle of a leaf's side, both halves are edges of the net: for any table and any polygons.
 -- Assumes nothing.
-use mathlib.Core.Path.{◌≡◌, refl, sym, ap, ◌∙◌, subst}
-use mathlib.Core.Bool.{Bool, true, false}
-use mathlib.Core.Logic.{⊎_elim}
-use mathlib.Core.List.{List, [], ◌∷◌, ◌++◌, map}
-use Prim.Native.Nat.{◌+◌, ◌≤◌, ◌<◌}
-use native.Mathlib.Omega.{arith}
-use lib.ListN.{length, get_or, length-append, length-map, get_or-map}
-use lib.Ieee.{Float}
-use borrow.Author.Tests.{eq-eqb}
+use Rattle.std.proofs.Common.{◌≡◌, refl, sym, ap, ◌∙◌, subst, Bool, true, false, ⊎_elim, List, [], ◌∷◌, ◌++◌, map, ◌+◌, ◌≤◌, ◌<◌, arith, length, get_or, length-append, Float, eq-eqb}
+use lib.ListN.{length-map, get_or-map}
 use Rattle.cell.specs.Boxes.{Box, mid}
 use Rattle.table.specs.Mesh.{Cell}
 use Rattle.net.specs.Net.{find, weld, each, Poly, Node, Edge, Patch, Piece, same_node, same_pair, pieces, corners_of, nodes_from, patches_from, edges_of, edges_from, join, node_at, sw_of, se_of, ne_of, nw_of, side_of, sides_at, across, upright, One, Half, ◌·◌, ◌÷◌, weighed, bare, weigh, network}

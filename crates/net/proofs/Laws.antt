@@ -1,13 +1,6 @@
 -- The net's laws: what every net is, and what it is computed from. Assumes nothing.
-use mathlib.Core.Path.{◌≡◌, refl, sym, ap, ap₂, ◌∙◌}
-use mathlib.Core.Bool.{false}
-use mathlib.Core.Logic.{⊎_elim}
-use mathlib.Core.Option.{none, some}
-use mathlib.Core.List.{List, [], ◌++◌, map}
-use Prim.Native.Nat.{ℕ, ◌+◌, ◌*◌, ◌/◌, ◌^◌, ◌≤◌, ◌<◌}
-use native.Mathlib.Omega.{arith}
-use lib.Dec.{ltb, eqb}
-use lib.ListN.{length, get_or, length-map}
+use Rattle.std.proofs.Common.{◌≡◌, refl, sym, ap, ap₂, ◌∙◌, false, ⊎_elim, None, Some, List, [], ◌++◌, map, ℕ, ◌+◌, ◌*◌, ◌/◌, ◌^◌, ◌≤◌, ◌<◌, arith, ltb, eqb, length, get_or, ltb-false, le-ltb}
+use lib.ListN.{length-map}
 use Rattle.table.specs.Mesh.{Cell}
 use Rattle.net.specs.Net.{find, each, Poly, Edge, Patch, Piece, same_pair, pieces, nodes_from, edges_from, patches_from, Cornered, Ends, leaf_count, sheet_of, weighed, bare, weigh, network}
 use Rattle.net.specs.First.{key, first_of, news, Part, same_part, parts_from, sides_of}
@@ -15,7 +8,6 @@ use Rattle.net.proofs.Find.{find-same}
 use Rattle.net.proofs.All.{All, all-map-by}
 use Rattle.net.proofs.Weld.{Keyed, welded-all, first-corner, first-behind}
 use Rattle.net.proofs.Pieces.{edge_of, edges-parts, side_found, sheet-sides}
-use borrow.Author.Tests.{ltb-false, le-ltb}
 use Rattle.net.proofs.Board.{each-length}
 use Rattle.net.proofs.Keys.{pair_key, pair-keys}
 use Rattle.net.proofs.Sound.{Positive, edges-ends, patches-cornered, nodes-count, edges-count, patches-count, leaves-count}
@@ -76,19 +68,19 @@ module _ (B : ℕ) (cs : List Patch) (d : Patch) (e : Edge) (sk ek : List ℕ) (
   count = long ∙ each-length sides_of (λ c. refl) cs
 
   -- the cell of the first side with the pair; none, where no side has it
-  pub sheet-first : first_of (sk ++ ek) (length sk + j) < 4 * length cs → sheet_of cs e.a e.b ≡ some (get_or cs (first_of (sk ++ ek) (length sk + j) / 4) d).sheet
+  pub sheet-first : first_of (sk ++ ek) (length sk + j) < 4 * length cs → sheet_of cs e.a e.b ≡ Some (get_or cs (first_of (sk ++ ek) (length sk + j) / 4) d).sheet
   sheet-first h =
       let c = count in
       let s = side-first in
       ⊎_elim
       (λ t. (let f = t.0 in
-      t.1 ∙ ap (λ (z : ℕ). some (get_or cs (z / 4) d).sheet) (side-first ∙ sym (first-corner sk ek j (omega arith)))))
+      t.1 ∙ ap (λ (z : ℕ). Some (get_or cs (z / 4) d).sheet) (side-first ∙ sym (first-corner sk ek j (omega arith)))))
       (λ t. (let f = t.0 in
       let b : ltb (first_of (sk ++ ek) (length sk + j)) (length sk) ≡ false = first-behind sk ek j (length sk) (omega arith) ∙ le-ltb (find eqb sk (key ek j)) (length sk) (omega arith) in
       absurd (omega (arith, ltb-false (first_of (sk ++ ek) (length sk + j)) (length sk) b))))
       (sheet-sides d cs e)
 
-  pub sheet-none : 4 * length cs ≤ first_of (sk ++ ek) (length sk + j) → sheet_of cs e.a e.b ≡ none
+  pub sheet-none : 4 * length cs ≤ first_of (sk ++ ek) (length sk + j) → sheet_of cs e.a e.b ≡ None
   sheet-none h =
       let c = count in
       let s = side-first in

@@ -1,16 +1,8 @@
 -- Conductances are no NaN, and none is negative. The first part is of binary64, the second of the net. Assumes nothing.
-use mathlib.Core.Path.{◌≡◌, refl, sym, subst}
-use mathlib.Core.Logic.{⊎_elim}
-use mathlib.Core.Option.{Option, none, some}
-use mathlib.Core.List.{List, [], ◌∷◌, map}
-use Prim.Native.Nat.{ℕ, zero, suc, ◌+◌, ◌-◌, ◌*◌, ◌^◌, ◌≤◌, ◌<◌, max}
-use native.Mathlib.Nat.{lt_of_lt_of_le, mul_assoc, zero-lt-suc}
-use native.Mathlib.Omega.{arith}
-use mathlib.Core.Bool.{Bool, true, false, not, cond}
-use lib.Dec.{T, ltb, eqb, eqb→eq, ltb→lt, not_T, lit≤}
-use lib.Pow.{shl_lt}
-use lib.ListN.{length, get_or-eq_default}
-use lib.Ieee.{Float, nan, inf, fin, Format, binary64, prec, emax, low, up, down, odd, units, round, mul, div, of_int, of_bits}
+use Rattle.std.proofs.Common.{◌≡◌, refl, sym, subst, ⊎_elim, Option, None, Some, List, [], ◌∷◌, map, ℕ, zero, suc, ◌+◌, ◌-◌, ◌*◌, ◌^◌, ◌≤◌, ◌<◌, max, lt_of_lt_of_le, mul_assoc, zero-lt-suc, arith, Bool, true, false, not, cond, T, ltb, eqb, eqb→eq, ltb→lt, lit≤, shl_lt, length, Float}
+use lib.Dec.{not_T}
+use lib.ListN.{get_or-eq_default}
+use lib.Ieee.{nan, inf, fin, Format, binary64, prec, emax, low, up, down, odd, units, round, mul, div, of_int, of_bits}
 use lib.Ieee.Fits.{round_is}
 use lib.Ieee.Bits.{cond_no}
 use lib.Ieee.Back.{round_whole}
@@ -207,22 +199,22 @@ patches-sheeted n (q ∷ qs) h =
     (all_map Sheeted (patch_at m q.poly) q.leaves (λ r. h.0.sheet)) (patches-sheeted m qs h.1)
 
 unfoldable pub Holds : (Float → Type 0) → Option Float → Type 0
-Holds P none = Unit {0}
-Holds P (some s) = P s
+Holds P None = Unit {0}
+Holds P (Some s) = P s
 
 sheet-holds : (P : Float → Type 0) (cs : List Patch) (a b : ℕ) → All (λ (c : Patch). P c.sheet) cs → Holds P (sheet_of cs a b)
 unfolding All sheet_of Holds
 sheet-holds P [] a b h = tt
 sheet-holds P (c ∷ cs) a b h = go (is_side c a b) (sheet-holds P cs a b h.1)
   where
-    go : (z : Bool) → Holds P (sheet_of cs a b) → Holds P (elim z [ true ↦ some c.sheet | false ↦ sheet_of cs a b ])
+    go : (z : Bool) → Holds P (sheet_of cs a b) → Holds P (elim z [ true ↦ Some c.sheet | false ↦ sheet_of cs a b ])
     go true i = h.0
     go false i = i
 
 pub weight-proper : (g : Float) (f d : ℕ) (o : Option Float) → T (nonneg g) → f < 2 ^ 53 → d ≤ 2 ^ 53 → Holds (λ s. T (positive s)) o → T (nonneg (weight g f d o))
 unfolding Holds
-weight-proper g f d none p a b h = p
-weight-proper g f d (some s) p a b h = go (eqb f 0) refl
+weight-proper g f d None p a b h = p
+weight-proper g f d (Some s) p a b h = go (eqb f 0) refl
   where
     go : (z : Bool) → eqb f 0 ≡ z → T (nonneg (elim z [ true ↦ g | false ↦ halves f ÷ (s · num d) ]))
     go true e = p
@@ -235,8 +227,8 @@ abbrev pub Within : ℕ → Node → Type 0
 Within M m = (m.x ≤ M) × (m.y ≤ M)
 
 lesser-low : (d : ℕ) (o : Option ℕ) → or_zero (lesser d o) ≤ d
-lesser-low d none = omega arith
-lesser-low d (some e) = omega arith
+lesser-low d None = omega arith
+lesser-low d (Some e) = omega arith
 
 least-low : (M : ℕ) (p : Node → ℕ → Bool) (g : Node → ℕ) (l : List Node) (j : ℕ) → All (λ (b : Node). g b ≤ M) l → or_zero (least p g l j) ≤ M
 unfolding All least

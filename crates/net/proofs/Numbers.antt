@@ -1,12 +1,5 @@
 -- How many places are new, counted in a row of first places. Assumes nothing.
-use mathlib.Core.Path.{◌≡◌, refl, ap, ◌∙◌}
-use mathlib.Core.Bool.{Bool, true, false}
-use mathlib.Core.List.{List}
-use Prim.Native.Nat.{ℕ, zero, suc, ◌<◌}
-use native.Mathlib.Omega.{arith}
-use lib.Dec.{eqb}
-use lib.ListN.{get_or}
-use borrow.Author.Tests.{eq-eqb, ne_eqb}
+use Rattle.std.proofs.Common.{◌≡◌, refl, ap, ◌∙◌, Bool, true, false, List, ℕ, zero, suc, ◌<◌, arith, eqb, get_or, eq-eqb, ne_eqb}
 use Rattle.net.specs.First.{first_of, rank, is_new, rank_in}
 
 pub in-new : (fs : List ℕ) (i : ℕ) → get_or fs i 0 ≡ i → rank_in fs (suc i) ≡ suc (rank_in fs i)

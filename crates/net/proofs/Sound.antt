@@ -1,16 +1,8 @@
 -- What every net is: its numbers are below the node count, its cells are rectangles, and it has at most 4 nodes, 8 edges and 1 cell a leaf.
 -- Assumes nothing.
-use mathlib.Core.Path.{◌≡◌, refl, sym, ap, ◌∙◌, subst}
-use mathlib.Core.Bool.{Bool, true, false, ◌&&◌}
-use mathlib.Core.Logic.{⊎_elim}
-use mathlib.Core.List.{List, [], ◌∷◌, ◌++◌, map}
-use Prim.Native.Nat.{ℕ, suc, ◌+◌, ◌*◌, ◌≤◌, ◌<◌}
-use native.Mathlib.Nat.{mul-suc}
-use native.Mathlib.Omega.{arith}
-use lib.Dec.{leb, eqb}
-use lib.ListN.{length, length-append, length-map, get_or-append}
-use lib.Ieee.{Float}
-use borrow.Author.Tests.{ltb-true, eqb-true, eq-eqb, ne_eqb, le-leb, lt-leb}
+use Rattle.std.proofs.Common.{◌≡◌, refl, sym, ap, ◌∙◌, subst, Bool, true, false, ◌&&◌, ⊎_elim, List, [], ◌∷◌, ◌++◌, map, ℕ, suc, ◌+◌, ◌*◌, ◌≤◌, ◌<◌, mul-suc, arith, leb, eqb, length, length-append, Float, ltb-true, eqb-true, eq-eqb, ne_eqb, le-leb}
+use lib.ListN.{length-map, get_or-append}
+use borrow.Author.Tests.{lt-leb}
 use Rattle.cell.specs.Boxes.{Box, mid}
 use Rattle.table.specs.Mesh.{Cell, is_none}
 use Rattle.net.specs.Net.{find, has, weld, each, Poly, Node, Edge, Piece, same_node, same_pair, node_at, sw_of, se_of, ne_of, nw_of, corners_at, corners_of, nodes_from, number, nth, nowhere, patch_at, One, Half, ◌·◌, ◌÷◌, across, upright, join, side_of, sides_at, edges_of, edges_from, patches_from, leaves_of, pieces, Cornered, Ends, one_if, leaf_count, leaf_sum}

@@ -1,13 +1,7 @@
 -- How many leaves there are in the polygons up to k, in a list that goes polygon by polygon. Assumes nothing.
-use mathlib.Core.Path.{◌≡◌, refl, sym, ap, ◌∙◌, subst}
-use mathlib.Core.Bool.{Bool, true, ◌&&◌}
-use mathlib.Core.Logic.{◌⊎◌, ⊎_elim}
-use mathlib.Core.List.{List, [], ◌∷◌, ◌++◌, map, append_assoc}
-use Prim.Native.Nat.{ℕ, zero, suc, ◌+◌, ◌*◌, ◌/◌, ◌≤◌, ◌<◌}
-use native.Mathlib.Omega.{arith}
-use lib.Dec.{ltb, leb}
-use lib.ListN.{length, length-append, length-map}
-use borrow.Author.Tests.{lt-ltb, le-ltb, le-leb, lt-leb, ltb-true, leb-true}
+use Rattle.std.proofs.Common.{◌≡◌, refl, sym, ap, ◌∙◌, subst, Bool, true, ◌&&◌, ◌⊎◌, ⊎_elim, List, [], ◌∷◌, ◌++◌, map, append_assoc, ℕ, zero, suc, ◌+◌, ◌*◌, ◌/◌, ◌≤◌, ◌<◌, arith, ltb, leb, length, length-append, lt-ltb, le-ltb, le-leb, ltb-true, leb-true}
+use lib.ListN.{length-map}
+use borrow.Author.Tests.{lt-leb}
 use Rattle.cell.specs.Boxes.{Box}
 use Rattle.net.specs.Net.{Poly, Piece, one_if}
 use Rattle.net.specs.Flat.{Leaf, leaf, leaf_at, no_leaf, leaves_from}

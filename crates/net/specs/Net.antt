@@ -1,7 +1,6 @@
 -- The net of a table of leaves: nodes, cells, edges and weights, by the rules' "The net". Coordinates are whole ticks, from 0 up;
 -- extents and faces are whole half ticks. Nothing is sorted and nothing is looked up: each rule goes through the whole list. Definitions only.
-use Rattle.std.specs.Prelude.{Bool, true, false, ◌&&◌, ◌||◌, not, List, [], ◌∷◌, ◌++◌, map, ◌≡◌, ℕ, suc, ◌+◌, ◌-◌, ◌<◌, min, max, ltb, eqb, length, get_or, drop, pos, Float}
-use Rattle.std.proofs.Math.Option.{Option, none, some}
+use Rattle.std.specs.Prelude.{Bool, true, false, ◌&&◌, ◌||◌, not, List, [], ◌∷◌, ◌++◌, map, ◌≡◌, ℕ, suc, ◌+◌, ◌-◌, ◌<◌, min, max, ltb, eqb, length, get_or, drop, pos, Float, Option, None, Some}
 use Rattle.std.specs.Float.Ieee as Ieee
 use Rattle.std.specs.Float.{binary64}
 use Rattle.std.specs.Float.Ieee.{of_bits}
@@ -193,16 +192,16 @@ abbrev pub after : Node → ℕ → Node → ℕ → Bool
 after a i b j = eqb a.layer b.layer && (eqb a.x b.x && (ltb a.y b.y || (eqb a.y b.y && ltb i j)))
 
 abbrev pub lesser : ℕ → Option ℕ → Option ℕ
-lesser d none = some d
-lesser d (some e) = some (min d e)
+lesser d None = Some d
+lesser d (Some e) = Some (min d e)
 
 abbrev pub or_zero : Option ℕ → ℕ
-or_zero none = 0
-or_zero (some d) = d
+or_zero None = 0
+or_zero (Some d) = d
 
 -- the least g of the nodes that pass the test p, which are numbered from j on
 unfoldable pub least : (Node → ℕ → Bool) → (Node → ℕ) → List Node → ℕ → Option ℕ
-least p g [] j = none
+least p g [] j = None
 least p g (b ∷ bs) j = elim (p b j) [ true ↦ lesser (g b) (least p g bs (suc j)) | false ↦ least p g bs (suc j) ]
 
 -- the gap from the node i to the next in its column, and to the one before: 0 at the ends
@@ -288,13 +287,13 @@ is_side c a b = pair_is c.sw c.se a b || (pair_is c.se c.ne a b || (pair_is c.ne
 
 -- the sheet resistance of the first cell with that pair
 unfoldable pub sheet_of : List Patch → ℕ → ℕ → Option Float
-sheet_of [] a b = none
-sheet_of (c ∷ cs) a b = elim (is_side c a b) [ true ↦ some c.sheet | false ↦ sheet_of cs a b ]
+sheet_of [] a b = None
+sheet_of (c ∷ cs) a b = elim (is_side c a b) [ true ↦ Some c.sheet | false ↦ sheet_of cs a b ]
 
 -- of the conductance so far, the face, the distance and the sheet resistance
 abbrev pub weight : Float → ℕ → ℕ → Option Float → Float
-weight g f d none = g
-weight g f d (some s) = elim (eqb f 0) [ true ↦ g | false ↦ halves f ÷ (s · num d) ]
+weight g f d None = g
+weight g f d (Some s) = elim (eqb f 0) [ true ↦ g | false ↦ halves f ÷ (s · num d) ]
 
 unfoldable pub weighed : List Node → List Patch → Edge → Edge
 weighed n cs e = record { a = e.a; b = e.b; g = weight e.g (face n cs e) (distance n e) (sheet_of cs e.a e.b) }

@@ -1,12 +1,6 @@
 -- The polygons' sheet resistances judged one after another. Assumes nothing.
-use Prim.Native.Nat.{ℕ, suc, ◌+◌, ◌-◌, ◌<◌, ◌≤◌}
-use mathlib.Core.Path.{◌≡◌, refl}
-use mathlib.Core.Bool.{true, false}
-use mathlib.Core.List.{List}
-use native.Mathlib.Omega.{arith}
-use native.Mathlib.Numerals.{add-one}
-use lib.Ieee.{Float, nan}
-use lib.ListN.{get_or}
+use Rattle.std.proofs.Common.{ℕ, suc, ◌+◌, ◌-◌, ◌<◌, ◌≤◌, ◌≡◌, refl, true, false, List, arith, add-one, Float, get_or}
+use lib.Ieee.{nan}
 use Rattle.refusals.specs.Said.{Said, refused}
 use Rattle.floats.specs.Fractions.{in_sheet}
 use Rattle.network.specs.Says.{sheets_from}

@@ -1,8 +1,5 @@
 -- What an accepted call leaves. Assumes nothing.
-use mathlib.Core.Path.{◌≡◌, refl}
-use mathlib.Core.List.{List}
-use Prim.Native.Nat.{ℕ}
-use lib.IntN.{ℤ}
+use Rattle.std.proofs.Common.{◌≡◌, refl, List, ℕ, ℤ}
 use Rattle.refusals.specs.Said.{accepted}
 use Rattle.network.specs.Says.{Polygons, Rows, net_of, filled, network_says, network_leaves}
 

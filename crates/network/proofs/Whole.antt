@@ -1,11 +1,6 @@
 -- The steps of a net put together: from the leaves' rows to the rows of the net. Assumes nothing.
-use mathlib.Core.Path.{◌≡◌, refl, sym, ap, ◌∙◌}
-use mathlib.Core.List.{List, [], ◌∷◌, map}
-use Prim.Native.Nat.{ℕ, ◌+◌, ◌*◌, ◌^◌, ◌<◌, ◌≤◌}
-use native.Mathlib.Omega.{arith}
-use lib.IntN.{ℤ}
-use lib.Ieee.{Float}
-use lib.ListN.{length, take, replicate, length-map}
+use Rattle.std.proofs.Common.{◌≡◌, refl, sym, ap, ◌∙◌, List, [], ◌∷◌, map, ℕ, ◌+◌, ◌*◌, ◌^◌, ◌<◌, ◌≤◌, arith, ℤ, Float, length, take, replicate}
+use lib.ListN.{length-map}
 use Rattle.refusals.specs.Limits.{coordinate}
 use Rattle.table.specs.Mesh.{table}
 use Rattle.table.specs.Leaves.{leaf_ids, order_ids}

@@ -1,13 +1,7 @@
 -- The lists that the rows hold. Assumes nothing.
-use mathlib.Core.Path.{◌≡◌, refl, sym, ap, ap₂, ◌∙◌}
-use mathlib.Core.List.{List, [], ◌∷◌, ◌++◌, map}
-use Prim.Native.Nat.{ℕ, zero, suc, ◌+◌, ◌*◌, ◌<◌, ◌≤◌}
-use native.Mathlib.Omega.{arith}
-use native.Mathlib.Nat.{add-zero, mul-zero, mul-suc, mul-le-mul_left}
-use lib.ListN.{length, get_or, take, length-append, length-take, length-map, get_or-append, get_or-map}
-use lib.Seq.{get_or-append-add, get_or-take}
-use lib.IntN.{ℤ, pos}
-use lib.Ieee.{Float, nan}
+use Rattle.std.proofs.Common.{◌≡◌, refl, sym, ap, ap₂, ◌∙◌, List, [], ◌∷◌, ◌++◌, map, ℕ, zero, suc, ◌+◌, ◌*◌, ◌<◌, ◌≤◌, arith, add-zero, mul-zero, mul-suc, mul-le-mul_left, length, get_or, take, length-append, length-take, get_or-append-add, get_or-take, ℤ, pos, Float}
+use lib.ListN.{length-map, get_or-append, get_or-map}
+use lib.Ieee.{nan}
 use Rattle.refusals.specs.Limits.{coordinate}
 use Rattle.cell.specs.Ticks.{off}
 use Rattle.cell.proofs.Offsets.{off-le, off-on}

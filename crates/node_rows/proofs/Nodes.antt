@@ -1,8 +1,5 @@
 -- Numbers of nodes.
-use mathlib.Core.Path.{◌≡◌}
-use Prim.Native.Nat.{ℕ, ◌^◌, ◌<◌}
-use native.Mathlib.Omega.{arith}
-use lib.IntN.{ℤ}
+use Rattle.std.proofs.Common.{◌≡◌, ℕ, ◌^◌, ◌<◌, arith, ℤ}
 use Rattle.cell.specs.Ticks.{off}
 use Rattle.cell.proofs.Offsets.{off-le}
 

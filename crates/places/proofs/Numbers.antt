@@ -1,15 +1,6 @@
 -- The numbers of places, in the row of their first places: a turn of the loop. And the two words for a first place. Assumes nothing.
-use mathlib.Core.Path.{◌≡◌, sym, ap, ◌∙◌}
-use mathlib.Core.Bool.{Bool, true, false}
-use mathlib.Core.List.{List, [], ◌∷◌}
-use mathlib.Core.Logic.{◌⊎◌, ⊎_elim}
-use Prim.Native.Nat.{ℕ, suc, ◌+◌, ◌≤◌, ◌<◌}
-use native.Mathlib.Omega.{arith}
-use native.Mathlib.Numerals.{add-one}
-use native.Mathlib.Nat.{zero-add}
-use lib.Dec.{eqb}
-use lib.ListN.{length, get_or, set}
-use borrow.Author.Tests.{eq-eqb, ne_eqb, eqb-true, eqb-false}
+use Rattle.std.proofs.Common.{◌≡◌, sym, ap, ◌∙◌, Bool, true, false, List, [], ◌∷◌, ◌⊎◌, ⊎_elim, ℕ, suc, ◌+◌, ◌≤◌, ◌<◌, arith, add-one, zero-add, eqb, length, get_or, set, eq-eqb, ne_eqb, eqb-true}
+use borrow.Author.Tests.{eqb-false}
 use Rattle.rows.specs.Order as Rows
 use Rattle.rows.specs.Parts.{put, tab}
 use Rattle.rows.proofs.Fill.{length-tab, fill_begins, fill-long, fill-turn, fill-above, fill_done, fill-ends, put_whole}

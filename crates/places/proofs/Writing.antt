@@ -1,14 +1,6 @@
 -- A row that is written at the new places only, k entries for each, from the front. Assumes nothing.
-use mathlib.Core.Path.{◌≡◌, refl, sym, ap, ap₂, ◌∙◌}
-use mathlib.Core.Bool.{true, false}
-use mathlib.Core.Logic.{⊎_elim}
-use mathlib.Core.List.{List, [], ◌∷◌, ◌++◌, append-nil}
-use Prim.Native.Nat.{ℕ, zero, suc, ◌+◌, ◌*◌, ◌<◌, ◌≤◌}
-use native.Mathlib.Omega.{arith}
-use native.Mathlib.Nat.{mul-le-mul_right, zero-add}
-use native.Mathlib.Numerals.{add-one}
-use lib.ListN.{length, length-append}
-use borrow.Author.Tests.{eqb-true, eqb-false}
+use Rattle.std.proofs.Common.{◌≡◌, refl, sym, ap, ap₂, ◌∙◌, true, false, ⊎_elim, List, [], ◌∷◌, ◌++◌, append-nil, ℕ, zero, suc, ◌+◌, ◌*◌, ◌<◌, ◌≤◌, arith, mul-le-mul_right, zero-add, add-one, length, length-append, eqb-true}
+use borrow.Author.Tests.{eqb-false}
 use Rattle.rows.specs.Parts.{put}
 use Rattle.rows.proofs.Parts.{put-nil, put-more, length-put}
 use Rattle.net.specs.Net.{each}

@@ -1,14 +1,8 @@
 -- A row that is filled from the front. Assumes nothing.
-use Prim.Native.Nat.{ℕ, zero, suc, ◌+◌, ◌<◌}
-use mathlib.Core.Path.{◌≡◌, refl, sym, ap, ◌∙◌}
-use mathlib.Core.List.{List, [], ◌∷◌, ◌++◌, append_assoc}
-use native.Mathlib.Numerals.{add-one}
-use mathlib.Core.Logic.{⊎_elim}
-use native.Mathlib.Nat.{eq-or-lt_of_le}
-use native.Mathlib.Omega.{arith}
-use lib.ListN.{length, get_or, drop, set, length-append, get_or-append}
-use lib.Seq.{drop-cons, set_at, get_or_at}
-use lib.Ieee.{Float, nan}
+use Rattle.std.proofs.Common.{ℕ, zero, suc, ◌+◌, ◌<◌, ◌≡◌, refl, sym, ap, ◌∙◌, List, [], ◌∷◌, ◌++◌, append_assoc, add-one, ⊎_elim, eq-or-lt_of_le, arith, length, get_or, drop, set, length-append, drop-cons, Float}
+use lib.ListN.{get_or-append}
+use lib.Seq.{set_at, get_or_at}
+use lib.Ieee.{nan}
 use Rattle.power.specs.Powers.{listed}
 
 pub listed-length : (f : ℕ → Float) (n : ℕ) → length (listed f n) ≡ n

@@ -1,12 +1,7 @@
 -- The power of a cell is never a NaN and never negative. Assumes nothing.
-use Prim.Native.Nat.{ℕ, ◌+◌, ◌<◌, ◌≤◌}
-use mathlib.Core.Path.{◌≡◌, refl, sym, subst, ◌∙◌}
-use mathlib.Core.Bool.{Bool, true, false, cond}
-use mathlib.Core.List.{List, []}
-use native.Mathlib.Omega.{arith}
-use lib.ListN.{length, get_or, drop, get_or-append}
-use lib.Dec.{T, leb, lit<}
-use lib.Ieee.{Float, nan, binary64, of_int, mul, round, le}
+use Rattle.std.proofs.Common.{ℕ, ◌+◌, ◌<◌, ◌≤◌, ◌≡◌, refl, sym, subst, ◌∙◌, Bool, true, false, cond, List, [], arith, length, get_or, drop, T, leb, lit<, Float}
+use lib.ListN.{get_or-append}
+use lib.Ieee.{nan, binary64, of_int, mul, round, le}
 use lib.Ieee.Positive.{positive}
 use Rattle.refusals.specs.Limits.{coordinate}
 use Rattle.refusals.specs.Said.{accepted, refused}

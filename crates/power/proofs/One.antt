@@ -1,8 +1,5 @@
 -- The contract of `cell_power` permits one answer and one content of the row of answers. Assumes nothing.
-use mathlib.Core.Path.{◌≡◌, refl, sym, ◌∙◌}
-use mathlib.Core.List.{List, []}
-use lib.Ieee.{Float}
-use Rattle.std.specs.Prelude.{Result}
+use Rattle.std.proofs.Common.{◌≡◌, refl, sym, ◌∙◌, List, [], Float, Result}
 use Rattle.refusals.specs.declared.Refusal.{Refusal}
 use Rattle.refusals.proofs.Settled.{one-said}
 use Rattle.sound_net.specs.Nets.{Net}

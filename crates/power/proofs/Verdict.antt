@@ -1,13 +1,5 @@
 -- What an accepted call says and leaves, and what it may go by. Assumes nothing.
-use Prim.Native.Nat.{ℕ, ◌<◌}
-use mathlib.Core.Path.{◌≡◌}
-use mathlib.Core.Bool.{true, ◌&&◌}
-use mathlib.Core.List.{List, []}
-use native.Mathlib.Omega.{arith}
-use lib.ListN.{length}
-use lib.Dec.{T, eqb, eqb→eq, leb}
-use lib.IntN.{ℤ}
-use lib.Ieee.{Float}
+use Rattle.std.proofs.Common.{ℕ, ◌<◌, ◌≡◌, true, ◌&&◌, List, [], arith, length, T, eqb, eqb→eq, leb, ℤ, Float}
 use lib.Ieee.Fits.{and_l, and_r}
 use Rattle.refusals.specs.Said.{accepted}
 use Rattle.floats.specs.Fractions.{in_sheet, in_potential}

@@ -1,13 +1,6 @@
 -- From what mesh answers and leaves in its rows to the text of the record. Assumes nothing.
-use Prim.Native.Nat.{ℕ, ◌≤◌}
-use mathlib.Core.Path.{◌≡◌, sym, ap, subst, ◌∙◌}
-use mathlib.Core.Bool.{Bool, true, false, cond}
-use mathlib.Core.List.{List, [], ◌∷◌, map}
-use native.Mathlib.Omega.{arith}
-use lib.Dec.{leb}
-use lib.IntN.{ℤ}
-use lib.Ieee.{Float}
-use lib.ListN.{length, take, drop, replicate, length-map, length-replicate}
+use Rattle.std.proofs.Common.{ℕ, ◌≤◌, ◌≡◌, sym, ap, subst, ◌∙◌, Bool, true, false, cond, List, [], ◌∷◌, map, arith, leb, ℤ, Float, length, take, drop, replicate, Ok}
+use lib.ListN.{length-map, length-replicate}
 use lib.Seq.{sets, take-append_seam}
 use Rattle.refusals.specs.declared.Refusal.{Refusal}
 use Rattle.refusals.specs.Said.{Said, accepted, refused, refusal}
@@ -23,7 +16,6 @@ use Rattle.leafrows.proofs.Ids.{leaf-id}
 use Rattle.network.specs.Says as Network
 use Rattle.lines.specs.Lines.{Slotted}
 use Rattle.mesh.specs.declared.Totals.{Totals}
-use Rattle.std.specs.Prelude.{Ok}
 use Rattle.mesh.specs.Growing.{value_at, Given, level_of, balance_say, balanced_row, grow_says}
 use Rattle.mesh.specs.Says.{polygon_room, leaf_room, input_room, meshed_said, totals_say, count_of, leaf_order, table_says, given_by, board_in, mesh_of, mesh_says, Made}
 use Rattle.mesh.proofs.Fronts.{front-map}

@@ -1,13 +1,7 @@
 -- Rows that hold a net: their lines are those of the net. Assumes nothing.
-use Prim.Native.Nat.{ℕ, ◌+◌, ◌*◌, ◌<◌, ◌≤◌}
-use mathlib.Core.Path.{◌≡◌, refl, sym, ap, ap₂, ◌∙◌}
-use mathlib.Core.List.{List, [], ◌∷◌, ◌++◌, map}
-use native.Mathlib.Nat.{add-zero}
-use native.Mathlib.Omega.{arith}
-use lib.IntN.{ℤ, pos}
-use lib.Ieee.{Float, nan, binary64, of_bits}
-use lib.ListN.{length, get_or, drop, length-append, length-map, length-replicate, get_or-map}
-use lib.Seq.{get_or-take}
+use Rattle.std.proofs.Common.{ℕ, ◌+◌, ◌*◌, ◌<◌, ◌≤◌, ◌≡◌, refl, sym, ap, ap₂, ◌∙◌, List, [], ◌∷◌, ◌++◌, map, add-zero, arith, ℤ, pos, Float, length, get_or, drop, length-append, get_or-take}
+use lib.Ieee.{nan, binary64, of_bits}
+use lib.ListN.{length-map, length-replicate, get_or-map}
 use Rattle.refusals.specs.declared.Refusal.{Refusal}
 use Rattle.refusals.specs.Said.{Said, accepted, refusal}
 use Rattle.rows.specs.Parts.{put}

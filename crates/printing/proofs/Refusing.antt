@@ -1,13 +1,7 @@
 -- What a refusal prints, and what an accepted call says. Assumes nothing.
-use Prim.Native.Nat.{ℕ, zero, suc, ◌≤◌}
-use mathlib.Core.Path.{◌≡◌, refl, sym, ap, ◌∙◌}
-use mathlib.Core.Bool.{Bool, true, false, cond, false≢true}
-use mathlib.Core.List.{List, [], ◌∷◌}
-use lib.Dec.{leb}
-use lib.IntN.{ℤ}
-use lib.Ieee.{Float, nan}
-use lib.ListN.{length, get_or}
-use borrow.Author.Tests.{leb-true}
+use Rattle.std.proofs.Common.{ℕ, zero, suc, ◌≤◌, ◌≡◌, refl, sym, ap, ◌∙◌, Bool, true, false, cond, List, [], ◌∷◌, leb, ℤ, Float, length, get_or, leb-true}
+use mathlib.Core.Bool.{false≢true}
+use lib.Ieee.{nan}
 use Rattle.refusals.specs.declared.Refusal.{Refusal}
 use Rattle.refusals.specs.declared.Refusal.TheVariants.{BadTable, NoRoom}
 use Rattle.refusals.specs.Limits.{max_polygons}

@@ -1,7 +1,5 @@
 -- The same of items that go by nothing but their place. Assumes nothing.
-use Prim.Native.Nat.{ℕ, ◌+◌, ◌-◌, ◌≤◌, ◌<◌}
-use mathlib.Core.Path.{◌≡◌}
-use mathlib.Core.List.{List, [], ◌∷◌}
+use Rattle.std.proofs.Common.{ℕ, ◌+◌, ◌-◌, ◌≤◌, ◌<◌, ◌≡◌, List, [], ◌∷◌}
 use Rattle.refusals.specs.declared.Refusal.{Refusal}
 use Rattle.record.specs.Fields.{Out, value, stop, several}
 use Rattle.record.specs.Answers.{went, nothing}

@@ -1,16 +1,6 @@
 -- Laws of big-endian numbers, over the width. Assumes nothing.
-use Prim.Native.Nat.{ℕ, zero, suc, ◌+◌, ◌*◌, ◌-◌, ◌^◌, ◌≤◌, ◌<◌}
-use mathlib.Core.Path.{◌≡◌, refl, ap}
-use mathlib.Core.List.{List}
-use native.Mathlib.Nat.{pow-suc, pow-le-pow_right, le_trans}
-use native.Mathlib.Numerals.{add-one}
-use native.Mathlib.Omega.{arith}
-use lib.IntN.{pos, negsuc, ◌-ℤ◌}
-use mir.Syntax.{w64}
-use mir.Val.{to_z}
-use borrow.Author.Tests.{le-ltb}
-use lib.Dec.{lit<}
-use lib.ListN.{get_or}
+use Rattle.std.proofs.Common.{ℕ, zero, suc, ◌+◌, ◌*◌, ◌-◌, ◌^◌, ◌≤◌, ◌<◌, ◌≡◌, refl, ap, List, pow-suc, le_trans, add-one, arith, pos, negsuc, ◌-ℤ◌, w64, to_z, le-ltb, lit<, get_or}
+use native.Mathlib.Nat.{pow-le-pow_right}
 use Rattle.record.specs.Fields.{big_endian}
 
 -- one byte more

@@ -1,8 +1,5 @@
 -- A loop over n items, at turn i: how it ends, is refused and goes on. Assumes nothing.
-use Prim.Native.Nat.{ℕ, suc, ◌+◌, ◌-◌, ◌≤◌, ◌<◌}
-use mathlib.Core.Path.{◌≡◌, refl}
-use mathlib.Core.List.{List, [], ◌∷◌}
-use native.Mathlib.Omega.{arith}
+use Rattle.std.proofs.Common.{ℕ, suc, ◌+◌, ◌-◌, ◌≤◌, ◌<◌, ◌≡◌, refl, List, [], ◌∷◌, arith}
 use Rattle.refusals.specs.declared.Refusal.{Refusal}
 use Rattle.record.specs.Fields.{Out, value, stop, ◌then◌, many}
 use Rattle.record.specs.Answers.{went, nothing}

@@ -1,10 +1,7 @@
 -- One promise, one outcome. A contract of this project is an equation `say r ≡ what`, with `say` the rules' reading of an
 -- answer, or `row ≡ what`. Any two outcomes that it permits coincide, as soon as the answer can be told from what is said of it.
 -- Assumes nothing.
-use Prim.Native.Nat.{ℕ, zero, suc}
-use mathlib.Core.Path.{◌≡◌, refl, sym, ap, ◌∙◌}
-use mathlib.Core.List.{List}
-use Rattle.std.specs.Prelude.{Result, Ok, Err}
+use Rattle.std.proofs.Common.{ℕ, zero, suc, ◌≡◌, refl, sym, ap, ◌∙◌, List, Result, Ok, Err}
 use Rattle.refusals.specs.declared.Refusal.{Refusal}
 use Rattle.refusals.specs.declared.Refusal.TheVariants.{WrongVersion, WrongLength, OutOfRange, Slanted, UnevenCell, NoRoom, BadTable, NoSuchCell, AlreadySplit, FinestLevel}
 use Rattle.refusals.specs.Said.{Said, accepted, refused, refusal, said}

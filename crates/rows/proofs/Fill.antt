@@ -1,14 +1,9 @@
 -- A row that a loop fills, from a on, one entry a turn, with a function of the index. Assumes nothing.
-use mathlib.Core.Path.{◌≡◌, refl, sym, ap, ◌∙◌}
-use mathlib.Core.Logic.{◌⊎◌, inl, inr, ⊎_elim, by_cases}
-use mathlib.Core.List.{List, [], ◌∷◌, ◌++◌, append-nil, append_assoc}
-use Prim.Native.Nat.{ℕ, zero, suc, ◌+◌, ◌<◌, ◌≤◌}
-use native.Mathlib.Omega.{arith}
-use native.Mathlib.Numerals.{add-one}
-use native.Mathlib.Nat.{zero-add}
+use Rattle.std.proofs.Common.{◌≡◌, refl, sym, ap, ◌∙◌, ◌⊎◌, inl, inr, ⊎_elim, List, [], ◌∷◌, ◌++◌, append-nil, append_assoc, ℕ, zero, suc, ◌+◌, ◌<◌, ◌≤◌, arith, add-one, zero-add, length, get_or, set, length-append, drop_of_length-le, ext_get_or}
+use mathlib.Core.Logic.{by_cases}
 use native.Mathlib.Decide.{dec_lt}
-use lib.ListN.{length, get_or, set, length-append, drop_of_length-le, get_or-append}
-use lib.Seq.{get_or-append_seam, ext_get_or}
+use lib.ListN.{get_or-append}
+use lib.Seq.{get_or-append_seam}
 use Rattle.rows.specs.Order.{tabled}
 use Rattle.rows.specs.Parts.{part, put, tab}
 use Rattle.rows.proofs.Equal.{filled}

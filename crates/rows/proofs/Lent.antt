@@ -1,12 +1,6 @@
 -- A block of a longer row that was lent to `firsts` or `lasts`: what the whole row is then. Assumes nothing.
-use mathlib.Core.Path.{◌≡◌, sym, ap, ◌∙◌}
-use mathlib.Core.Logic.{◌⊎◌, inl, inr, ⊎_elim}
-use mathlib.Core.List.{List, ◌++◌, append_assoc}
-use Prim.Native.Nat.{ℕ, ◌+◌, ◌*◌, ◌-◌, ◌≤◌}
-use native.Mathlib.Omega.{arith}
+use Rattle.std.proofs.Common.{◌≡◌, sym, ap, ◌∙◌, ◌⊎◌, inl, inr, ⊎_elim, List, ◌++◌, append_assoc, ℕ, ◌+◌, ◌*◌, ◌-◌, ◌≤◌, arith, length, take, drop, length-append, take-take, take_all, take_at}
 use borrow.Rule.Slice.PartMut.{put_mid}
-use lib.ListN.{length, take, drop, length-append}
-use lib.Seq.{take-take, take_all, take_at}
 use Rattle.rows.specs.Order.{ordered, tabled}
 use Rattle.rows.specs.Parts.{part, put, tab}
 use Rattle.rows.proofs.Ascending.{length-ordered}

@@ -1,12 +1,7 @@
 -- Laws of the parts of a row. Assumes nothing.
-use mathlib.Core.Path.{◌≡◌, refl, sym, ap, ap₂, subst, ◌∙◌}
-use mathlib.Core.Logic.{◌⊎◌, ⊎_elim}
-use mathlib.Core.List.{List, [], ◌∷◌, ◌++◌, append_assoc}
-use Prim.Native.Nat.{ℕ, suc, ◌+◌, ◌-◌, ◌<◌, ◌≤◌}
-use native.Mathlib.Omega.{arith}
-use native.Mathlib.Nat.{suc-add, zero-add, add-zero}
-use lib.ListN.{length, get_or, take, drop, set, length-append, length-set, length-drop, take-append-drop, get_or-append}
-use lib.Seq.{length-take-le, take-append-le, take-take, take_at, drop_at, drop-drop, get_or-append-add, get_or-take, get_or-drop, set-append_left, ext_get_or, drop-cons, drop-append-add, set-append_seam}
+use Rattle.std.proofs.Common.{◌≡◌, refl, sym, ap, ap₂, subst, ◌∙◌, ◌⊎◌, ⊎_elim, List, [], ◌∷◌, ◌++◌, append_assoc, ℕ, suc, ◌+◌, ◌-◌, ◌<◌, ◌≤◌, arith, suc-add, zero-add, add-zero, length, get_or, take, drop, set, length-append, length-set, length-drop, take-append-drop, length-take-le, take-take, take_at, drop_at, drop-drop, get_or-append-add, get_or-take, get_or-drop, ext_get_or, drop-cons}
+use lib.ListN.{get_or-append}
+use lib.Seq.{take-append-le, set-append_left, drop-append-add, set-append_seam}
 use borrow.Rule.Slice.PartMut.{put_mid}
 use Rattle.rows.specs.Parts.{part, put}
 

@@ -1,7 +1,7 @@
 -- A whole row of numbers joined in one, bit by bit: what the one says of each. Assumes nothing.
-use Rattle.std.proofs.Common.{◌≡◌, ℕ, zero, suc, ◌+◌, ◌-◌, ◌*◌, ◌%◌, ◌^◌, ◌<◌, ◌≤◌, Bool, true, false, ◌&&◌, T, eqb, ltb, leb, List, get_or, ℤ, pos, negsuc, sym, refl, ap, ◌∙◌, ap₂, arith, le→leb, eqb→eq, ltb→lt, lt→ltb, w64, Fits, SFits, to_z, of_z, le-ltb, eq-eqb}
+use Rattle.std.proofs.Common.{◌≡◌, ℕ, zero, suc, ◌+◌, ◌-◌, ◌*◌, ◌%◌, ◌^◌, ◌<◌, ◌≤◌, Bool, true, false, ◌&&◌, T, eqb, ltb, leb, List, get_or, ℤ, pos, negsuc, sym, refl, ap, ◌∙◌, ap₂, arith, le→leb, eqb→eq, ltb→lt, lt→ltb, w64, Fits, SFits, to_z, of_z, le-ltb, eq-eqb, bit_or, bit_and, bit_xor}
 use mathlib.Core.Bool.{and_assoc}
-use lib.Bits.{bit_or, bit_and, bit_xor, or_lt, or_add_and, xor_lt, xor_add_and, xor_self, and_le_l, and_le_r}
+use lib.Bits.{or_lt, or_add_and, xor_lt, xor_add_and, xor_self, and_le_l, and_le_r}
 use lib.Signed.{le_z, lt_z}
 use mir.ValLaws.{of_z_fits, to_z-Fits, of_z-to_z}
 use lib.Ieee.Fits.{and_l, and_r, and_i}

@@ -1,6 +1,5 @@
 -- Laws of the tests: a walk over indices, `&&`, and equality of signed numbers. Assumes nothing.
-use Rattle.std.proofs.Common.{◌≡◌, ℕ, zero, suc, ◌+◌, ◌<◌, ◌≤◌, Bool, true, false, ◌&&◌, T, eqb, ℤ, pos, negsuc, sym, refl, ap, ap₂, ◌∙◌, subst, ⊎_elim, eq-or-lt_of_le, add-one, arith, to_z-of_z, w64, SFits, to_z, of_z}
-use mathlib.Core.List.{map}
+use Rattle.std.proofs.Common.{◌≡◌, ℕ, zero, suc, ◌+◌, ◌<◌, ◌≤◌, Bool, true, false, ◌&&◌, T, eqb, ℤ, pos, negsuc, sym, refl, ap, ap₂, ◌∙◌, subst, ⊎_elim, eq-or-lt_of_le, add-one, arith, to_z-of_z, w64, SFits, to_z, of_z, map}
 use mathlib.Core.Bool.{and-true}
 use lib.Dec.{eqb_refl}
 use lib.Ieee.Fits.{and_l, and_r, and_i}

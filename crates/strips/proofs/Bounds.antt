@@ -1,11 +1,5 @@
 -- Every strip of a ring has a positive width and height and lies in the frame of coordinates. Assumes nothing.
-use Prim.Native.Nat.{ℕ, ◌+◌, ◌<◌, ◌≤◌}
-use mathlib.Core.Bool.{Bool}
-use mathlib.Core.List.{List, [], ◌∷◌, ◌++◌, map}
-use lib.IntN.{ℤ}
-use lib.Dec.{ltb, leb, eqb}
-use lib.ListN.{length}
-use borrow.Author.Tests.{ltb-true}
+use Rattle.std.proofs.Common.{ℕ, ◌+◌, ◌<◌, ◌≤◌, Bool, List, [], ◌∷◌, ◌++◌, map, ℤ, ltb, leb, eqb, length, ltb-true}
 use Rattle.cell.proofs.Offsets.{off-le}
 use Rattle.refusals.specs.Limits.{coordinate}
 use Rattle.strips.specs.Sorted.{up_to, picked, insert, sorted, distinct}

@@ -1,15 +1,7 @@
 -- The strips of the rules are those that the code's walk meets: edges that are in order by x, passed by a band's test, give the band's
 -- crossings in order; and the bands between distinct heights are those between neighbours that differ. Assumes nothing.
-use Prim.Native.Nat.{ℕ, zero, suc, ◌/◌, ◌%◌, ◌<◌, ◌≤◌}
-use mathlib.Core.Path.{◌≡◌, refl, sym, ap, ◌∙◌}
-use mathlib.Core.Bool.{Bool, cond, ◌&&◌}
-use mathlib.Core.List.{List, [], ◌∷◌, map}
-use mathlib.Core.Logic.{⊎_elim}
-use native.Mathlib.Omega.{arith}
-use lib.IntN.{ℤ}
-use lib.Dec.{eqb}
-use lib.ListN.{length}
-use borrow.Author.Tests.{lt-ltb, eqb-true, eqb-false}
+use Rattle.std.proofs.Common.{ℕ, zero, suc, ◌/◌, ◌%◌, ◌<◌, ◌≤◌, ◌≡◌, refl, sym, ap, ◌∙◌, Bool, cond, ◌&&◌, List, [], ◌∷◌, map, ⊎_elim, arith, ℤ, eqb, length, lt-ltb, eqb-true}
+use borrow.Author.Tests.{eqb-false}
 use Rattle.cell.proofs.Offsets.{below?}
 use Rattle.refusals.specs.Limits.{max_points}
 use Rattle.strips.specs.Sorted.{up_to, picked, insert, sorted, distinct}

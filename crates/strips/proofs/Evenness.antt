@@ -1,15 +1,9 @@
 -- On a closed ring without slanted edges the crossings of a band come in an even number: walking round the ring one gets from below the
 -- band to above it as often as back. Assumes nothing.
-use Prim.Native.Nat.{ℕ, zero, suc, ◌+◌, ◌%◌, ◌<◌, ◌≤◌}
-use mathlib.Core.Path.{◌≡◌, refl, sym, ap, ◌∙◌}
-use mathlib.Core.Bool.{Bool, true, false, not, ◌&&◌, ◌||◌, false≢true}
-use mathlib.Core.List.{List, [], ◌∷◌, ◌++◌, map, map-append}
-use mathlib.Core.Logic.{◌⊎◌, inl, inr, ⊎_elim}
-use native.Mathlib.Omega.{arith}
-use lib.IntN.{ℤ}
-use lib.Dec.{ltb, leb, eqb}
-use lib.ListN.{length, length-append}
-use borrow.Author.Tests.{lt-ltb, le-ltb, le-leb, lt-leb, eqb-true, eqb-false, ne_eqb}
+use Rattle.std.proofs.Common.{ℕ, zero, suc, ◌+◌, ◌%◌, ◌<◌, ◌≤◌, ◌≡◌, refl, sym, ap, ◌∙◌, Bool, true, false, not, ◌&&◌, ◌||◌, List, [], ◌∷◌, ◌++◌, map, ◌⊎◌, inl, inr, ⊎_elim, arith, ℤ, ltb, leb, eqb, length, length-append, lt-ltb, le-ltb, le-leb, eqb-true, ne_eqb}
+use mathlib.Core.Bool.{false≢true}
+use mathlib.Core.List.{map-append}
+use borrow.Author.Tests.{lt-leb, eqb-false}
 use Rattle.strips.specs.Sorted.{up_to, picked, insert, sorted, distinct}
 use Rattle.strips.specs.Rings.{x_at, y_at, after, edge_at, vertical, reaches, slants, slants_at, some_below, ring_slants}
 use Rattle.strips.specs.Strips.{levels, crossings}

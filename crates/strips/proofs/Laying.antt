@@ -1,14 +1,5 @@
 -- Strips written one after another from the front of a row. Assumes nothing.
-use Prim.Native.Nat.{ℕ, suc, ◌+◌, ◌<◌, ◌≤◌}
-use mathlib.Core.Path.{◌≡◌, refl, sym, ap, ◌∙◌}
-use mathlib.Core.List.{List, [], ◌∷◌, ◌++◌, append_assoc}
-use native.Mathlib.Omega.{arith}
-use native.Mathlib.Numerals.{add-one}
-use lib.IntN.{ℤ}
-use lib.ListN.{length, drop, set, length-set, take-append-drop}
-use lib.Seq.{take-suc-set, drop-set-lt, drop-drop}
-use mathlib.Core.Bool.{true}
-use borrow.Author.Tests.{leb-true}
+use Rattle.std.proofs.Common.{ℕ, suc, ◌+◌, ◌<◌, ◌≤◌, ◌≡◌, refl, sym, ap, ◌∙◌, List, [], ◌∷◌, ◌++◌, append_assoc, arith, add-one, ℤ, length, drop, set, length-set, take-append-drop, take-suc-set, drop-set-lt, drop-drop, true, leb-true}
 use Rattle.cell.proofs.Contact.{and_left}
 use Rattle.refusals.specs.Limits.{max_points}
 use Rattle.strips.specs.Rings.{ring_in_range, point_in_range, all_below}

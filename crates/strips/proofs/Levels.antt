@@ -1,14 +1,8 @@
 -- Heights as they are lent and as a cell holds them: the same edges span a band. Assumes nothing.
-use Prim.Native.Nat.{ℕ, zero, suc, ◌+◌, ◌-◌, ◌/◌, ◌%◌, min, ◌<◌, ◌≤◌}
-use mathlib.Core.Path.{◌≡◌, refl, sym, ap₂, ◌∙◌}
-use mathlib.Core.Bool.{Bool, true, false, not, ◌&&◌, ◌||◌}
-use mathlib.Core.List.{List, [], ◌∷◌}
-use mathlib.Core.Logic.{◌⊎◌, inl, inr, ⊎_elim}
-use native.Mathlib.Omega.{arith}
-use lib.IntN.{ℤ, pos, negsuc, sub_ℕ}
+use Rattle.std.proofs.Common.{ℕ, zero, suc, ◌+◌, ◌-◌, ◌/◌, ◌%◌, min, ◌<◌, ◌≤◌, ◌≡◌, refl, sym, ap₂, ◌∙◌, Bool, true, false, not, ◌&&◌, ◌||◌, List, [], ◌∷◌, ◌⊎◌, inl, inr, ⊎_elim, arith, ℤ, pos, negsuc, leb, ltb, eqb, lt-ltb, le-ltb, le-leb, ltb-true, ltb-false, leb-true, leb-false, eq-eqb, ne_eqb, length, drop, get_or}
+use lib.IntN.{sub_ℕ}
 use lib.Signed.{le_z}
-use lib.Dec.{leb, ltb, eqb}
-use borrow.Author.Tests.{lt-ltb, le-ltb, le-leb, lt-leb, ltb-true, ltb-false, leb-true, leb-false, eq-eqb, ne_eqb}
+use borrow.Author.Tests.{lt-leb}
 use Rattle.refusals.specs.Limits.{coordinate, max_points}
 use Rattle.cell.specs.Ticks.{off, on, in_range}
 use Rattle.cell.proofs.Offsets.{below?, on-is, off-le}
@@ -16,7 +10,6 @@ use Rattle.strips.specs.Rings.{after, edge_at, reaches, slants, slants_at, all_b
 use Rattle.strips.specs.Levels.{level_at, crosses, apart}
 use Rattle.strips.specs.Walk.{spans, crossed, left}
 use Rattle.cell.proofs.Contact.{and_left, and_right}
-use lib.ListN.{length, drop, get_or}
 use Rattle.strips.proofs.Picking.{split, picked-no, picked_none}
 use Rattle.strips.proofs.Walks.{crossed-flat, left-flat}
 

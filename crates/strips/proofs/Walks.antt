@@ -1,17 +1,6 @@
 -- The walk over a ring's bands: what each step of the code leaves to come. Assumes nothing.
-use Prim.Native.Nat.{ℕ, suc, ◌+◌, ◌-◌, ◌*◌, ◌/◌, ◌%◌, ◌<◌, ◌≤◌}
-use mathlib.Core.Path.{◌≡◌, refl, sym, ap, ◌∙◌}
-use mathlib.Core.Bool.{true, false}
-use mathlib.Core.List.{List, [], ◌∷◌, ◌++◌, map}
-use mathlib.Core.Logic.{⊎_elim}
-use native.Mathlib.Omega.{arith}
-use native.Mathlib.Numerals.{add-one}
-use native.Mathlib.Nat.{suc-mul, mul-le-mul_right}
-use lib.IntN.{ℤ}
-use lib.Dec.{ltb}
-use lib.ListN.{length, take, drop, get_or, drop_of_length-le, length-drop, length-append, length-map}
-use lib.Seq.{drop-cons, take_at}
-use borrow.Author.Tests.{lt-ltb, le-ltb}
+use Rattle.std.proofs.Common.{ℕ, suc, ◌+◌, ◌-◌, ◌*◌, ◌/◌, ◌%◌, ◌<◌, ◌≤◌, ◌≡◌, refl, sym, ap, ◌∙◌, true, false, List, [], ◌∷◌, ◌++◌, map, ⊎_elim, arith, add-one, suc-mul, mul-le-mul_right, ℤ, ltb, length, take, drop, get_or, drop_of_length-le, length-drop, length-append, drop-cons, take_at, lt-ltb, le-ltb}
+use lib.ListN.{length-map}
 use Rattle.cell.proofs.Offsets.{below?}
 use Rattle.refusals.specs.Limits.{max_points}
 use Rattle.strips.specs.Rings.{y_at, edge_at, reaches}

@@ -1,12 +1,7 @@
 -- Tests of every index below a bound. Assumes nothing.
-use Prim.Native.Nat.{ℕ, zero, suc, ◌+◌, ◌<◌}
-use mathlib.Core.Path.{◌≡◌, refl, ap}
-use mathlib.Core.Bool.{Bool, true, false, ◌&&◌, false≢true}
-use mathlib.Core.Logic.{◌⊎◌, inl, inr, ⊎_elim}
-use native.Mathlib.Omega.{arith}
-use native.Mathlib.Numerals.{add-one}
-use lib.Dec.{eqb}
-use borrow.Author.Tests.{eqb-true, eqb-false}
+use Rattle.std.proofs.Common.{ℕ, zero, suc, ◌+◌, ◌<◌, ◌≡◌, refl, ap, Bool, true, false, ◌&&◌, ◌⊎◌, inl, inr, ⊎_elim, arith, add-one, eqb, eqb-true}
+use mathlib.Core.Bool.{false≢true}
+use borrow.Author.Tests.{eqb-false}
 use Rattle.table.specs.Formed.{all_to}
 
 pub and_left : (x y : Bool) → (x && y) ≡ true → x ≡ true

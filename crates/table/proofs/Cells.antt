@@ -1,13 +1,8 @@
 -- The cells that a row holds, one by one: the table has them, and sees no number past its slots. Assumes nothing.
-use Prim.Native.Nat.{ℕ, zero, suc, ◌+◌, ◌*◌, ◌<◌, ◌≤◌}
-use mathlib.Core.Path.{◌≡◌, refl, ap, ◌∙◌}
-use mathlib.Core.List.{List, [], ◌∷◌, ◌++◌}
+use Rattle.std.proofs.Common.{ℕ, zero, suc, ◌+◌, ◌*◌, ◌<◌, ◌≤◌, ◌≡◌, refl, ap, ◌∙◌, List, [], ◌∷◌, ◌++◌, arith, add-one, ℤ, pos, length, get_or, length-append}
 use mathlib.Core.Logic.{by_cases}
-use native.Mathlib.Omega.{arith}
 use native.Mathlib.Decide.{ℕ_discrete}
-use native.Mathlib.Numerals.{add-one}
-use lib.IntN.{ℤ, pos}
-use lib.ListN.{length, get_or, length-append, get_or-append, get_or-eq_default}
+use lib.ListN.{get_or-append, get_or-eq_default}
 use lib.Seq.{get_or_at}
 use Rattle.cell.specs.declared.Cell as Held
 use Rattle.table.specs.Slots.{cell_at, put_cell}

@@ -1,13 +1,6 @@
 -- The head that refine answers is the row's: under it the row handed back is a well-formed table, of the cells with that leaf split.
 -- Assumes nothing.
-use Prim.Native.Nat.{ℕ, ◌+◌, ◌-◌, ◌/◌}
-use mathlib.Core.Path.{◌≡◌, sym, ap, ◌∙◌}
-use mathlib.Core.Bool.{true}
-use mathlib.Core.List.{List, [], ◌∷◌}
-use native.Mathlib.Omega.{arith}
-use lib.IntN.{ℤ}
-use lib.ListN.{length}
-use borrow.Author.Tests.{lt-ltb, le-leb}
+use Rattle.std.proofs.Common.{ℕ, ◌+◌, ◌-◌, ◌/◌, ◌≡◌, sym, ap, ◌∙◌, true, List, [], ◌∷◌, arith, ℤ, length, lt-ltb, le-leb}
 use Rattle.refusals.specs.Said.{accepted}
 use Rattle.table.specs.Mesh.{split, table}
 use Rattle.table.specs.Formed.{well_formed}

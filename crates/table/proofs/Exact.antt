@@ -1,13 +1,7 @@
 -- The numbers of a slot that holds a cell are exactly those of the cell. Assumes nothing.
-use Prim.Native.Nat.{ℕ, suc, ◌+◌, ◌-◌, min}
-use mathlib.Core.Path.{◌≡◌, refl, ap, ◌∙◌}
-use mathlib.Core.Bool.{true, ◌&&◌}
-use mathlib.Core.List.{List}
-use native.Mathlib.Omega.{arith}
-use lib.Dec.{leb}
-use lib.IntN.{ℤ, pos, negsuc, sub_ℕ}
+use Rattle.std.proofs.Common.{ℕ, suc, ◌+◌, ◌-◌, min, ◌≡◌, refl, ap, ◌∙◌, true, ◌&&◌, List, arith, leb, ℤ, pos, negsuc, le-ltb, lt-ltb, leb-true}
+use lib.IntN.{sub_ℕ}
 use lib.Signed.{non_neg}
-use borrow.Author.Tests.{le-ltb, lt-ltb, leb-true}
 use Rattle.refusals.specs.Limits.{coordinate}
 use Rattle.cell.specs.Ticks.{off, on, in_range}
 use Rattle.table.specs.Slots.{counted, number, start, cell_at, in_slot}

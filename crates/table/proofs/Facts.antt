@@ -1,12 +1,5 @@
 -- The parts of the test of well-formedness, of the whole row and of one cell. Assumes nothing.
-use Prim.Native.Nat.{ℕ, ◌+◌, ◌^◌, ◌<◌, ◌≤◌}
-use mathlib.Core.Path.{◌≡◌}
-use mathlib.Core.Bool.{true, ◌&&◌}
-use mathlib.Core.List.{List}
-use lib.Dec.{ltb, leb}
-use lib.IntN.{ℤ}
-use lib.ListN.{length}
-use borrow.Author.Tests.{ltb-true, leb-true, lt-ltb, le-leb}
+use Rattle.std.proofs.Common.{ℕ, ◌+◌, ◌^◌, ◌<◌, ◌≤◌, ◌≡◌, true, ◌&&◌, List, ltb, leb, ℤ, length, ltb-true, leb-true, lt-ltb, le-leb}
 use Rattle.refusals.specs.Limits.{max_polygons}
 use Rattle.table.specs.Slots.{cell_at, in_slot}
 use Rattle.table.specs.Formed.{all_to, rest_zero, place_ok, kids_ok, cell_ok, shape_ok, well_formed}

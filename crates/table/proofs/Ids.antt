@@ -1,13 +1,5 @@
 -- Laws of lists of ids: how one grows by a turn, how long it is, what it holds. Assumes nothing.
-use Prim.Native.Nat.{ℕ, zero, suc, ◌+◌, ◌<◌, ◌≤◌}
-use mathlib.Core.Path.{◌≡◌, refl, subst}
-use mathlib.Core.Bool.{Bool, true, false}
-use mathlib.Core.List.{List, [], ◌∷◌, ◌++◌, append-nil}
-use mathlib.Core.Logic.{⊎_elim}
-use native.Mathlib.Omega.{arith}
-use native.Mathlib.Nat.{add-zero, add-suc, suc-add}
-use native.Mathlib.Numerals.{add-one}
-use lib.ListN.{length, drop, length-append, set}
+use Rattle.std.proofs.Common.{ℕ, zero, suc, ◌+◌, ◌<◌, ◌≤◌, ◌≡◌, refl, subst, Bool, true, false, List, [], ◌∷◌, ◌++◌, append-nil, ⊎_elim, arith, add-zero, add-suc, suc-add, add-one, length, drop, length-append, set}
 use lib.Seq.{sets, sets-eq}
 use Rattle.table.specs.Leaves.{one_if, ids_to, written}
 use Rattle.table.proofs.All.{top?}

@@ -1,21 +1,16 @@
 -- Cells after one split: what stands at each id, and that they keep the clauses on roots, children and parents. Assumes nothing.
-use mathlib.Core.Path.{◌≡◌, refl, sym, ap, subst, ◌∙◌}
-use mathlib.Core.Logic.{by_cases, ◌≢◌}
-use mathlib.Core.Option.{Option, none, some}
-use mathlib.Core.List.{List}
-use Prim.Native.Nat.{ℕ, suc, ◌+◌, ◌<◌, ◌≤◌}
-use native.Mathlib.Omega.{arith}
+use mathlib.Core.Logic.{by_cases}
+use Rattle.std.proofs.Common.{◌≡◌, refl, sym, ap, subst, ◌∙◌, ◌≢◌, Option, None, Some, List, ℕ, suc, ◌+◌, ◌<◌, ◌≤◌, arith, length, get_or, set, length-append, length-set, get_or-append-add, get_or-set_same, get_or-set_other}
 use native.Mathlib.Decide.{dec_lt, ℕ_discrete}
-use lib.ListN.{length, get_or, set, length-append, length-set, get_or-append, get_or-eq_default}
-use lib.Seq.{get_or-append-add, get_or-set_same, get_or-set_other}
+use lib.ListN.{get_or-append, get_or-eq_default}
 use Rattle.cell.specs.Boxes.{Box, Quad, sw, se, nw, ne, num, quadrant}
 use Rattle.table.specs.Mesh.{Cell, past, at, child, with_kids, brood, split}
 use Rattle.table.specs.Formed.{Kid, Split, Born, Root, Formed}
 
-pub not_some : {A : Type 0} (o : Option ℕ) (f : ℕ) → o ≡ none → o ≡ some f → A
+pub not_some : {A : Type 0} (o : Option ℕ) (f : ℕ) → o ≡ None → o ≡ Some f → A
 not_some o f p q = let z : ◌≡◌ {A = ℕ} 0 1 = cc in absurd (omega arith)
 
-pub some_is : (o : Option ℕ) (f g : ℕ) → o ≡ some f → o ≡ some g → f ≡ g
+pub some_is : (o : Option ℕ) (f g : ℕ) → o ≡ Some f → o ≡ Some g → f ≡ g
 some_is o f g p q = cc
 
 pub num-below : (q : Quad) → num q < 4
@@ -28,10 +23,10 @@ num-below ne = omega arith
 pub beyond : (t : List Cell) (i : ℕ) → length t ≤ i → at t i ≡ past
 beyond t i h = get_or-eq_default t past h
 
-pub kids-in : (t : List Cell) (i f : ℕ) → (at t i).kids ≡ some f → i < length t
+pub kids-in : (t : List Cell) (i f : ℕ) → (at t i).kids ≡ Some f → i < length t
 kids-in t i f e = by_cases (dec_lt i (length t)) (λ h. h) (λ h. not_some (at t i).kids f (ap (λ (c : Cell). c.kids) (beyond t i (omega arith))) e)
 
-pub root_in : (t : List Cell) (i : ℕ) → (at t i).parent ≡ none → i < length t
+pub root_in : (t : List Cell) (i : ℕ) → (at t i).parent ≡ None → i < length t
 root_in t i e = by_cases (dec_lt i (length t)) (λ h. h) (λ h. not_some (at t i).parent 0 e (ap (λ (c : Cell). c.parent) (beyond t i (omega arith))))
 
 -- what a table u keeps of the cell i of t
@@ -104,11 +99,11 @@ module _ (t : List Cell) (c : ℕ) (inside : c < length t) where
       go (new q n e) = absurd (omega arith)
       go (out n e) = absurd (omega arith)
 
-  module _ (leaf : (at t c).kids ≡ none) where
-    pub kids-kept : (i f : ℕ) → (at t i).kids ≡ some f → (at (split t c) i).kids ≡ some f
+  module _ (leaf : (at t c).kids ≡ None) where
+    pub kids-kept : (i f : ℕ) → (at t i).kids ≡ Some f → (at (split t c) i).kids ≡ Some f
     kids-kept i f e = go (view i)
       where
-        go : View i → (at (split t c) i).kids ≡ some f
+        go : View i → (at (split t c) i).kids ≡ Some f
         go (old l n d) = ap (λ (x : Cell). x.kids) d ∙ e
         go (self n d) = not_some (at t i).kids f (rw n leaf) e
         go (new q n d) = let l = kids-in t i f e in absurd (omega arith)
@@ -152,7 +147,7 @@ module _ (t : List Cell) (c : ℕ) (inside : c < length t) where
                 };
           }
 
-      formed-split-field : (i f : ℕ) → (at (split t c) i).kids ≡ some f → Split M (split t c) i f
+      formed-split-field : (i f : ℕ) → (at (split t c) i).kids ≡ Some f → Split M (split t c) i f
       formed-split-field i f e = go (view i)
         where
           go : View i → Split M (split t c) i f
@@ -166,7 +161,7 @@ module _ (t : List Cell) (c : ℕ) (inside : c < length t) where
       born-kept : (i j : ℕ) → Born t i j → Born (split t c) i j
       born-kept i j b = record { first = b.first; place = b.place; split = kids-kept j b.first b.split; here = b.here }
 
-      formed-born-field : (i j : ℕ) → i < length (split t c) → (at (split t c) i).parent ≡ some j → Born (split t c) i j
+      formed-born-field : (i j : ℕ) → i < length (split t c) → (at (split t c) i).parent ≡ Some j → Born (split t c) i j
       formed-born-field i j h e = go (view i)
         where
           go : View i → Born (split t c) i j
@@ -180,7 +175,7 @@ module _ (t : List Cell) (c : ℕ) (inside : c < length t) where
       root_kept : (i : ℕ) → i < length t → Root M (at t i) → Root M (at (split t c) i)
       root_kept i h r = let a = kept i h in record { level = a.level ∙ r.level; wide = rw a.box r.wide; high = rw a.box r.high }
 
-      formed-root-field : (i : ℕ) → (at (split t c) i).parent ≡ none → Root M (at (split t c) i)
+      formed-root-field : (i : ℕ) → (at (split t c) i).parent ≡ None → Root M (at (split t c) i)
       formed-root-field i e = go (view i)
         where
           go : View i → Root M (at (split t c) i)

@@ -1,10 +1,6 @@
 -- Laws of the numbers of a slot. Assumes nothing.
-use Prim.Native.Nat.{ℕ, ◌≤◌}
-use mathlib.Core.Path.{◌≡◌, refl, ap, subst}
-use mathlib.Core.Bool.{true, false≢true}
-use native.Mathlib.Omega.{arith}
-use lib.IntN.{ℤ, pos, negsuc, nat_abs}
-use borrow.Author.Tests.{eqb-true, eq-eqb}
+use Rattle.std.proofs.Common.{ℕ, ◌≤◌, ◌≡◌, refl, ap, subst, true, arith, ℤ, pos, negsuc, nat_abs, eqb-true, eq-eqb}
+use mathlib.Core.Bool.{false≢true}
 use Rattle.std.specs.Int.{int_max}
 use Rattle.table.specs.Slots.{counted, kept, same_z}
 

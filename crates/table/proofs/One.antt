@@ -1,9 +1,5 @@
 -- The contracts permit one answer each. Assumes nothing.
-use Prim.Native.Nat.{ℕ}
-use mathlib.Core.Path.{◌≡◌, refl}
-use mathlib.Core.List.{[], ◌∷◌}
-use lib.ListN.{get_or}
-use Rattle.std.specs.Prelude.{Result}
+use Rattle.std.proofs.Common.{ℕ, ◌≡◌, refl, [], ◌∷◌, get_or, Result}
 use Rattle.refusals.specs.Said.{Said}
 use Rattle.refusals.specs.declared.Refusal.{Refusal}
 use Rattle.refusals.proofs.Settled.{one-said}

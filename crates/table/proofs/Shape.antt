@@ -1,13 +1,5 @@
 -- The shape of a lent row, as a test and as facts. Assumes nothing.
-use Prim.Native.Nat.{ℕ, ◌+◌, ◌*◌, ◌/◌, ◌%◌, ◌^◌, ◌<◌, ◌≤◌}
-use mathlib.Core.Path.{◌≡◌}
-use mathlib.Core.Bool.{true, ◌&&◌}
-use native.Mathlib.Omega.{arith}
-use lib.Dec.{leb, ltb, eqb}
-use lib.IntN.{ℤ}
-use lib.ListN.{length}
-use mathlib.Core.List.{List}
-use borrow.Author.Tests.{leb-true, ltb-true, eqb-true, le-leb, eq-eqb}
+use Rattle.std.proofs.Common.{ℕ, ◌+◌, ◌*◌, ◌/◌, ◌%◌, ◌^◌, ◌<◌, ◌≤◌, ◌≡◌, true, ◌&&◌, arith, leb, ltb, eqb, ℤ, length, List, leb-true, ltb-true, eqb-true, le-leb, eq-eqb}
 use Rattle.refusals.specs.Limits.{widest_level, max_slots, max_polygons}
 use Rattle.table.specs.Slots.{cell_at, in_slot}
 use Rattle.table.specs.Formed.{shape_ok, rest_zero, all_to, place_ok, kids_ok, cell_ok, well_formed}

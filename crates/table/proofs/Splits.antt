@@ -1,18 +1,7 @@
 -- A split of the row is a split of its table, and keeps it well formed. Assumes nothing.
-use Prim.Native.Nat.{ℕ, zero, suc, ◌+◌, ◌*◌, ◌-◌, ◌/◌, ◌<◌, ◌≤◌}
-use mathlib.Core.Path.{◌≡◌, refl, sym, ap, subst, ◌∙◌}
-use mathlib.Core.Bool.{true, false}
-use mathlib.Core.Option.{none}
-use mathlib.Core.List.{List}
-use mathlib.Core.Logic.{◌≢◌, ◌⊎◌, inl, inr, ⊎_elim, by_cases}
-use native.Mathlib.Omega.{arith}
+use Rattle.std.proofs.Common.{ℕ, zero, suc, ◌+◌, ◌*◌, ◌-◌, ◌/◌, ◌<◌, ◌≤◌, ◌≡◌, refl, sym, ap, subst, ◌∙◌, true, false, None, List, ◌≢◌, ◌⊎◌, inl, inr, ⊎_elim, arith, add-one, eqb, ℤ, pos, length, get_or, ext_get_or, eqb-true, ne_eqb}
+use mathlib.Core.Logic.{by_cases}
 use native.Mathlib.Decide.{dec_lt, ℕ_discrete}
-use native.Mathlib.Numerals.{add-one}
-use lib.Dec.{eqb}
-use lib.IntN.{ℤ, pos}
-use lib.ListN.{length, get_or}
-use lib.Seq.{ext_get_or}
-use borrow.Author.Tests.{eqb-true, ne_eqb}
 use Rattle.refusals.specs.Limits.{widest_level, max_slots, max_polygons}
 use Rattle.cell.specs.Boxes.{Quad, sw, se, nw, ne, num, quad_at, quadrant}
 use Rattle.cell.specs.declared.Cell as Held
@@ -173,7 +162,7 @@ module _ (t : List ℤ) (n i : ℕ) (inside : i < n) where
 
 -- ---- well-formedness
 
-pub leaf_kids : (t : List ℤ) (n i : ℕ) → i < n → leaf_at t i ≡ true → (at (table t n) i).kids ≡ none
+pub leaf_kids : (t : List ℤ) (n i : ℕ) → i < n → leaf_at t i ≡ true → (at (table t n) i).kids ≡ None
 unfolding leaf_at
 leaf_kids t n i h e = ap (λ (c : Cell). c.kids) (at_table t n i h) ∙ opt_none (cell_at t i).first (eqb-true (cell_at t i).first no_cell e)
 

@@ -1,17 +1,10 @@
 -- Laws of loads and stores of cells: what was put is found again, the other slots are as they were, the length stays. Assumes nothing.
-use Prim.Native.Nat.{ℕ, zero, suc, ◌+◌, ◌*◌, ◌-◌, min, ◌<◌, ◌≤◌}
-use mathlib.Core.Path.{◌≡◌, refl, sym, ap, ◌∙◌}
-use mathlib.Core.Bool.{Bool, true, false, ◌&&◌, false≢true}
-use mathlib.Core.List.{List, [], ◌∷◌}
-use mathlib.Core.Logic.{◌⊎◌, inl, inr, ⊎_elim, ◌≢◌, by_cases}
-use native.Mathlib.Omega.{arith}
+use Rattle.std.proofs.Common.{ℕ, zero, suc, ◌+◌, ◌*◌, ◌-◌, min, ◌<◌, ◌≤◌, ◌≡◌, refl, sym, ap, ◌∙◌, Bool, true, false, ◌&&◌, List, [], ◌∷◌, ◌⊎◌, inl, inr, ⊎_elim, ◌≢◌, arith, add-zero, ℤ, pos, negsuc, length, get_or, set, length-set, get_or-set_same, get_or-set_other, le-leb, lt-ltb, le-ltb}
+use mathlib.Core.Bool.{false≢true}
+use mathlib.Core.Logic.{by_cases}
 use native.Mathlib.Decide.{dec_lt}
-use native.Mathlib.Nat.{add-zero}
-use lib.IntN.{ℤ, pos, negsuc, sub_ℕ}
+use lib.IntN.{sub_ℕ}
 use lib.Signed.{non_neg}
-use lib.ListN.{length, get_or, set, length-set}
-use lib.Seq.{get_or-set_same, get_or-set_other}
-use borrow.Author.Tests.{le-leb, lt-ltb, le-ltb}
 use Rattle.refusals.specs.Limits.{coordinate}
 use Rattle.cell.specs.declared.Cell.{Cell}
 use Rattle.cell.specs.Ticks.{off, on, in_range}

@@ -1,18 +1,11 @@
 -- The walk over the cells says yes exactly where every cell passes its test. A root is tested by itself. A child is what
 -- its parent's numbers say, so its test follows from the parent's; and where a cell's first child names it, its four
 -- stand there, since a four is only passed where its parent names it. Assumes nothing.
-use Prim.Native.Nat.{ℕ, zero, suc, ◌+◌, ◌-◌, ◌^◌, ◌<◌, ◌≤◌}
-use mathlib.Core.Path.{◌≡◌, refl, sym, ap, subst, ◌∙◌}
-use mathlib.Core.Bool.{Bool, true, false, ◌&&◌, ◌||◌}
-use mathlib.Core.List.{List}
-use mathlib.Core.Logic.{◌⊎◌, inl, inr, ⊎_elim, ◌≢◌, by_cases}
-use native.Mathlib.Omega.{arith}
+use Rattle.std.proofs.Common.{ℕ, zero, suc, ◌+◌, ◌-◌, ◌^◌, ◌<◌, ◌≤◌, ◌≡◌, refl, sym, ap, subst, ◌∙◌, Bool, true, false, ◌&&◌, ◌||◌, List, ◌⊎◌, inl, inr, ⊎_elim, ◌≢◌, arith, add-zero, ltb, leb, eqb, ℤ, pos, negsuc, ltb-true, leb-true, eqb-true, lt-ltb, le-leb, eq-eqb, ne_eqb}
+use mathlib.Core.Logic.{by_cases}
 use native.Mathlib.Decide.{dec_lt}
-use native.Mathlib.Nat.{add-zero}
-use lib.Dec.{ltb, leb, eqb}
-use lib.IntN.{ℤ, pos, negsuc}
 use lib.Signed.{non_neg}
-use borrow.Author.Tests.{ltb-true, leb-true, eqb-true, eqb-false, lt-ltb, le-leb, eq-eqb, ne_eqb}
+use borrow.Author.Tests.{eqb-false}
 use Rattle.refusals.specs.Limits.{coordinate, max_slots, max_polygons}
 use Rattle.cell.specs.Boxes.{Quad, sw, se, nw, ne, num, quad_at}
 use Rattle.cell.specs.declared.Cell as Held

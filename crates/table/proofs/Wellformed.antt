@@ -1,17 +1,7 @@
 -- The test of well-formedness says yes exactly if the rules' definition holds. Assumes nothing.
-use Prim.Native.Nat.{ℕ, zero, suc, ◌+◌, ◌*◌, ◌-◌, ◌/◌, ◌%◌, ◌^◌, ◌<◌, ◌≤◌}
-use mathlib.Core.Path.{◌≡◌, refl, sym, ap, subst, ◌∙◌}
-use mathlib.Core.Bool.{Bool, true, false, ◌&&◌, cond}
-use mathlib.Core.Option.{none, some}
-use mathlib.Core.List.{List}
-use mathlib.Core.Logic.{◌≢◌}
-use native.Mathlib.Omega.{arith}
-use native.Mathlib.Numerals.{add-one}
-use native.Mathlib.Nat.{div-add-mod', mul-mod_left, one-le-pow, suc-mul, zero-mul}
-use lib.Dec.{ltb, leb, eqb}
-use lib.IntN.{ℤ, pos, negsuc, nat_abs}
-use lib.ListN.{length, get_or}
-use borrow.Author.Tests.{ltb-true, leb-true, eqb-true, eqb-false, lt-ltb, le-leb, eq-eqb, ne_eqb}
+use Rattle.std.proofs.Common.{ℕ, zero, suc, ◌+◌, ◌*◌, ◌-◌, ◌/◌, ◌%◌, ◌^◌, ◌<◌, ◌≤◌, ◌≡◌, refl, sym, ap, subst, ◌∙◌, Bool, true, false, ◌&&◌, cond, None, Some, List, ◌≢◌, arith, add-one, div-add-mod', suc-mul, zero-mul, ltb, leb, eqb, ℤ, pos, negsuc, nat_abs, length, get_or, ltb-true, leb-true, eqb-true, lt-ltb, le-leb, eq-eqb, ne_eqb}
+use native.Mathlib.Nat.{mul-mod_left, one-le-pow}
+use borrow.Author.Tests.{eqb-false}
 use Rattle.refusals.specs.Limits.{max_slots}
 use Rattle.cell.specs.Boxes.{Box, Quad, sw, se, nw, ne, num, quad_at, quadrant}
 use Rattle.cell.specs.declared.Cell as Held
@@ -27,20 +17,20 @@ use Rattle.table.proofs.Meshes.{not_some, some_is, num-below, kids-in, root_in}
 
 -- ---- small laws
 
-pub opt-some : (v : ℕ) → v ≢ no_cell → opt v ≡ some v
+pub opt-some : (v : ℕ) → v ≢ no_cell → opt v ≡ Some v
 opt-some v h = ap (λ (b : Bool). opt_if b v) (ne_eqb v no_cell h)
 
-pub opt_none : (v : ℕ) → v ≡ no_cell → opt v ≡ none
+pub opt_none : (v : ℕ) → v ≡ no_cell → opt v ≡ None
 opt_none v h = ap (λ (b : Bool). opt_if b v) (eq-eqb v no_cell h)
 
-pub some-opt : (v f : ℕ) → opt v ≡ some f → (v ≡ f) × (v ≢ no_cell)
+pub some-opt : (v f : ℕ) → opt v ≡ Some f → (v ≡ f) × (v ≢ no_cell)
 some-opt v f e = by (eqb v no_cell) refl
   where
     by : (b : Bool) → eqb v no_cell ≡ b → (v ≡ f) × (v ≢ no_cell)
     by true d = not_some (opt v) f (opt_none v (eqb-true v no_cell d)) e
     by false d = let n = eqb-false v no_cell d in (some_is (opt v) v f (opt-some v n) e, n)
 
-pub none-opt : (v : ℕ) → opt v ≡ none → v ≡ no_cell
+pub none-opt : (v : ℕ) → opt v ≡ None → v ≡ no_cell
 none-opt v e = by (eqb v no_cell) refl
   where
     by : (b : Bool) → eqb v no_cell ≡ b → v ≡ no_cell

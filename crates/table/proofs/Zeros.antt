@@ -1,10 +1,5 @@
 -- Runs of zeros in a row.
-use Prim.Native.Nat.{ℕ, ◌+◌, ◌-◌, ◌<◌, ◌≤◌}
-use mathlib.Core.Path.{◌≡◌}
-use mathlib.Core.Bool.{true}
-use mathlib.Core.List.{List}
-use native.Mathlib.Omega.{arith}
-use lib.IntN.{ℤ}
+use Rattle.std.proofs.Common.{ℕ, ◌+◌, ◌-◌, ◌<◌, ◌≤◌, ◌≡◌, true, List, arith, ℤ}
 use Rattle.table.specs.Formed.{all_to, zero_at}
 use Rattle.table.proofs.All.{all-at, all_of}
 

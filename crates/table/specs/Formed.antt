@@ -1,7 +1,6 @@
 -- The rules' "Well-formed table", clause by clause; and the test whose answer the code gives, which holds exactly if
 -- the definition does (proofs/Wellformed.antt). How the code comes to that answer is in Walk.antt.
-use Rattle.std.specs.Prelude.{ℕ, zero, suc, ◌+◌, ◌*◌, ◌-◌, ◌/◌, ◌%◌, ◌^◌, ◌<◌, ◌≤◌, ◌≡◌, Bool, true, ◌&&◌, cond, List, ltb, leb, eqb, ℤ, pos, nat_abs, length, get_or}
-use Rattle.std.proofs.Math.Option.{none, some}
+use Rattle.std.specs.Prelude.{ℕ, zero, suc, ◌+◌, ◌*◌, ◌-◌, ◌/◌, ◌%◌, ◌^◌, ◌<◌, ◌≤◌, ◌≡◌, Bool, true, ◌&&◌, cond, List, ltb, leb, eqb, ℤ, pos, nat_abs, length, get_or, None, Some}
 use Rattle.refusals.specs.Limits.{widest_level, max_slots, max_polygons}
 use Rattle.cell.specs.Boxes.{Quad, num, quadrant, quad_at}
 use Rattle.cell.specs.declared.Cell as Held
@@ -15,7 +14,7 @@ use Rattle.table.specs.Mesh.{Cell, at, table}
 pub record Kid (t : List Cell) (i : ℕ) (q : Quad) (j : ℕ) : Type 0 where
   pub box : (at t j).box ≡ quadrant (at t i).box q
   pub level : (at t j).level ≡ suc (at t i).level
-  pub parent : (at t j).parent ≡ some i
+  pub parent : (at t j).parent ≡ Some i
   pub polygon : (at t j).polygon ≡ (at t i).polygon
 
 -- "a split cell has four children with consecutive ids, all above its own and below the count"; its level is then below max_level
@@ -29,7 +28,7 @@ pub record Split (M : ℕ) (t : List Cell) (i f : ℕ) : Type 0 where
 pub record Born (t : List Cell) (i j : ℕ) : Type 0 where
   pub first : ℕ
   pub place : Quad
-  pub split : (at t j).kids ≡ some first
+  pub split : (at t j).kids ≡ Some first
   pub here : i ≡ first + num place
 
 -- "a root has level 0" and "sides that are positive multiples of 2^(max_level+1)"
@@ -40,9 +39,9 @@ pub record Root (M : ℕ) (c : Cell) : Type 0 where
 
 -- the clauses on the cells, whatever row holds them
 pub record Formed (M : ℕ) (t : List Cell) : Type 0 where
-  pub split : (i f : ℕ) → (at t i).kids ≡ some f → Split M t i f
-  pub born : (i j : ℕ) → i < length t → (at t i).parent ≡ some j → Born t i j
-  pub root : (i : ℕ) → (at t i).parent ≡ none → Root M (at t i)
+  pub split : (i f : ℕ) → (at t i).kids ≡ Some f → Split M t i f
+  pub born : (i j : ℕ) → i < length t → (at t i).parent ≡ Some j → Born t i j
+  pub root : (i : ℕ) → (at t i).parent ≡ None → Root M (at t i)
 
 pub record WellFormed (t : List ℤ) (n M : ℕ) : Type 0 where
   -- "max_level in range"

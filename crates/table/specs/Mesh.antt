@@ -1,6 +1,5 @@
 -- The cells that a table holds, as the rules speak of them: no parent and no child are `none`, and there is no limit on room.
-use Rattle.std.specs.Prelude.{ℕ, zero, suc, Bool, true, false, List, [], ◌∷◌, ◌++◌, eqb, ℤ, length, get_or, set}
-use Rattle.std.proofs.Math.Option.{Option, none, some}
+use Rattle.std.specs.Prelude.{ℕ, zero, suc, Bool, true, false, List, [], ◌∷◌, ◌++◌, eqb, ℤ, length, get_or, set, Option, None, Some}
 use Rattle.cell.specs.Boxes.{Box, Quad, sw, se, nw, ne, quadrant}
 use Rattle.cell.specs.declared.Cell as Held
 use Rattle.cell.specs.Cells.{no_cell, box_of}
@@ -16,17 +15,17 @@ pub record Cell : Type 0 where
 
 -- what stands past the table's end: no root, and no split cell
 abbrev pub past : Cell
-past = record { box = record { x0 = 0; y0 = 0; x1 = 0; y1 = 0 }; level = 0; parent = some 0; kids = none; polygon = 0 }
+past = record { box = record { x0 = 0; y0 = 0; x1 = 0; y1 = 0 }; level = 0; parent = Some 0; kids = None; polygon = 0 }
 
 abbrev pub at : List Cell → ℕ → Cell
 at t i = get_or t i past
 
 -- the child in a quadrant of the cell c, whose id is i
 abbrev pub child : ℕ → Cell → Quad → Cell
-child i c q = record { box = quadrant c.box q; level = suc c.level; parent = some i; kids = none; polygon = c.polygon }
+child i c q = record { box = quadrant c.box q; level = suc c.level; parent = Some i; kids = None; polygon = c.polygon }
 
 abbrev pub with_kids : Cell → ℕ → Cell
-with_kids c f = record { box = c.box; level = c.level; parent = c.parent; kids = some f; polygon = c.polygon }
+with_kids c f = record { box = c.box; level = c.level; parent = c.parent; kids = Some f; polygon = c.polygon }
 
 -- the four children, in the order of their ids
 abbrev pub brood : ℕ → Cell → List Cell
@@ -37,16 +36,16 @@ unfoldable pub split : List Cell → ℕ → List Cell
 split t i = set t i (with_kids (at t i) (length t)) ++ brood i (at t i)
 
 abbrev pub is_none : Option ℕ → Bool
-is_none none = true
-is_none (some f) = false
+is_none None = true
+is_none (Some f) = false
 
 abbrev pub is_leaf : List Cell → ℕ → Bool
 is_leaf t i = is_none (at t i).kids
 
 -- the row's NO_CELL is `none`
 abbrev pub opt_if : Bool → ℕ → Option ℕ
-opt_if true v = none
-opt_if false v = some v
+opt_if true v = None
+opt_if false v = Some v
 
 abbrev pub opt : ℕ → Option ℕ
 opt v = opt_if (eqb v no_cell) v

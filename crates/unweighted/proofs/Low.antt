@@ -1,13 +1,6 @@
 -- The numbers of the net before the weights: each corner and each end is a node, there are few of them, and the nodes stay in range.
 -- Assumes nothing.
-use mathlib.Core.Path.{◌≡◌, refl, sym, ap, subst, ◌∙◌}
-use mathlib.Core.List.{List, [], ◌∷◌, map}
-use Prim.Native.Nat.{ℕ, suc, ◌+◌, ◌*◌, ◌<◌, ◌≤◌}
-use native.Mathlib.Omega.{arith}
-use native.Mathlib.Nat.{zero-add}
-use lib.ListN.{length, get_or}
-use lib.IntN.{ℤ}
-use lib.Ieee.{Float}
+use Rattle.std.proofs.Common.{◌≡◌, refl, sym, ap, subst, ◌∙◌, List, [], ◌∷◌, map, ℕ, suc, ◌+◌, ◌*◌, ◌<◌, ◌≤◌, arith, zero-add, length, get_or, ℤ, Float}
 use Rattle.cell.specs.Boxes.{Box}
 use Rattle.rows.specs.Parts.{put, tab}
 use Rattle.rows.specs.Contract.{Small}

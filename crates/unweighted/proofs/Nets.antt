@@ -1,11 +1,7 @@
 -- The rows written hold the net before the weights. Assumes nothing.
-use mathlib.Core.Path.{◌≡◌, refl, sym, ap, subst, ◌∙◌}
-use mathlib.Core.List.{List, [], ◌∷◌, map}
-use Prim.Native.Nat.{ℕ, ◌+◌, ◌*◌}
-use native.Mathlib.Omega.{arith}
-use lib.ListN.{length, get_or, take, length-map}
-use lib.IntN.{ℤ}
-use lib.Ieee.{Float, nan}
+use Rattle.std.proofs.Common.{◌≡◌, refl, sym, ap, subst, ◌∙◌, List, [], ◌∷◌, map, ℕ, ◌+◌, ◌*◌, arith, length, get_or, take, ℤ, Float}
+use lib.ListN.{length-map}
+use lib.Ieee.{nan}
 use Rattle.rows.specs.Parts.{part, put, tab}
 use Rattle.net.specs.Net.{each, Edge, Piece, nodes_from, edges_from, patches_from}
 use Rattle.net.specs.First.{first_of, rank, news, number_by}

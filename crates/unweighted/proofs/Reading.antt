@@ -1,11 +1,6 @@
 -- The rows written, entry by entry: what the weights read. Assumes nothing.
-use mathlib.Core.Path.{◌≡◌, refl, ap, ◌∙◌}
-use mathlib.Core.List.{List, [], ◌∷◌, map}
-use Prim.Native.Nat.{ℕ, zero, suc, ◌+◌, ◌*◌, ◌<◌, ◌≤◌}
-use native.Mathlib.Omega.{arith}
-use lib.ListN.{length, get_or, length-map}
-use lib.IntN.{ℤ}
-use lib.Ieee.{Float}
+use Rattle.std.proofs.Common.{◌≡◌, refl, ap, ◌∙◌, List, [], ◌∷◌, map, ℕ, zero, suc, ◌+◌, ◌*◌, ◌<◌, ◌≤◌, arith, length, get_or, ℤ, Float}
+use lib.ListN.{length-map}
 use Rattle.rows.specs.Parts.{put}
 use Rattle.net.specs.Net.{each, Edge, Patch, Piece, nth, nowhere, nodes_from, edges_from, patches_from}
 use Rattle.net.proofs.Board.{each-length, each_at}

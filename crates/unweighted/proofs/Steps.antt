@@ -1,12 +1,5 @@
 -- From step to step: what the rows hold, and what the next step requires of them. Assumes nothing.
-use mathlib.Core.Path.{◌≡◌, sym, ap, subst, ◌∙◌}
-use mathlib.Core.List.{List}
-use Prim.Native.Nat.{ℕ, ◌+◌, ◌*◌, ◌<◌, ◌≤◌}
-use native.Mathlib.Omega.{arith}
-use lib.ListN.{length, take}
-use lib.IntN.{ℤ}
-use lib.Ieee.{Float}
-use lib.Seq.{length-take-le, get_or-take, ext_get_or}
+use Rattle.std.proofs.Common.{◌≡◌, sym, ap, subst, ◌∙◌, List, ℕ, ◌+◌, ◌*◌, ◌<◌, ◌≤◌, arith, length, take, ℤ, Float, length-take-le, get_or-take, ext_get_or}
 use Rattle.refusals.specs.Limits.{max_polygons}
 use Rattle.rows.specs.Parts.{part, tab}
 use Rattle.rows.specs.Contract.{Small}

@@ -1,13 +1,6 @@
 -- The work room once the pairs are sorted in front of the extents. Assumes nothing.
-use mathlib.Core.Path.{◌≡◌, ap, ◌∙◌}
-use mathlib.Core.List.{List}
-use Prim.Native.Nat.{ℕ, ◌+◌, ◌*◌, ◌-◌, ◌≤◌}
-use native.Mathlib.Omega.{arith}
+use Rattle.std.proofs.Common.{◌≡◌, ap, ◌∙◌, List, ℕ, ◌+◌, ◌*◌, ◌-◌, ◌≤◌, arith, length, get_or, take, drop, length-drop, length-take-le, ℤ, Float}
 use borrow.Rule.Slice.PartMut.{put_mid}
-use lib.ListN.{length, get_or, take, drop, length-drop}
-use lib.Seq.{length-take-le}
-use lib.IntN.{ℤ}
-use lib.Ieee.{Float}
 use Rattle.rows.specs.Parts.{part, put, tab}
 use Rattle.rows.proofs.Parts.{length-put, put-above, part-put-in, lent_back}
 use Rattle.net.specs.First.{first_of}

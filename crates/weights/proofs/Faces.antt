@@ -1,12 +1,5 @@
 -- Faces, distances and the formula of a weight. Assumes nothing.
-use mathlib.Core.Path.{◌≡◌, refl, sym, ap, ap₂, ◌∙◌}
-use mathlib.Core.Bool.{Bool, true, false}
-use mathlib.Core.List.{List}
-use Prim.Native.Nat.{ℕ, zero, suc, ◌+◌, ◌^◌, ◌<◌, min}
-use native.Mathlib.Omega.{arith}
-use native.Mathlib.Nat.{le_of_lt, mul-one, zero-lt-suc}
-use lib.Dec.{T, eqb}
-use lib.IntN.{ℤ}
+use Rattle.std.proofs.Common.{◌≡◌, refl, sym, ap, ap₂, ◌∙◌, Bool, true, false, List, ℕ, zero, suc, ◌+◌, ◌^◌, ◌<◌, min, arith, le_of_lt, mul-one, zero-lt-suc, T, eqb, ℤ}
 use lib.Ieee.{binary64, of_int, of_bits, mul, round}
 use lib.Ieee.Back.{round_whole}
 use lib.Ieee.Exact.{HasValue}

@@ -1,13 +1,6 @@
 -- Pairs of nodes: the ends, the keys, and the sort of them. Assumes nothing.
-use mathlib.Core.Path.{◌≡◌, refl, sym, ap, subst, ◌∙◌}
-use mathlib.Core.Logic.{⊎_elim}
-use mathlib.Core.List.{List, ◌++◌}
-use Prim.Native.Nat.{ℕ, ◌+◌, ◌*◌, ◌-◌, ◌/◌, ◌%◌, ◌^◌, ◌<◌, ◌≤◌, min, max}
-use native.Mathlib.Omega.{arith}
+use Rattle.std.proofs.Common.{◌≡◌, refl, sym, ap, subst, ◌∙◌, ⊎_elim, List, ◌++◌, ℕ, ◌+◌, ◌*◌, ◌-◌, ◌/◌, ◌%◌, ◌^◌, ◌<◌, ◌≤◌, min, max, arith, length, get_or, take, drop, length-drop, length-take-le, take-take, lt-ltb, le-ltb}
 use borrow.Rule.Slice.PartMut.{put_mid}
-use lib.ListN.{length, get_or, take, drop, length-drop}
-use lib.Seq.{length-take-le, take-take}
-use borrow.Author.Tests.{lt-ltb, le-ltb}
 use Rattle.rows.specs.Order as Rows
 use Rattle.rows.specs.Parts.{part, put, tab}
 use Rattle.rows.specs.Contract.{Small}

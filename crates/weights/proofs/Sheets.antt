@@ -1,10 +1,5 @@
 -- The first of an edge's pair tells the first cell with that pair, and so its sheet resistance. Assumes nothing.
-use mathlib.Core.Path.{◌≡◌, refl, sym, ap, ap₂, subst, ◌∙◌}
-use mathlib.Core.Option.{none, some}
-use mathlib.Core.List.{List, ◌++◌}
-use Prim.Native.Nat.{ℕ, zero, suc, ◌+◌, ◌*◌, ◌-◌, ◌/◌, ◌%◌, ◌<◌, ◌≤◌, min, max}
-use native.Mathlib.Omega.{arith}
-use lib.ListN.{length, get_or}
+use Rattle.std.proofs.Common.{◌≡◌, refl, sym, ap, ap₂, subst, ◌∙◌, None, Some, List, ◌++◌, ℕ, zero, suc, ◌+◌, ◌*◌, ◌-◌, ◌/◌, ◌%◌, ◌<◌, ◌≤◌, min, max, arith, length, get_or}
 use Rattle.rows.specs.Parts.{tab}
 use Rattle.rows.proofs.Fill.{length-tab, tab-at, tab-append}
 use Rattle.net.specs.Net.{each, Edge, Patch, sheet_of}
@@ -105,11 +100,11 @@ module _ (cs : List Patch) (es : List Edge) (corners ends : List ℕ) (l k : ℕ
   unfolding pair_keys
   first-is = ap₂ (λ (z : List ℕ) (i : ℕ). first_of z i) (tab-append (pair_key corners ends l) (4 * l) k) (ap (λ (z : ℕ). z + j) (sym (length-tab (pair_key corners ends l) (4 * l))))
 
-  pub sheet-found : first_of (pair_keys corners ends l k) (4 * l + j) < 4 * l → sheet_of cs e.a e.b ≡ some (get_or cs (first_of (pair_keys corners ends l k) (4 * l + j) / 4) d).sheet
+  pub sheet-found : first_of (pair_keys corners ends l k) (4 * l + j) < 4 * l → sheet_of cs e.a e.b ≡ Some (get_or cs (first_of (pair_keys corners ends l k) (4 * l + j) / 4) d).sheet
   sheet-found q =
       let n = R.cells in
       let f = first-is in
-      sheet-first many cs d e sk ek j sides-long a-low b-low low sides own (omega arith) ∙ ap (λ (z : ℕ). some (get_or cs (z / 4) d).sheet) (sym f)
+      sheet-first many cs d e sk ek j sides-long a-low b-low low sides own (omega arith) ∙ ap (λ (z : ℕ). Some (get_or cs (z / 4) d).sheet) (sym f)
 
-  pub sheet-missing : 4 * l ≤ first_of (pair_keys corners ends l k) (4 * l + j) → sheet_of cs e.a e.b ≡ none
+  pub sheet-missing : 4 * l ≤ first_of (pair_keys corners ends l k) (4 * l + j) → sheet_of cs e.a e.b ≡ None
   sheet-missing q = let n = R.cells in let f = first-is in sheet-none many cs d e sk ek j sides-long a-low b-low low sides own (omega arith)

@@ -1,13 +1,6 @@
 -- An edge's weight, by the rows. Assumes nothing.
-use mathlib.Core.Path.{◌≡◌, refl, sym, ap, ap₂, ◌∙◌}
-use mathlib.Core.Option.{Option, none, some}
-use mathlib.Core.List.{List}
-use Prim.Native.Nat.{ℕ, zero, suc, ◌+◌, ◌*◌, ◌/◌, ◌^◌, ◌<◌, ◌≤◌}
-use native.Mathlib.Omega.{arith}
-use native.Mathlib.Nat.{add-zero}
-use lib.ListN.{get_or}
-use lib.IntN.{ℤ}
-use lib.Ieee.{Float, nan}
+use Rattle.std.proofs.Common.{◌≡◌, refl, sym, ap, ap₂, ◌∙◌, Option, None, Some, List, ℕ, zero, suc, ◌+◌, ◌*◌, ◌/◌, ◌^◌, ◌<◌, ◌≤◌, arith, add-zero, get_or, ℤ, Float}
+use lib.Ieee.{nan}
 use Rattle.rows.specs.Parts.{tab}
 use Rattle.rows.proofs.Parts.{part_at}
 use Rattle.rows.proofs.Fill.{length-tab, tab-at}
@@ -104,21 +97,21 @@ module _ (nodes : List ℤ) (n : ℕ) (corners : List ℕ) (sheets : List Float)
   pub edge_stays : 4 * l ≤ get_or work (2 * (4 * l + k) + 4 * l + j) 0 → g ≡ (weighed (nodes_in nodes n) cs (edge_of ends j g)).g
   edge_stays q =
       let f = first-at in
-      weighed-is none
+      weighed-is None
       (ap (λ (e : Edge). sheet_of cs e.a e.b) (sym (edge-at j (edge_of ends j g) h))
       ∙ sheet-missing cs edges corners ends l k (rows-paired R.net) rowed (patch_in corners sheets 0) j h (edge_of ends j g) (omega arith))
 
   pub edge-weighed : get_or work (2 * (4 * l + k) + 4 * l + j) 0 < 4 * l → {f d : ℕ} → f ≡ face_in nodes work l (edge_of ends j g).a (edge_of ends j g).b → d ≡ distance_in nodes (edge_of ends j g).a (edge_of ends j g).b
-      → weight g f d (some (get_or sheets (get_or work (2 * (4 * l + k) + 4 * l + j) 0 / 4) nan)) ≡ (weighed (nodes_in nodes n) cs (edge_of ends j g)).g
+      → weight g f d (Some (get_or sheets (get_or work (2 * (4 * l + k) + 4 * l + j) 0 / 4) nan)) ≡ (weighed (nodes_in nodes n) cs (edge_of ends j g)).g
   unfolding patch_in
   edge-weighed q {f} {d} p r =
       let i = first-at in
-      ap₂ (λ (x y : ℕ). weight g x y (some (get_or sheets (get_or work (2 * (4 * l + k) + 4 * l + j) 0 / 4) nan))) (p ∙ face-is nodes work n l cs R.extended (edge_of ends j g) from_low to_low) (r ∙ distance_is nodes work n l cs R.extended (edge_of ends j g) from_low to_low)
-      ∙ weighed-is (some (get_or sheets (get_or work (2 * (4 * l + k) + 4 * l + j) 0 / 4) nan))
+      ap₂ (λ (x y : ℕ). weight g x y (Some (get_or sheets (get_or work (2 * (4 * l + k) + 4 * l + j) 0 / 4) nan))) (p ∙ face-is nodes work n l cs R.extended (edge_of ends j g) from_low to_low) (r ∙ distance_is nodes work n l cs R.extended (edge_of ends j g) from_low to_low)
+      ∙ weighed-is (Some (get_or sheets (get_or work (2 * (4 * l + k) + 4 * l + j) 0 / 4) nan))
       (ap (λ (e : Edge). sheet_of cs e.a e.b) (sym (edge-at j (edge_of ends j g) h))
       ∙ (sheet-found cs edges corners ends l k (rows-paired R.net) rowed (patch_in corners sheets 0) j h (edge_of ends j g) (omega arith)
-      ∙ (ap (λ (c : Patch). some c.sheet) (patch-at corners sheets l (first_of (pair_keys corners ends l k) (4 * l + j) / 4) (patch_in corners sheets 0) (omega arith))
-      ∙ ap (λ (z : ℕ). some (get_or sheets (z / 4) nan)) (sym i))))
+      ∙ (ap (λ (c : Patch). Some c.sheet) (patch-at corners sheets l (first_of (pair_keys corners ends l k) (4 * l + j) / 4) (patch_in corners sheets 0) (omega arith))
+      ∙ ap (λ (z : ℕ). Some (get_or sheets (z / 4) nan)) (sym i))))
 
   -- what the loop writes, where g is the entry that stood there
   pub edge-turn : (gs : List Float) → g ≡ get_or gs j nan → {r : Float} → r ≡ (weighed (nodes_in nodes n) cs (edge_of ends j g)).g → r ≡ weight_in nodes n corners sheets l ends gs j

@@ -1,6 +1,6 @@
 // The weight of each edge that is a side of a cell: its face over the sheet resistance times its length.
 ghost use Rattle.std.specs.Prelude.{◌≡◌, ◌+◌, ◌*◌, ◌^◌, ◌<◌, ◌≤◌, min, length, get_or};
-ghost use Rattle.std.proofs.Math.Option.{some};
+ghost use Rattle.std.specs.Prelude.{Some};
 ghost use Rattle.rows.specs.Parts.{put, tab};
 ghost use Rattle.net.specs.Net.{apart, weight, weighed};
 ghost use Rattle.node_rows.specs.Rows.{nodes_in, patches_in};
@@ -48,7 +48,7 @@ fn distance_of(nodes: &[i64], a: usize, b: usize) -> u64
 #[tactic(auto, using(crate::proofs::Faces::half_is), unfolding(net::specs::Net::weight))]
 fn weight_of(g: f64, face: u64, distance: u64, sheet: f64) -> f64
     requires { (face < 2 ^ 53) × (distance < 2 ^ 53) }
-    ensures { result ≡ weight g face distance (some sheet) }
+    ensures { result ≡ weight g face distance (Some sheet) }
 {
     if face == 0 {
         g

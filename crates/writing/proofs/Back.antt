@@ -1,21 +1,13 @@
 -- For every board in range: its rows are its board again, so what `write` puts is the record of the board, which reads as the board. Assumes nothing.
-use Prim.Native.Nat.{ℕ, ◌+◌, ◌*◌, ◌-◌, ◌^◌, ◌≤◌}
-use mathlib.Core.Path.{◌≡◌, refl, sym, ap, subst, ◌∙◌}
-use mathlib.Core.Bool.{true, not}
-use mathlib.Core.List.{List, [], ◌∷◌, map, map-append}
-use native.Mathlib.Omega.{arith}
-use lib.Dec.{T}
-use lib.Ieee.{binary64, of_bits, is_nan}
+use Rattle.std.proofs.Common.{ℕ, ◌+◌, ◌*◌, ◌-◌, ◌^◌, ◌≤◌, ◌≡◌, refl, sym, ap, subst, ◌∙◌, true, not, List, [], ◌∷◌, map, arith, T, is_nan, length, take, drop, take_at, drop_at, eq-eqb, le-leb, mul-suc, length-append}
+use mathlib.Core.List.{map-append}
+use lib.Ieee.{binary64, of_bits}
 use lib.Ieee.Bits.{to_bits-of_bits, nan_bits_is}
-use lib.ListN.{length, take, drop, length-map}
-use lib.Seq.{take_at, drop_at}
-use borrow.Author.Tests.{eq-eqb, le-leb}
-use native.Mathlib.Nat.{mul-suc}
+use lib.ListN.{length-map}
 use lib.Seq.{sets, sets-eq}
 use Rattle.board.proofs.RoundTrip.{round_trip}
 use Rattle.writing.proofs.Stores.{eq_self}
 use Rattle.writing.proofs.Records.{record-long}
-use lib.ListN.{length-append}
 use Rattle.refusals.specs.Said.{accepted}
 use Rattle.refusals.specs.Limits.{max_layers, max_polygons, max_points}
 use Rattle.record.specs.Fields.{value}

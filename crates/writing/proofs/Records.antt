@@ -1,12 +1,6 @@
 -- The record of the rows' board, in the two parts in which it is put. Assumes nothing.
-use Prim.Native.Nat.{ℕ, suc, ◌+◌, ◌-◌}
-use mathlib.Core.Path.{◌≡◌, refl, sym, ap, ◌∙◌}
-use mathlib.Core.Bool.{true}
-use mathlib.Core.List.{List, [], ◌∷◌, ◌++◌, append_assoc}
-use native.Mathlib.Omega.{arith}
-use lib.IntN.{ℤ}
-use lib.Ieee.{Float}
-use lib.ListN.{length, drop, length-append, length-map}
+use Rattle.std.proofs.Common.{ℕ, suc, ◌+◌, ◌-◌, ◌≡◌, refl, sym, ap, ◌∙◌, true, List, [], ◌∷◌, ◌++◌, append_assoc, arith, ℤ, Float, length, drop, length-append}
+use lib.ListN.{length-map}
 use Rattle.record.specs.declared.Settings.{Settings}
 use Rattle.board.specs.Rows.{Rows}
 use Rattle.board.specs.Writing.{bytes, each, entry_bytes, polygon_bytes, settings_bytes, lists_bytes, body, record_of}

@@ -1,16 +1,7 @@
 -- Laws of bytes stored in a row. Assumes nothing.
-use Prim.Native.Nat.{ℕ, zero, suc, ◌+◌, ◌*◌, ◌-◌, ◌/◌, ◌%◌, ◌≤◌, ◌<◌}
-use mathlib.Core.Path.{◌≡◌, refl, sym, ap, ◌∙◌}
-use mathlib.Core.List.{List, [], ◌∷◌, ◌++◌, map}
-use native.Mathlib.Nat.{mul-suc}
-use native.Mathlib.Omega.{arith}
-use native.Mathlib.Numerals.{add-one}
-use lib.ListN.{length, set, drop, get_or, length-drop}
-use mathlib.Core.Bool.{Bool, true, false, not}
-use lib.Ieee.{Float, nan, inf, fin, up, down, eq, is_nan}
-use lib.Dec.{T}
-use borrow.Author.Tests.{eq-eqb}
-use lib.Seq.{sets, set_comm, drop-cons}
+use Rattle.std.proofs.Common.{ℕ, zero, suc, ◌+◌, ◌*◌, ◌-◌, ◌/◌, ◌%◌, ◌≤◌, ◌<◌, ◌≡◌, refl, sym, ap, ◌∙◌, List, [], ◌∷◌, ◌++◌, map, mul-suc, arith, add-one, length, set, drop, get_or, length-drop, Bool, true, false, not, Float, is_nan, T, eq-eqb, drop-cons}
+use lib.Ieee.{nan, inf, fin, up, down, eq}
+use lib.Seq.{sets, set_comm}
 use Rattle.board.proofs.Shapes.{sets-append}
 use Rattle.board.proofs.RoundTrip.{bytes-length}
 use Rattle.board.specs.Writing.{bytes, each}

@@ -1,19 +1,10 @@
 -- One polygon more: what its stores leave to be put. Assumes nothing.
-use Prim.Native.Nat.{ℕ, suc, ◌+◌, ◌*◌, ◌-◌, ◌≤◌, ◌<◌}
-use mathlib.Core.Path.{◌≡◌, refl, sym, ap, ◌∙◌}
-use mathlib.Core.Bool.{Bool, true, false, ◌&&◌, false≢true}
-use mathlib.Core.List.{List, [], ◌∷◌, ◌++◌, append_assoc}
-use native.Mathlib.Nat.{mul-suc, mul-zero}
-use native.Mathlib.Numerals.{add-one}
-use native.Mathlib.Omega.{arith}
-use lib.Dec.{leb, eqb}
-use lib.IntN.{ℤ}
-use lib.Ieee.{Float, nan}
-use lib.ListN.{length, get_or, take, drop, length-append, length-map, length-drop}
-use lib.Seq.{sets, drop-cons, length-take-le}
-use borrow.Author.Tests.{leb-true, le-leb, lt-leb, eqb-true}
-use mir.Syntax.{w64}
-use mir.Val.{of_z}
+use Rattle.std.proofs.Common.{ℕ, suc, ◌+◌, ◌*◌, ◌-◌, ◌≤◌, ◌<◌, ◌≡◌, refl, sym, ap, ◌∙◌, Bool, true, false, ◌&&◌, List, [], ◌∷◌, ◌++◌, append_assoc, mul-suc, mul-zero, add-one, arith, leb, eqb, ℤ, Float, length, get_or, take, drop, length-append, length-drop, drop-cons, length-take-le, leb-true, le-leb, eqb-true, w64, of_z}
+use mathlib.Core.Bool.{false≢true}
+use lib.Ieee.{nan}
+use lib.ListN.{length-map}
+use lib.Seq.{sets}
+use borrow.Author.Tests.{lt-leb}
 use Rattle.record.specs.Board.{Entry, Polygon, Point}
 use Rattle.board.specs.Writing.{bytes, each, entry_bytes, point_bytes, polygon_bytes}
 use Rattle.board.proofs.RoundTrip.{bytes-length}

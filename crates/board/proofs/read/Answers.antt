@@ -1,9 +1,5 @@
-use Prim.Native.Nat.{ℕ, ◌+◌}
-use mathlib.Core.Path.{◌≡◌, refl, sym, ap, ◌∙◌}
-use mathlib.Core.List.{List, map}
-use native.Mathlib.Omega.{arith}
 use lib.Seq.{sets}
-use Rattle.std.proofs.Common.{rules}
+use Rattle.std.proofs.Common.{ℕ, ◌+◌, ◌≡◌, refl, sym, ap, ◌∙◌, List, map, arith, rules}
 use Rattle.record.specs.declared.Settings.{Settings}
 use Rattle.record.specs.declared.Counts.{Counts}
 use Rattle.record.specs.Fields.{value}

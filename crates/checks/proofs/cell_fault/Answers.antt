@@ -1,4 +1,4 @@
-use borrow.Author.Tests.{eq-eqb}
+use Rattle.std.proofs.Common.{eq-eqb}
 use Rattle.table.specs.Slots.{cell_at}
 use Rattle.table.specs.Leaves.{leaf_at}
 use Rattle.sound_net.specs.Nets.{node_count}

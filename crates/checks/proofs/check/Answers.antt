@@ -1,5 +1,5 @@
 -- What the rows' tests say, for the calls after them.
-use mathlib.Core.Path.{sym, ◌∙◌}
+use Rattle.std.proofs.Common.{sym, ◌∙◌}
 use Rattle.table.proofs.Shape.{formed-within}
 use Rattle.sound_net.specs.Nets.{net_of}
 use Rattle.checks.proofs.Checking.{roomy-facts, ranged, placed}

@@ -1,6 +1,4 @@
-use native.Mathlib.Omega.{arith}
-use mir.Facts.{to_z-of_z}
-use Rattle.std.proofs.Common.{rules, w64, FitsSigned}
+use Rattle.std.proofs.Common.{arith, to_z-of_z, rules, w64, FitsSigned}
 use Rattle.sound_net.specs.Nets.{layer_at, component_at}
 use Rattle.checks.proofs.Nodes.{counted-below}
 use Rattle.checks.proofs.class_key.Goals as goal

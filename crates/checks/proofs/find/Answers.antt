@@ -1,5 +1,4 @@
-use native.Mathlib.Omega.{arith}
-use Rattle.std.proofs.Common.{◌+◌, ◌-◌, ◌/◌}
+use Rattle.std.proofs.Common.{arith, ◌+◌, ◌-◌, ◌/◌}
 use Rattle.checks.proofs.Halving.{halving_up, halving_down, halving_none, key_at, begins}
 use Rattle.checks.proofs.find.Goals as goal
 

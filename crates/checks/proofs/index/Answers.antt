@@ -1,8 +1,5 @@
 -- The blocks are made one after another.
-use mathlib.Core.Path.{◌≡◌, subst}
-use native.Mathlib.Omega.{arith}
-use native.Mathlib.Nat.{zero-add}
-use Rattle.std.proofs.Common.{ℕ, ◌+◌, ◌*◌}
+use Rattle.std.proofs.Common.{◌≡◌, subst, arith, zero-add, ℕ, ◌+◌, ◌*◌}
 use Rattle.sound_net.specs.Nets.{node_count}
 use Rattle.rows.specs.Parts.{part}
 use Rattle.checks.specs.Keys.{finer}

@@ -1,4 +1,4 @@
-use native.Mathlib.Omega.{arith}
+use Rattle.std.proofs.Common.{arith}
 use Rattle.sound_net.specs.Nets.{node_count}
 use Rattle.checks.specs.Keys.{class_keys}
 use Rattle.checks.proofs.Nodes.{classes-long}

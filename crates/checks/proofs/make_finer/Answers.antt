@@ -1,6 +1,4 @@
-use mathlib.Core.Path.{ap, ◌∙◌}
-use native.Mathlib.Omega.{arith}
-use Rattle.std.proofs.Common.{◌+◌, ◌*◌, ◌≤◌, length}
+use Rattle.std.proofs.Common.{ap, ◌∙◌, arith, ◌+◌, ◌*◌, ◌≤◌, length}
 use Rattle.sound_net.specs.Nets.{node_count}
 use Rattle.rows.specs.Parts.{part, put}
 use Rattle.checks.specs.Keys.{finer}

@@ -1,5 +1,4 @@
-use native.Mathlib.Omega.{arith}
-use Rattle.std.proofs.Common.{ℕ}
+use Rattle.std.proofs.Common.{arith, ℕ}
 use Rattle.rows.proofs.Fill.{fill_begins, front-turn}
 use Rattle.checks.proofs.put_classes.Goals as goal
 

@@ -1,4 +1,4 @@
-use mathlib.Core.Path.{refl}
+use Rattle.std.proofs.Common.{refl}
 use Rattle.checks.proofs.Making.{sorted-made}
 use Rattle.checks.proofs.sort_block.Goals as goal
 

@@ -1,4 +1,4 @@
-use mathlib.Core.Path.{sym, ◌∙◌}
+use Rattle.std.proofs.Common.{sym, ◌∙◌}
 use Rattle.conforming.proofs.Searches.{any-hit}
 use Rattle.conforming.proofs.are_joined.Goals as goal
 

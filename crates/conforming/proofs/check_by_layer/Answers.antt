@@ -1,4 +1,4 @@
-use mathlib.Core.Path.{sym, ◌∙◌}
+use Rattle.std.proofs.Common.{sym, ◌∙◌}
 use Rattle.table.proofs.Shape.{formed-within}
 use Rattle.conforming.proofs.Faults.{fit-facts}
 use Rattle.conforming.proofs.check_by_layer.Goals as goal

@@ -1,4 +1,4 @@
-use mathlib.Core.Path.{sym, ◌∙◌}
+use Rattle.std.proofs.Common.{sym, ◌∙◌}
 use Rattle.table.proofs.Shape.{formed-within}
 use Rattle.conforming.proofs.check_network_conforming.Goals as goal
 

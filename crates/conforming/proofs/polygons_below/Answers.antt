@@ -1,7 +1,4 @@
-use mathlib.Core.Path.{◌∙◌, refl}
-use borrow.Author.Tests.{tests}
-use native.Mathlib.Omega.{arith}
-use Rattle.std.proofs.Common.{rules, ltb, ℕ}
+use Rattle.std.proofs.Common.{◌∙◌, refl, tests, arith, rules, ltb, ℕ}
 use Rattle.std.proofs.lemmas.Iterator.{YieldsList-from_range}
 use Rattle.std.proofs.lemmas.Iterator.Search.{all_from_yields_List}
 use Rattle.table.specs.Slots.{cell_at}

@@ -1,9 +1,6 @@
 -- A cell that does not meet a holds nothing that asks for it, and the four children's subtrees hold all leaves of a
 -- split cell's.
-use Rattle.std.proofs.Common.{ℕ, ◌-◌, ◌+◌, ◌≡◌, ◌<◌}
-use mathlib.Core.Path.{sym, ap, subst, ◌∙◌}
-use mathlib.Core.Option.{some}
-use native.Mathlib.Omega.{arith}
+use Rattle.std.proofs.Common.{ℕ, ◌-◌, ◌+◌, ◌≡◌, ◌<◌, sym, ap, subst, ◌∙◌, Some, arith}
 use Rattle.table.specs.Slots.{cell_at}
 use Rattle.table.specs.Mesh.{table}
 use Rattle.coarsest.specs.Passes.{due}
@@ -49,5 +46,5 @@ returns t c =
     let g = c.first_at-first in
     found-kids _ g.result c.args.k c.args.a _ c.args.c c.loop-j.j
     (split-slot c.args.t.now c.args.n c.args.c c.requires.a_lt_n.1 (λ z. c.if-first-eq-NO_CELL.false (g.ensures ∙ z))
-    ∙ ap some (sym g.ensures))
+    ∙ ap Some (sym g.ensures))
     c.loop-j-test.false c.loop-j.invariant

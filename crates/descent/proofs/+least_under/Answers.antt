@@ -1,9 +1,6 @@
 -- A cell that is not near a holds nothing to be split for it, and the four children's subtrees hold all leaves of a
 -- split cell's.
-use Rattle.std.proofs.Common.{ℕ, ◌-◌, ◌+◌, ◌≡◌, ◌<◌}
-use mathlib.Core.Path.{sym, subst, ap, ◌∙◌}
-use mathlib.Core.Option.{some}
-use native.Mathlib.Omega.{arith}
+use Rattle.std.proofs.Common.{ℕ, ◌-◌, ◌+◌, ◌≡◌, ◌<◌, sym, subst, ap, ◌∙◌, Some, arith}
 use Rattle.table.specs.Slots.{cell_at}
 use Rattle.table.specs.Mesh.{table}
 use Rattle.coarsest.specs.Passes.{due}
@@ -48,5 +45,5 @@ returns t c =
     let g = c.first_at-first in
     least-kids _ g.result _ _ _ _ c.args.c c.loop-j.j _
     (split-slot c.args.t.now c.args.n c.args.c c.requires.a_lt_n.1 (λ z. c.if-first-eq-NO_CELL.false (g.ensures ∙ z))
-    ∙ ap some (sym g.ensures))
+    ∙ ap Some (sym g.ensures))
     c.loop-j-test.false c.loop-j.invariant

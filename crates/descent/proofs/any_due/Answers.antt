@@ -1,6 +1,4 @@
-use Rattle.std.proofs.Common.{ℕ, ◌<◌, false}
-use mathlib.Core.Path.{refl}
-use mathlib.Core.Logic.{⊎_elim}
+use Rattle.std.proofs.Common.{ℕ, ◌<◌, false, refl, ⊎_elim}
 use Rattle.table.specs.Mesh.{table}
 use Rattle.table.proofs.Cells.{length-table}
 use Rattle.coarsest.specs.Passes.{due}

@@ -1,5 +1,4 @@
-use Rattle.std.proofs.Common.{ℕ}
-use mathlib.Core.Path.{sym, ◌∙◌}
+use Rattle.std.proofs.Common.{ℕ, sym, ◌∙◌}
 use Rattle.table.specs.Mesh.{table}
 use Rattle.coarsest.specs.Passes.{due}
 use Rattle.descent.proofs.Found.{found-own}

@@ -1,8 +1,4 @@
-use Rattle.std.proofs.Common.{List, ◌+◌, ◌≤◌, ◌/◌, length}
-use mathlib.Core.Path.{sym, ap, subst, ◌∙◌}
-use native.Mathlib.Omega.{arith}
-use lib.IntN.{ℤ}
-use borrow.Author.Tests.{ne_eqb}
+use Rattle.std.proofs.Common.{List, ◌+◌, ◌≤◌, ◌/◌, length, sym, ap, subst, ◌∙◌, arith, ℤ, ne_eqb}
 use Rattle.cell.specs.Cells.{no_cell}
 use Rattle.table.specs.Slots.{cell_at}
 use Rattle.table.specs.Mesh.{Cell, table}

@@ -1,9 +1,4 @@
-use Rattle.std.proofs.Common.{ℕ, List, Bool, ◌+◌, ◌/◌, ◌≡◌, ◌<◌, ◌≤◌, length, true, false}
-use mathlib.Core.Path.{sym, ap, subst, ◌∙◌}
-use native.Mathlib.Omega.{arith}
-use lib.IntN.{ℤ}
-use Rattle.std.specs.Prelude.{Some}
-use borrow.Author.Tests.{eq-eqb, ne_eqb}
+use Rattle.std.proofs.Common.{ℕ, List, Bool, ◌+◌, ◌/◌, ◌≡◌, ◌<◌, ◌≤◌, length, true, false, sym, ap, subst, ◌∙◌, arith, ℤ, Some, eq-eqb, ne_eqb}
 use Rattle.cell.specs.Cells.{no_cell}
 use Rattle.table.specs.Slots.{cell_at}
 use Rattle.table.specs.Mesh.{Cell, table}

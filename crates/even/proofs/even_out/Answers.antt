@@ -1,5 +1,4 @@
-use native.Mathlib.Omega.{arith}
-use mathlib.Core.Path.{refl}
+use Rattle.std.proofs.Common.{arith, refl}
 use Rattle.table.specs.Mesh.{table}
 use Rattle.even.specs.Parts.{engine_of}
 use Rattle.even.proofs.Watching.{watched-all}

@@ -1,6 +1,4 @@
-use Rattle.std.proofs.Common.{◌+◌, ◌≡◌}
-use mathlib.Core.Path.{sym, ap, ◌∙◌}
-use native.Mathlib.Omega.{arith}
+use Rattle.std.proofs.Common.{◌+◌, ◌≡◌, sym, ap, ◌∙◌, arith}
 use Rattle.table.specs.Mesh.{table}
 use Rattle.table.proofs.Cells.{length-table}
 use Rattle.coarsest.specs.Sweep.{rows}

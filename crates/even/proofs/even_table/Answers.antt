@@ -1,8 +1,5 @@
-use mathlib.Core.Path.{refl, sym, ap, ap₂, ◌∙◌}
-use mathlib.Core.Bool.{true≢false}
-use native.Mathlib.Omega.{arith}
-use Rattle.std.proofs.Common.{◌≡◌, ◌≤◌, ◌/◌, length}
-use borrow.Author.Tests.{lt-leb, le-leb}
+use Rattle.std.proofs.Common.{refl, sym, ap, ap₂, ◌∙◌, true≢false, arith, ◌≡◌, ◌≤◌, ◌/◌, length, le-leb}
+use borrow.Author.Tests.{lt-leb}
 use Rattle.table.specs.Mesh.{table}
 use Rattle.table.proofs.Cells.{length-table}
 use Rattle.table.proofs.Wellformed.{formed-facts, facts-formed}

@@ -1,6 +1,4 @@
-use Rattle.std.proofs.Common.{ℕ, ◌+◌, ◌≡◌, ◌≤◌}
-use native.Mathlib.Omega.{arith}
-use mathlib.Core.Path.{ap, subst}
+use Rattle.std.proofs.Common.{ℕ, ◌+◌, ◌≡◌, ◌≤◌, arith, ap, subst}
 use Rattle.table.specs.Mesh.{Cell, at, table}
 use Rattle.table.proofs.Cells.{length-table, at_table}
 use Rattle.even.specs.Parts.{engine_of}

@@ -1,10 +1,6 @@
-use Rattle.std.proofs.Common.{ℕ, List, ◌≡◌, ◌<◌, ◌≤◌}
-use mathlib.Core.Path.{sym, ap, subst, ◌∙◌}
+use Rattle.std.proofs.Common.{ℕ, List, ◌≡◌, ◌<◌, ◌≤◌, sym, ap, subst, ◌∙◌, Some, arith, ℤ}
 use mathlib.Core.Logic.{by_cases}
-use mathlib.Core.Option.{some}
-use native.Mathlib.Omega.{arith}
 use native.Mathlib.Decide.{dec_lt}
-use lib.IntN.{ℤ}
 use Rattle.table.specs.Slots.{cell_at}
 use Rattle.table.specs.Mesh.{table}
 use Rattle.table.specs.Formed.{WellFormed}
@@ -30,7 +26,7 @@ mark_kids-requires-clause-p_lt_n c =
     let g = group _ _ _ c.args.top _ _ _ c.args.boxes.now c.parent_at-p.ensures c.requires.well_formed
     c.requires.top_le_n.1 c.requires.top_le_stop.0.0.0 c.loop-x.invariant.0 c.loop-x-test.true in
     let size = c.loop-x.auto.marks ∙ c.fill.ensures.len ∙ c.requires.top_le_stop.1 in
-    (((g.inside, c.requires.top_le_stop.0.1), size), g.kids ∙ ap some (sym c.first_at-f.ensures))
+    (((g.inside, c.requires.top_le_stop.0.1), size), g.kids ∙ ap Some (sym c.first_at-f.ensures))
 
 pub overflow_add-x : goal.overflow_add-x
 overflow_add-x c =

@@ -1,7 +1,4 @@
-use Rattle.std.proofs.Common.{rules, ◌≡◌, get_or, pos}
-use native.Mathlib.Omega.{arith}
-use mir.Syntax.{w64}
-use mir.Val.{to_z, of_z}
+use Rattle.std.proofs.Common.{rules, ◌≡◌, get_or, pos, arith, w64, to_z, of_z}
 use Rattle.even.specs.Undo.{undone_at}
 use Rattle.even.proofs.Undoing.{undo-turn, undo-ends}
 use Rattle.even.proofs.undo.Goals as goal

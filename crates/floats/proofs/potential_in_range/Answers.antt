@@ -1,5 +1,5 @@
 -- The code's two ends are the rules' to the bit.
-use mathlib.Core.Path.{refl}
+use Rattle.std.proofs.Common.{refl}
 use lib.Ieee.{round, of_bits, neg}
 use Rattle.floats.specs.Fractions.{in_potential}
 use Rattle.floats.proofs.potential_in_range.Goals as goal

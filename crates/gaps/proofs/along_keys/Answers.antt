@@ -1,7 +1,4 @@
-use mathlib.Core.Path.{◌≡◌, sym, ap₂, ◌∙◌}
-use Prim.Native.Nat.{ℕ, ◌+◌, ◌*◌}
-use native.Mathlib.Omega.{arith}
-use lib.ListN.{get_or}
+use Rattle.std.proofs.Common.{◌≡◌, sym, ap₂, ◌∙◌, ℕ, ◌+◌, ◌*◌, arith, get_or}
 use Rattle.rows.specs.Parts.{part}
 use Rattle.rows.proofs.Parts.{length_part, part_at}
 use Rattle.rows.proofs.Fill.{fill_begins, front-turn, fill-above, fill-ends}

@@ -1,6 +1,4 @@
-use mathlib.Core.Path.{ap₂}
-use Prim.Native.Nat.{ℕ, ◌+◌, ◌*◌}
-use native.Mathlib.Omega.{arith}
+use Rattle.std.proofs.Common.{ap₂, ℕ, ◌+◌, ◌*◌, arith}
 use Rattle.rows.proofs.Fill.{fill_begins, front-turn, fill-ends}
 use Rattle.places.specs.Places.{wide}
 use Rattle.gaps.specs.Gaps.{line_key}

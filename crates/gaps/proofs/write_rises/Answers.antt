@@ -1,4 +1,4 @@
-use native.Mathlib.Omega.{arith}
+use Rattle.std.proofs.Common.{arith}
 use Rattle.gaps.proofs.Rising.{rising-begins, rising-lined, rank_below, rising-turn, rising-ends}
 use Rattle.gaps.proofs.write_rises.Goals.{In-loop-k}
 use Rattle.gaps.proofs.write_rises.Goals as goal

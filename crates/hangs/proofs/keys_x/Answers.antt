@@ -1,6 +1,4 @@
-use mathlib.Core.Path.{ap, ap₂, ◌∙◌}
-use Prim.Native.Nat.{ℕ, ◌+◌, ◌*◌}
-use native.Mathlib.Omega.{arith}
+use Rattle.std.proofs.Common.{ap, ap₂, ◌∙◌, ℕ, ◌+◌, ◌*◌, arith}
 use Rattle.rows.proofs.Fill.{fill_begins, front-turn, fill-ends}
 use Rattle.places.specs.Places.{wide}
 use Rattle.node_rows.specs.Rows.{node_in}

@@ -1,9 +1,4 @@
-use mathlib.Core.Path.{◌≡◌, ap₂, ◌∙◌}
-use mathlib.Core.List.{List}
-use Prim.Native.Nat.{ℕ, ◌+◌, ◌*◌}
-use native.Mathlib.Omega.{arith}
-use lib.ListN.{get_or}
-use lib.IntN.{ℤ}
+use Rattle.std.proofs.Common.{◌≡◌, ap₂, ◌∙◌, List, ℕ, ◌+◌, ◌*◌, arith, get_or, ℤ}
 use Rattle.rows.specs.Order.{first_of}
 use Rattle.rows.specs.Parts.{tab}
 use Rattle.rows.proofs.Fill.{fill_begins, fill-above, front-turn, fill-ends}

@@ -1,8 +1,4 @@
-use mathlib.Core.Path.{◌≡◌, ap, subst, ◌∙◌}
-use mathlib.Core.List.{[]}
-use Prim.Native.Nat.{ℕ, ◌+◌, ◌*◌, max}
-use native.Mathlib.Omega.{arith}
-use lib.ListN.{get_or}
+use Rattle.std.proofs.Common.{◌≡◌, ap, subst, ◌∙◌, [], ℕ, ◌+◌, ◌*◌, max, arith, get_or}
 use Rattle.rows.specs.Order.{last_of}
 use Rattle.hangs.specs.Items.{place_keys, Raised}
 use Rattle.hangs.proofs.Agree.{last-low}

@@ -1,4 +1,4 @@
-use Prim.Native.Nat.{◌+◌, ◌*◌, ◌^◌}
+use Rattle.std.proofs.Common.{◌+◌, ◌*◌, ◌^◌}
 use Rattle.rows.specs.Order.{first_of}
 use Rattle.hangs.specs.Items.{key_x, keys_x}
 use Rattle.hangs.proofs.Items.{key-x-small}

@@ -1,5 +1,4 @@
-use native.Mathlib.Omega.{arith}
-use Prim.Native.Nat.{◌+◌, ◌*◌, ◌^◌}
+use Rattle.std.proofs.Common.{arith, ◌+◌, ◌*◌, ◌^◌}
 use Rattle.rows.specs.Order.{first_of, last_of}
 use Rattle.rows.specs.Parts.{tab}
 use Rattle.hangs.specs.Items.{key_y, keys_x, place_keys}

@@ -1,5 +1,4 @@
-use Prim.Native.Nat.{◌+◌, ◌*◌}
-use lib.ListN.{get_or}
+use Rattle.std.proofs.Common.{◌+◌, ◌*◌, get_or}
 use Rattle.lines.proofs.Joining.{edged}
 use Rattle.lines.proofs.edge_line.Goals as goal
 

@@ -1,8 +1,4 @@
-use Prim.Native.Nat.{ℕ, ◌+◌, ◌*◌}
-use Rattle.std.proofs.Common.{rules}
-use mir.Syntax.{w64}
-use mir.Val.{SFits}
-use mir.Facts.{to_z-of_z}
+use Rattle.std.proofs.Common.{ℕ, ◌+◌, ◌*◌, rules, w64, SFits, to_z-of_z}
 use Rattle.lines.specs.Text.{leaf_word}
 use Rattle.lines.specs.Lines.{item}
 use Rattle.lines.proofs.Joining.{lined}

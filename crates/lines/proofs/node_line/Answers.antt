@@ -1,4 +1,4 @@
-use Prim.Native.Nat.{◌*◌}
+use Rattle.std.proofs.Common.{◌*◌}
 use Rattle.lines.specs.Text.{node_word}
 use Rattle.lines.proofs.Joining.{four, lined}
 use Rattle.lines.proofs.node_line.Goals as goal

@@ -1,5 +1,4 @@
-use mathlib.Core.Path.{refl}
-use mathlib.Core.List.{[], ◌∷◌, ◌++◌}
+use Rattle.std.proofs.Common.{refl, [], ◌∷◌, ◌++◌}
 use Rattle.lines.specs.Text.{newline, space, named, totals_text, cells_word, leaves_word, nodes_word, edges_word, splits_word}
 use Rattle.lines.proofs.Joining.{join}
 use Rattle.lines.proofs.totals_line.Goals as goal

@@ -1,7 +1,5 @@
 -- The leaves, the net without weights, the weights.
-use mathlib.Core.Path.{◌∙◌, ap}
-use native.Mathlib.Omega.{arith}
-use lib.ListN.{replicate}
+use Rattle.std.proofs.Common.{◌∙◌, ap, arith, replicate}
 use Rattle.network.proofs.Whole as Whole
 use Rattle.network.proofs.fill.Goals as goal
 

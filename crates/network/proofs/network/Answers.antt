@@ -1,6 +1,5 @@
 -- A well-formed table holds its cells, and so many leaves.
-use mathlib.Core.Path.{sym, ◌∙◌}
-use native.Mathlib.Omega.{arith}
+use Rattle.std.proofs.Common.{sym, ◌∙◌, arith}
 use Rattle.table.proofs.Shape.{formed-shape}
 use Rattle.leafrows.proofs.Laws.{leaf-total, leaf-few}
 use Rattle.network.proofs.network.Goals as goal

@@ -1,5 +1,4 @@
-use Prim.Native.Nat.{ℕ, ◌<◌}
-use native.Mathlib.Omega.{arith}
+use Rattle.std.proofs.Common.{ℕ, ◌<◌, arith}
 use Rattle.places.proofs.Places.{class-is, class-own}
 use Rattle.places.proofs.class_of.Goals as goal
 

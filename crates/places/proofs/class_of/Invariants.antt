@@ -1,9 +1,5 @@
 -- No polygon below j has the layer and the component of polygon k.
-use mathlib.Core.Path.{◌≡◌}
-use mathlib.Core.Bool.{false, ◌&&◌}
-use Prim.Native.Nat.{ℕ, ◌<◌}
-use lib.Dec.{eqb}
-use lib.ListN.{get_or}
+use Rattle.std.proofs.Common.{◌≡◌, false, ◌&&◌, ℕ, ◌<◌, eqb, get_or}
 use Rattle.places.proofs.class_of.Given as goal
 
 abbrev pub invariant-loop-j : goal.invariant-loop-j

@@ -1,5 +1,4 @@
-use mathlib.Core.Path.{ap, ◌∙◌}
-use native.Mathlib.Omega.{arith}
+use Rattle.std.proofs.Common.{ap, ◌∙◌, arith}
 use Rattle.rows.proofs.Fill.{fill_begins, fill-turn, fill-below}
 use Rattle.places.specs.Places.{class_of}
 use Rattle.places.proofs.Places.{front_low}

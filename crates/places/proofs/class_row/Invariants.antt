@@ -1,5 +1,4 @@
-use mathlib.Core.Path.{◌≡◌}
-use lib.ListN.{get_or}
+use Rattle.std.proofs.Common.{◌≡◌, get_or}
 use Rattle.rows.specs.Parts.{put, tab}
 use Rattle.places.specs.Places.{class_of}
 use Rattle.places.proofs.class_row.Given as goal

@@ -1,8 +1,4 @@
-use mathlib.Core.Path.{ap, ap₂, ◌∙◌}
-use mathlib.Core.Logic.{inl}
-use Prim.Native.Nat.{ℕ, ◌+◌, ◌*◌}
-use native.Mathlib.Omega.{arith}
-use lib.ListN.{get_or}
+use Rattle.std.proofs.Common.{ap, ap₂, ◌∙◌, inl, ℕ, ◌+◌, ◌*◌, arith, get_or}
 use Rattle.rows.specs.Parts.{part}
 use Rattle.places.specs.Places.{wide, key_x}
 use Rattle.places.proofs.Places.{filling-begins, filling-turn}

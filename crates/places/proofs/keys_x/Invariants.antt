@@ -1,4 +1,4 @@
-use Prim.Native.Nat.{◌+◌, ◌*◌}
+use Rattle.std.proofs.Common.{◌+◌, ◌*◌}
 use Rattle.refusals.specs.Limits.{max_polygons}
 use Rattle.rows.specs.Parts.{part}
 use Rattle.places.specs.Places.{key_x}

@@ -1,7 +1,4 @@
-use mathlib.Core.Path.{ap₂}
-use mathlib.Core.Logic.{inr}
-use Prim.Native.Nat.{ℕ, ◌+◌, ◌*◌}
-use native.Mathlib.Omega.{arith}
+use Rattle.std.proofs.Common.{ap₂, inr, ℕ, ◌+◌, ◌*◌, arith}
 use Rattle.places.specs.Places.{wide, key_y}
 use Rattle.places.proofs.Places.{filling-begins, filling-turn}
 use Rattle.places.proofs.keys_y.Goals as goal

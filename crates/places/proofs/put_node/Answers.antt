@@ -1,4 +1,4 @@
-use mir.Facts.{to_z-of_z}
+use Rattle.std.proofs.Common.{to_z-of_z}
 use Rattle.rows.proofs.Parts.{put_four}
 use Rattle.places.proofs.put_node.Goals as goal
 

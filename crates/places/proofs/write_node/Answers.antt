@@ -1,13 +1,5 @@
-use mathlib.Core.Path.{◌≡◌, sym, ap, ◌∙◌}
-use mathlib.Core.List.{List, [], ◌∷◌}
-use Prim.Native.Nat.{ℕ, ◌*◌, ◌^◌, ◌<◌, ◌≤◌}
-use native.Mathlib.Omega.{arith}
-use lib.ListN.{length, get_or}
-use lib.IntN.{ℤ, pos}
-use borrow.Author.Rules.{rules}
-use mir.Syntax.{w64}
-use mir.Val.{SFits}
-use mir.Facts.{to_z-of_z, to_z_pos}
+use Rattle.std.proofs.Common.{◌≡◌, sym, ap, ◌∙◌, List, [], ◌∷◌, ℕ, ◌*◌, ◌^◌, ◌<◌, ◌≤◌, arith, length, get_or, ℤ, pos, rules, w64, SFits, to_z-of_z}
+use mir.Facts.{to_z_pos}
 use Rattle.cell.specs.Ticks.{on}
 use Rattle.rows.specs.Parts.{part, put}
 use Rattle.rows.specs.Contract.{Small}

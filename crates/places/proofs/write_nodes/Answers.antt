@@ -1,9 +1,4 @@
-use mathlib.Core.Path.{◌≡◌, refl, sym, ap, ◌∙◌}
-use mathlib.Core.List.{List}
-use Prim.Native.Nat.{ℕ, ◌+◌, ◌*◌, ◌<◌, ◌≤◌}
-use native.Mathlib.Omega.{arith}
-use lib.IntN.{ℤ}
-use lib.ListN.{length, get_or}
+use Rattle.std.proofs.Common.{◌≡◌, refl, sym, ap, ◌∙◌, List, ℕ, ◌+◌, ◌*◌, ◌<◌, ◌≤◌, arith, ℤ, length, get_or}
 use Rattle.rows.specs.Parts.{part, put, tab}
 use Rattle.rows.proofs.Parts.{part_at}
 use Rattle.rows.proofs.Fill.{tab-at}

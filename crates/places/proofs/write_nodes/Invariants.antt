@@ -1,6 +1,4 @@
-use mathlib.Core.List.{List}
-use Prim.Native.Nat.{ℕ}
-use lib.IntN.{ℤ}
+use Rattle.std.proofs.Common.{List, ℕ, ℤ}
 use Rattle.rows.specs.Parts.{part}
 use Rattle.places.specs.Places.{place_keys, node_nums, node_of}
 use Rattle.places.proofs.Writing.{Writing}

@@ -1,5 +1,4 @@
-use mathlib.Core.Path.{◌≡◌}
-use Prim.Native.Nat.{◌*◌}
+use Rattle.std.proofs.Common.{◌≡◌, ◌*◌}
 use Rattle.places.specs.Places.{x_of}
 use Rattle.places.proofs.Places.{x-low}
 use Rattle.places.proofs.x_of.Goals as goal

@@ -1,5 +1,4 @@
-use mathlib.Core.Path.{◌≡◌}
-use Prim.Native.Nat.{◌*◌}
+use Rattle.std.proofs.Common.{◌≡◌, ◌*◌}
 use Rattle.places.specs.Places.{y_of}
 use Rattle.places.proofs.Places.{y-low}
 use Rattle.places.proofs.y_of.Goals as goal

@@ -1,4 +1,4 @@
-use mathlib.Core.Path.{sym, ◌∙◌}
+use Rattle.std.proofs.Common.{sym, ◌∙◌}
 use Rattle.sound_net.specs.Nets.{net_of}
 use Rattle.sound_net.proofs.Tests.{yes}
 use Rattle.power.proofs.Verdict.{sloped}

@@ -1,8 +1,4 @@
-use Prim.Native.Nat.{◌+◌, ◌<◌}
-use mathlib.Core.Path.{refl, ap, ◌∙◌}
-use mathlib.Core.List.{◌++◌}
-use native.Mathlib.Omega.{arith}
-use lib.ListN.{length, drop}
+use Rattle.std.proofs.Common.{◌+◌, ◌<◌, refl, ap, ◌∙◌, ◌++◌, arith, length, drop}
 use Rattle.power.specs.Powers.{grad_at, power_at, listed}
 use Rattle.power.proofs.Listed.{front-turn, front-two}
 use Rattle.power.proofs.fill.Goals as goal

@@ -1,6 +1,5 @@
 -- The powers of the cells passed, and behind them what the row held.
-use Rattle.std.proofs.Common.{◌≤◌, ◌-◌, ◌≡◌, ◌++◌, length}
-use lib.ListN.{drop}
+use Rattle.std.proofs.Common.{◌≤◌, ◌-◌, ◌≡◌, ◌++◌, length, drop}
 use Rattle.power.specs.Powers.{power_at, listed}
 use Rattle.power.proofs.fill.Given as goal
 

@@ -1,7 +1,7 @@
 -- The net is refused, or made and written.
-use lib.Ieee.{Float, binary64, of_bits}
+use lib.Ieee.{binary64, of_bits}
 use lib.ListN.{length-replicate}
-use Rattle.std.proofs.Common.{ℕ, ℤ, pos, ◌*◌, ◌∙◌}
+use Rattle.std.proofs.Common.{Float, ℕ, ℤ, pos, ◌*◌, ◌∙◌}
 use Rattle.refusals.specs.Said.{refusal}
 use Rattle.lines.proofs.Joining.{renamed}
 use Rattle.mesh.specs.Says.{leaf_room}

@@ -1,5 +1,4 @@
-use Rattle.std.proofs.Common.{rules, ◌≡◌, ◌^◌, ◌<◌, Bool, true, false, ◌&&◌, sym}
-use Rattle.std.proofs.Common.{ap, ◌∙◌, ap₂, arith, w64, FitsSigned, of_z}
+use Rattle.std.proofs.Common.{rules, ◌≡◌, ◌^◌, ◌<◌, Bool, true, false, ◌&&◌, sym, ap, ◌∙◌, ap₂, arith, w64, FitsSigned, of_z}
 use Rattle.sound_net.specs.Nets.{all_below, sw_at, ne_at, sound_cell}
 use Rattle.sound_net.proofs.Tests.{all_none, all_more, so_far, fails}
 use Rattle.sound_net.proofs.Marks.{or-none, zero_word, word-zero, join-below}

@@ -1,5 +1,4 @@
-use Rattle.std.proofs.Common.{rules, ◌≡◌, ℕ, ◌+◌, ◌*◌, ◌^◌, ◌<◌, Bool, ◌&&◌}
-use Rattle.std.proofs.Common.{sym, ap, ◌∙◌, arith, bit_or, w64, FitsSigned, of_z}
+use Rattle.std.proofs.Common.{rules, ◌≡◌, ℕ, ◌+◌, ◌*◌, ◌^◌, ◌<◌, Bool, ◌&&◌, sym, ap, ◌∙◌, arith, bit_or, w64, FitsSigned, of_z}
 use mathlib.Core.Bool.{and-true}
 use Rattle.sound_net.specs.Nets.{all_below, layer_at, component_at, sound_node}
 use Rattle.sound_net.proofs.Tests.{all_none, so_far, fails}

@@ -1,7 +1,5 @@
 -- What was made ready is the ring's, so the strips are those of the definition.
-use Rattle.std.proofs.Common.{ℕ, List, ℤ, ◌++◌, length, take, ◌≡◌, ◌≤◌}
-use mathlib.Core.Path.{ap, ap₂, ◌∙◌}
-use lib.Seq.{take_at}
+use Rattle.std.proofs.Common.{ℕ, List, ℤ, ◌++◌, length, take, ◌≡◌, ◌≤◌, ap, ap₂, ◌∙◌, take_at}
 use Rattle.refusals.specs.Limits.{max_points}
 use Rattle.strips.specs.Said.{counted, if_accepted, laid, stripped_said}
 use Rattle.strips.specs.Strips.{strips_of}

@@ -1,6 +1,5 @@
 -- Refused with 3, refused with 4, and then what the cut says.
-use Rattle.std.proofs.Common.{List, ℤ, true, false, length, ◌≡◌, refl}
-use mathlib.Core.Path.{sym, ap, ◌∙◌}
+use Rattle.std.proofs.Common.{List, ℤ, true, false, length, ◌≡◌, refl, sym, ap, ◌∙◌}
 use Rattle.refusals.specs.Said.{Said}
 use Rattle.strips.specs.Rings.{ring_in_range, ring_slants}
 use Rattle.strips.specs.Said.{strips_says, strips_leave, counted, if_accepted, laid}

@@ -1,12 +1,5 @@
-use Prim.Native.Nat.{◌-◌}
-use mathlib.Core.Path.{◌≡◌, sym, ap, ◌∙◌}
-use mathlib.Core.Bool.{true}
-use mathlib.Core.List.{◌++◌}
-use lib.ListN.{length}
+use Rattle.std.proofs.Common.{◌-◌, ◌≡◌, sym, ap, ◌∙◌, true, ◌++◌, length, ◌&&◌, eqb, eqb-true, le-leb}
 use lib.Seq.{sets}
-use mathlib.Core.Bool.{◌&&◌}
-use lib.Dec.{eqb}
-use borrow.Author.Tests.{eqb-true, le-leb}
 use Rattle.board.specs.Rows.{rows_of}
 use Rattle.board.specs.Writing.{bytes, settings_bytes}
 use Rattle.writing.specs.Written.{shaped, countable, size_of}

@@ -1,7 +1,4 @@
-use mathlib.Core.Path.{◌≡◌, ap, ◌∙◌}
-use Prim.Native.Nat.{◌*◌}
-use lib.ListN.{length}
-use lib.Seq.{length-take-le}
+use Rattle.std.proofs.Common.{◌≡◌, ap, ◌∙◌, ◌*◌, length, length-take-le}
 use Rattle.rows.specs.Parts.{put}
 use Rattle.bare.proofs.Parted.{front-copied}
 use Rattle.bare.proofs.Halves.{nums-tab, nums-copied}

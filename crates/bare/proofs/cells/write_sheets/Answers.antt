@@ -1,8 +1,5 @@
-use mathlib.Core.Path.{ap}
-use Prim.Native.Nat.{ℕ}
-use native.Mathlib.Omega.{arith}
+use Rattle.std.proofs.Common.{ap, ℕ, arith, get_or}
 use lib.Ieee.{nan}
-use lib.ListN.{get_or}
 use Rattle.rows.proofs.Fill.{fill_begins, front-turn}
 use Rattle.bare.proofs.cells.write_sheets.Goals as goal
 

@@ -1,6 +1,5 @@
-use mathlib.Core.Path.{◌≡◌}
+use Rattle.std.proofs.Common.{◌≡◌, get_or}
 use lib.Ieee.{nan}
-use lib.ListN.{get_or}
 use Rattle.rows.specs.Parts.{put, tab}
 use Rattle.bare.specs.Slots.{polys_in}
 use Rattle.bare.proofs.cells.write_sheets.Given as goal

@@ -1,9 +1,4 @@
-use mathlib.Core.Path.{◌≡◌, refl, ap₂, ◌∙◌}
-use mathlib.Core.List.{List, [], ◌∷◌}
-use Prim.Native.Nat.{ℕ, ◌*◌, ◌<◌, ◌≤◌}
-use native.Mathlib.Omega.{arith}
-use lib.Ieee.{Float}
-use lib.ListN.{length, set}
+use Rattle.std.proofs.Common.{◌≡◌, refl, ap₂, ◌∙◌, List, [], ◌∷◌, ℕ, ◌*◌, ◌<◌, ◌≤◌, arith, Float, length, set}
 use Rattle.rows.specs.Parts.{put}
 use Rattle.places.proofs.Writing.{writing_begins, writing-new, writing-old}
 use Rattle.bare.proofs.Parted.{new-at, old-at, put_one}

@@ -1,4 +1,4 @@
-use mathlib.Core.List.{[], ◌∷◌}
+use Rattle.std.proofs.Common.{[], ◌∷◌}
 use Rattle.places.proofs.Writing.{Writing}
 use Rattle.bare.specs.Slots.{slot_keys, slot_g}
 use Rattle.bare.proofs.edges.write_conductances.Given as goal

@@ -1,7 +1,4 @@
-use mathlib.Core.Path.{◌≡◌}
-use mathlib.Core.List.{List}
-use Prim.Native.Nat.{ℕ, ◌+◌, ◌*◌, ◌≤◌}
-use native.Mathlib.Omega.{arith}
+use Rattle.std.proofs.Common.{◌≡◌, List, ℕ, ◌+◌, ◌*◌, ◌≤◌, arith}
 use Rattle.rows.specs.Parts.{tab}
 use Rattle.rows.proofs.Fill.{fill_begins, front-turn, fill-ends}
 use Rattle.bare.specs.Slots.{slot_key, polys_in, nums_in, mids_in}

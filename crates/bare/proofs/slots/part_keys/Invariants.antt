@@ -1,4 +1,4 @@
-use mathlib.Core.Path.{◌≡◌}
+use Rattle.std.proofs.Common.{◌≡◌}
 use Rattle.rows.specs.Parts.{put, tab}
 use Rattle.bare.specs.Slots.{slot_key, polys_in, nums_in, mids_in}
 use Rattle.bare.proofs.slots.part_keys.Given as goal

@@ -1,7 +1,4 @@
-use Prim.Native.Nat.{ℕ, ◌+◌, ◌<◌, ◌≤◌}
-use mathlib.Core.List.{List}
-use native.Mathlib.Omega.{arith}
-use lib.ListN.{length}
+use Rattle.std.proofs.Common.{ℕ, ◌+◌, ◌<◌, ◌≤◌, List, arith, length}
 use Rattle.record.specs.Board.{entry}
 use Rattle.board.specs.Rows.{entry_row}
 use Rattle.board.proofs.Copies.{turn, stored, done, start, entry-made}

@@ -1,4 +1,4 @@
-use native.Mathlib.Omega.{arith}
+use Rattle.std.proofs.Common.{arith}
 use Rattle.record.proofs.Items.{polygon-made}
 use Rattle.board.proofs.Shapes.{turn3, ring-here, count-here, stored3, done3}
 use Rattle.board.proofs.copy.copy_polygons.Goals as goal

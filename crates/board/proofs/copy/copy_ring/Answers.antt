@@ -1,9 +1,4 @@
-use Prim.Native.Nat.{ℕ, ◌+◌, ◌<◌, ◌≤◌}
-use mathlib.Core.Path.{◌≡◌, subst}
-use mathlib.Core.List.{List}
-use native.Mathlib.Omega.{arith}
-use lib.IntN.{ℤ}
-use lib.ListN.{length, set}
+use Rattle.std.proofs.Common.{ℕ, ◌+◌, ◌<◌, ◌≤◌, ◌≡◌, subst, List, arith, ℤ, length, set}
 use Rattle.board.specs.Rows.{point_row}
 use Rattle.board.proofs.Copies.{turn, stored, done, point-made}
 use Rattle.board.proofs.copy.copy_ring.Invariants.{each, ToStore}

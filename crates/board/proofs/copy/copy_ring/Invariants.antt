@@ -1,7 +1,5 @@
 -- What is left to store makes the row what it is to be.
-use Prim.Native.Nat.{ℕ, ◌+◌}
-use mathlib.Core.List.{List, map}
-use lib.IntN.{ℤ}
+use Rattle.std.proofs.Common.{ℕ, ◌+◌, List, map, ℤ}
 use lib.Seq.{sets}
 use Rattle.record.specs.Fields.{Out}
 use Rattle.record.specs.Board.{Point, point, ring}

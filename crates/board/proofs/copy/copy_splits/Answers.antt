@@ -1,8 +1,4 @@
-use Prim.Native.Nat.{ℕ, ◌+◌, ◌<◌, ◌≤◌}
-use mathlib.Core.Path.{ap, ◌∙◌}
-use mathlib.Core.List.{List, map-id}
-use native.Mathlib.Omega.{arith}
-use lib.ListN.{length}
+use Rattle.std.proofs.Common.{ℕ, ◌+◌, ◌<◌, ◌≤◌, ap, ◌∙◌, List, map-id, arith, length}
 use lib.Seq.{sets}
 use Rattle.record.specs.Board.{ids}
 use Rattle.record.proofs.Walks.{field-value}

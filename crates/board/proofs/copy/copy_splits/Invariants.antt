@@ -1,6 +1,5 @@
 -- What is left to store makes the row what it is to be.
-use Prim.Native.Nat.{ℕ}
-use mathlib.Core.List.{List, map}
+use Rattle.std.proofs.Common.{ℕ, List, map}
 use lib.Seq.{sets}
 use Rattle.record.specs.Fields.{Out, field}
 use Rattle.record.specs.Board.{ids}

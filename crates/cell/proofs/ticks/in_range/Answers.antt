@@ -1,4 +1,4 @@
-use mir.Facts.{to_z-of_z}
+use Rattle.std.proofs.Common.{to_z-of_z}
 use Rattle.cell.specs.Ticks.{in_range}
 use Rattle.cell.proofs.ticks.in_range.Goals as goal
 

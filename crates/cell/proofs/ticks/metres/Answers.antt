@@ -1,11 +1,6 @@
 -- The number is the same signed, and exact as a fraction; the constant is 2^-38 to the bit.
-use Prim.Native.Nat.{ℕ, ◌<◌, ◌^◌}
-use native.Mathlib.Omega.{arith}
-use mathlib.Core.Path.{◌≡◌, refl}
-use lib.IntN.{pos}
+use Rattle.std.proofs.Common.{ℕ, ◌<◌, ◌^◌, arith, ◌≡◌, refl, pos, w64, to_z}
 use lib.Ieee.{round, of_bits}
-use mir.Syntax.{w64}
-use mir.Val.{to_z}
 use mir.ValLaws.{to_z_pos}
 use Rattle.cell.proofs.ticks.metres.Goals as goal
 

@@ -1,9 +1,5 @@
 -- Below the range, above it, and within.
-use mathlib.Core.Path.{◌≡◌, sym, ap}
-use lib.IntN.{ℤ, pos, nat_abs, ◌+ℤ◌}
-use mir.Syntax.{w64}
-use mir.Val.{to_z, of_z}
-use mir.Facts.{to_z-of_z}
+use Rattle.std.proofs.Common.{◌≡◌, sym, ap, ℤ, pos, nat_abs, ◌+ℤ◌, w64, to_z, of_z, to_z-of_z}
 use Rattle.refusals.specs.Limits.{coordinate}
 use Rattle.cell.specs.Ticks.{off}
 use Rattle.cell.proofs.Offsets.{off-low, off-high, off-fits, shifted}

@@ -1,8 +1,5 @@
-use Prim.Native.Nat.{◌<◌, ◌^◌}
-use mathlib.Core.Path.{sym}
-use native.Mathlib.Omega.{arith}
-use mir.Syntax.{w64}
-use mir.Facts.{to_z_pos, to_z-of_z}
+use Rattle.std.proofs.Common.{◌<◌, ◌^◌, sym, arith, w64, to_z-of_z}
+use mir.Facts.{to_z_pos}
 use Rattle.cell.proofs.Offsets.{on-is, on-top, on_fits}
 use Rattle.cell.proofs.ticks.ticks.Goals as goal
 

@@ -1,4 +1,4 @@
-use native.Mathlib.Omega.{arith}
+use Rattle.std.proofs.Common.{arith}
 use Rattle.descent.proofs.Boxes.{blocks-indexed}
 use Rattle.descent.proofs.index.index.Goals as goal
 

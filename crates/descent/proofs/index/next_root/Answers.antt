@@ -1,6 +1,4 @@
-use Rattle.std.proofs.Common.{◌/◌, ◌<◌}
-use mathlib.Core.Path.{sym, ap, subst, ◌∙◌}
-use native.Mathlib.Omega.{arith}
+use Rattle.std.proofs.Common.{◌/◌, ◌<◌, sym, ap, subst, ◌∙◌, arith}
 use Rattle.cell.specs.Boxes.{Box}
 use Rattle.table.specs.Mesh.{Cell, table}
 use Rattle.table.proofs.Cells.{at_table}

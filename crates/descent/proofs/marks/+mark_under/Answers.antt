@@ -1,9 +1,6 @@
 -- A cell that does not meet p, or is too fine, holds nothing that is wanted, and the four children's subtrees hold
 -- all leaves of a split cell's.
-use Rattle.std.proofs.Common.{ℕ, ◌-◌, ◌+◌, ◌<◌}
-use mathlib.Core.Path.{sym, ap, subst, ◌∙◌}
-use mathlib.Core.Option.{some}
-use native.Mathlib.Omega.{arith}
+use Rattle.std.proofs.Common.{ℕ, ◌-◌, ◌+◌, ◌<◌, sym, ap, subst, ◌∙◌, Some, arith}
 use Rattle.table.specs.Slots.{cell_at}
 use Rattle.table.specs.Mesh.{Cell, table}
 use Rattle.table.proofs.Cells.{at_table}
@@ -67,5 +64,5 @@ returns t c =
     let g = c.first_at-first in
     kids-marked c.args.m _ c.requires.well_formed.cells _ _ _ c.args.c g.result c.loop-j.j _ _
     (split-slot c.args.t.now c.args.n c.args.c c.requires.p_lt_n.0.1 (λ z. c.if-first-eq-NO_CELL.false (g.ensures ∙ z))
-    ∙ ap some (sym g.ensures))
+    ∙ ap Some (sym g.ensures))
     c.loop-j-test.false c.loop-j.invariant

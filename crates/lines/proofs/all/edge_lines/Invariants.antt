@@ -1,5 +1,5 @@
 -- The first j lines are put.
-use Prim.Native.Nat.{◌≤◌, ◌+◌, ◌*◌}
+use Rattle.std.proofs.Common.{◌≤◌, ◌+◌, ◌*◌}
 use Rattle.lines.specs.Text.{Puts, edge_most}
 use Rattle.lines.specs.Lines.{edge_lines}
 use Rattle.lines.proofs.all.edge_lines.Given as goal

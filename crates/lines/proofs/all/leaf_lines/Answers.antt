@@ -1,4 +1,4 @@
-use native.Mathlib.Omega.{arith}
+use Rattle.std.proofs.Common.{arith}
 use Rattle.lines.proofs.Joining.{no_lines, one_line}
 use Rattle.lines.proofs.all.leaf_lines.Goals as goal
 

@@ -1,5 +1,5 @@
 -- The first v lines are put.
-use Prim.Native.Nat.{◌≤◌, ◌+◌, ◌*◌}
+use Rattle.std.proofs.Common.{◌≤◌, ◌+◌, ◌*◌}
 use Rattle.lines.specs.Text.{Puts, leaf_most}
 use Rattle.lines.specs.Lines.{leaf_lines}
 use Rattle.lines.proofs.all.leaf_lines.Given as goal

@@ -1,5 +1,5 @@
 -- The first i lines are put.
-use Prim.Native.Nat.{◌≤◌, ◌+◌, ◌*◌}
+use Rattle.std.proofs.Common.{◌≤◌, ◌+◌, ◌*◌}
 use Rattle.lines.specs.Text.{Puts, node_most}
 use Rattle.lines.specs.Lines.{node_lines}
 use Rattle.lines.proofs.all.node_lines.Given as goal

@@ -1,4 +1,4 @@
-use mathlib.Core.Path.{refl}
+use Rattle.std.proofs.Common.{refl}
 use Rattle.lines.proofs.Joining.{pasted}
 use Rattle.lines.proofs.put.append.Goals as goal
 

@@ -1,4 +1,4 @@
-use mathlib.Core.Path.{◌∙◌}
+use Rattle.std.proofs.Common.{◌∙◌}
 use Rattle.lines.proofs.Numerals.{decimal-digits}
 use Rattle.lines.proofs.put.digits.Goals as goal
 

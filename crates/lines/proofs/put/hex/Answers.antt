@@ -1,7 +1,4 @@
-use mathlib.Core.Path.{◌≡◌, ap, ◌∙◌}
-use mathlib.Core.List.{[], ◌∷◌}
-use native.Mathlib.Omega.{arith}
-use lib.ListN.{take}
+use Rattle.std.proofs.Common.{◌≡◌, ap, ◌∙◌, [], ◌∷◌, arith, take}
 use Rattle.io.specs.Digits.{last_digits}
 use Rattle.lines.specs.Text.{space, hex_of}
 use Rattle.lines.proofs.Numerals.{few}

@@ -1,5 +1,4 @@
-use mathlib.Core.Path.{refl}
-use mathlib.Core.List.{◌∷◌}
+use Rattle.std.proofs.Common.{refl, ◌∷◌}
 use Rattle.lines.specs.Text.{space, decimal, named}
 use Rattle.lines.proofs.Joining.{join}
 use Rattle.lines.proofs.put.named.Goals as goal

@@ -1,13 +1,4 @@
-use Prim.Native.Nat.{◌+◌}
-use mathlib.Core.Path.{refl}
-use mathlib.Core.List.{◌∷◌}
-use native.Mathlib.Omega.{arith}
-use lib.ListN.{take, get_or}
-use Rattle.std.proofs.Common.{rules}
-use lib.IntN.{pos}
-use mir.Syntax.{w64}
-use mir.Val.{SFits}
-use mir.Facts.{to_z-of_z}
+use Rattle.std.proofs.Common.{◌+◌, refl, ◌∷◌, arith, take, get_or, rules, pos, w64, SFits, to_z-of_z}
 use Rattle.lines.specs.Text.{space, signed, numbers}
 use Rattle.lines.proofs.Joining.{join, numbers-turn}
 use Rattle.lines.proofs.put.numbers.Goals as goal

@@ -1,6 +1,5 @@
 -- The numbers so far are put.
-use Prim.Native.Nat.{◌≤◌, ◌+◌, ◌*◌}
-use lib.ListN.{take}
+use Rattle.std.proofs.Common.{◌≤◌, ◌+◌, ◌*◌, take}
 use Rattle.lines.specs.Text.{numbers, Puts}
 use Rattle.lines.proofs.put.numbers.Given as goal
 

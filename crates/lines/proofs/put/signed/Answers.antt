@@ -1,7 +1,4 @@
-use mathlib.Core.Path.{ap}
-use mathlib.Core.List.{[], ◌∷◌}
-use lib.IntN.{nat_abs}
-use mir.Facts.{to_z-of_z}
+use Rattle.std.proofs.Common.{ap, [], ◌∷◌, nat_abs, to_z-of_z}
 use Rattle.lines.specs.Text.{space, minus, decimal, signed}
 use Rattle.lines.proofs.Numerals.{at_least, below}
 use Rattle.lines.proofs.Joining.{join}

@@ -1,5 +1,4 @@
-use mathlib.Core.Path.{sym, ◌∙◌}
-use lib.ListN.{length}
+use Rattle.std.proofs.Common.{sym, ◌∙◌, length}
 use Rattle.network.proofs.Judging.{sheet-bad, sheet-on, sheet-end}
 use Rattle.network.proofs.judge.judge_sheets.Goals as goal
 

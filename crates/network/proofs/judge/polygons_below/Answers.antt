@@ -1,7 +1,4 @@
-use mathlib.Core.Path.{sym}
-use native.Mathlib.Omega.{arith}
-use lib.Dec.{ltb}
-use borrow.Author.Tests.{le-ltb}
+use Rattle.std.proofs.Common.{sym, arith, ltb, le-ltb}
 use Rattle.table.specs.Slots.{cell_at}
 use Rattle.table.proofs.All.{all-fails}
 use Rattle.leafrows.specs.Rows.{polys_below}

@@ -1,6 +1,5 @@
 -- The cells passed name polygons below the count.
-use Rattle.std.proofs.Common.{◌≡◌, true}
-use lib.Dec.{ltb}
+use Rattle.std.proofs.Common.{◌≡◌, true, ltb}
 use Rattle.table.specs.Slots.{cell_at}
 use Rattle.table.specs.Formed.{all_to}
 use Rattle.network.proofs.judge.polygons_below.Given as goal

@@ -1,5 +1,5 @@
 -- The same operations in the same order.
-use mathlib.Core.Path.{refl}
+use Rattle.std.proofs.Common.{refl}
 use lib.Ieee.{of_int, round, of_bits}
 use Rattle.power.proofs.Values.grad.Goals as goal
 

@@ -1,6 +1,4 @@
-use Prim.Native.Nat.{◌+◌}
-use mathlib.Core.Path.{◌≡◌, refl, sym, ◌∙◌}
-use native.Mathlib.Omega.{arith}
+use Rattle.std.proofs.Common.{◌+◌, ◌≡◌, refl, sym, ◌∙◌, arith}
 use Rattle.record.specs.Fields.{value}
 use Rattle.record.specs.Board.{Entry, entry, last_layer}
 use Rattle.record.proofs.Walks.{ranged_high}

@@ -1,4 +1,4 @@
-use mathlib.Core.Path.{refl}
+use Rattle.std.proofs.Common.{refl}
 use Rattle.record.specs.Board.{ring, point, polygon}
 use Rattle.record.specs.Answers.{nothing}
 use Rattle.record.proofs.Walks.{arrived, several-length}

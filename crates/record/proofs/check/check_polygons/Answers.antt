@@ -1,8 +1,4 @@
-use Prim.Native.Nat.{ℕ, ◌+◌}
-use mathlib.Core.Path.{◌≡◌, sym, ap, ◌∙◌}
-use mathlib.Core.List.{[]}
-use native.Mathlib.Omega.{arith}
-use Rattle.std.proofs.Common.{rules}
+use Rattle.std.proofs.Common.{ℕ, ◌+◌, ◌≡◌, sym, ap, ◌∙◌, [], arith, rules}
 use Rattle.record.specs.Board.{Polygon, polygon, points_in, points_of}
 use Rattle.record.specs.Fields.{value}
 use Rattle.record.proofs.Walks.{arrived, halted}

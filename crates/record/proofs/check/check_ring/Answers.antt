@@ -1,4 +1,4 @@
-use mathlib.Core.Path.{◌≡◌, refl, sym, ◌∙◌}
+use Rattle.std.proofs.Common.{◌≡◌, refl, sym, ◌∙◌}
 use Rattle.record.specs.Fields.{value}
 use Rattle.record.specs.Board.{Point, point}
 use Rattle.record.proofs.Each.{passed}

@@ -1,5 +1,4 @@
-use mathlib.Core.Path.{refl}
-use native.Mathlib.Omega.{arith}
+use Rattle.std.proofs.Common.{refl, arith}
 use Rattle.record.specs.Fields.{big_endian}
 use Rattle.record.proofs.Numbers.{byte_more, next-fits}
 use Rattle.record.proofs.fields.number.Goals as goal

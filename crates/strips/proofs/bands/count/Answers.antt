@@ -1,7 +1,4 @@
-use Rattle.std.proofs.Common.{ℕ, List, ℤ, length, drop, get_or, ◌+◌, ◌≡◌, ◌<◌, refl}
-use mathlib.Core.Path.{sym, ap, ◌∙◌}
-use native.Mathlib.Omega.{arith}
-use lib.ListN.{length-append}
+use Rattle.std.proofs.Common.{ℕ, List, ℤ, length, drop, get_or, ◌+◌, ◌≡◌, ◌<◌, refl, sym, ap, ◌∙◌, arith, length-append}
 use Rattle.strips.specs.Walk.{left, in_band}
 use Rattle.strips.proofs.Levels.{left-none}
 use Rattle.strips.proofs.Walks.{started, none_left, left_end, left-band}

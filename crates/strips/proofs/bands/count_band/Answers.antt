@@ -1,6 +1,4 @@
-use Rattle.std.proofs.Common.{length}
-use mathlib.Core.Path.{ap}
-use native.Mathlib.Omega.{arith}
+use Rattle.std.proofs.Common.{length, ap, arith}
 use Rattle.strips.proofs.Walks.{band-strip, band-thin, band-over}
 use Rattle.strips.proofs.bands.count_band.Goals as goal
 

@@ -1,7 +1,4 @@
-use Rattle.std.proofs.Common.{length, get_or, ◌+◌, ◌≡◌, ◌≤◌, refl}
-use mathlib.Core.Path.{sym, ap, ◌∙◌}
-use native.Mathlib.Omega.{arith}
-use lib.ListN.{length-append}
+use Rattle.std.proofs.Common.{length, get_or, ◌+◌, ◌≡◌, ◌≤◌, refl, sym, ap, ◌∙◌, arith, length-append}
 use Rattle.strips.specs.Walk.{in_band}
 use Rattle.strips.proofs.Laying.{laid_more, laid_none}
 use Rattle.strips.proofs.Levels.{band-yes, left-none}

@@ -1,6 +1,4 @@
-use Rattle.std.proofs.Common.{length, ◌<◌, refl}
-use mathlib.Core.Path.{sym, ap, ◌∙◌}
-use native.Mathlib.Omega.{arith}
+use Rattle.std.proofs.Common.{length, ◌<◌, refl, sym, ap, ◌∙◌, arith}
 use Rattle.strips.proofs.Laying.{laid_one, laid_none}
 use Rattle.strips.proofs.Walks.{band-strip, band-thin, band-over}
 use Rattle.strips.proofs.bands.put_band.Goals as goal

@@ -1,4 +1,4 @@
-use mir.Facts.{to_z-of_z}
+use Rattle.std.proofs.Common.{to_z-of_z}
 use Rattle.strips.specs.Levels.{apart}
 use Rattle.strips.proofs.ring.differ.Goals as goal
 

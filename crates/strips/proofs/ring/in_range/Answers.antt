@@ -1,8 +1,5 @@
-use Rattle.std.proofs.Common.{◌≡◌, length, refl}
+use Rattle.std.proofs.Common.{◌≡◌, length, refl, sym, ◌∙◌, arith, leb}
 use mathlib.Core.Bool.{and-true, and_assoc}
-use mathlib.Core.Path.{sym, ◌∙◌}
-use native.Mathlib.Omega.{arith}
-use lib.Dec.{leb}
 use Rattle.refusals.specs.Limits.{max_points}
 use Rattle.strips.specs.Rings.{all_below, point_in_range, ring_in_range}
 use Rattle.strips.proofs.Picking.{all_more}

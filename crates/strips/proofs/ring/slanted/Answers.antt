@@ -1,6 +1,4 @@
-use Rattle.std.proofs.Common.{◌≡◌, length, refl}
-use mathlib.Core.Path.{◌∙◌}
-use native.Mathlib.Omega.{arith}
+use Rattle.std.proofs.Common.{◌≡◌, length, refl, ◌∙◌, arith}
 use Rattle.strips.specs.Rings.{some_below, ring_slants}
 use Rattle.strips.proofs.Picking.{some_more}
 use Rattle.strips.proofs.ring.slanted.Goals as goal

@@ -1,7 +1,5 @@
 -- Coordinates in range differ as offset ones do.
-use Rattle.std.proofs.Common.{rules, [], get_or, pos, FitsSigned, w64}
-use mathlib.Core.Path.{◌∙◌}
-use mir.Facts.{to_z-of_z}
+use Rattle.std.proofs.Common.{rules, [], get_or, pos, FitsSigned, w64, ◌∙◌, to_z-of_z}
 use Rattle.strips.proofs.Levels.{slants-is}
 use Rattle.strips.proofs.ring.slants_at.Goals as goal
 

@@ -1,7 +1,4 @@
-use Rattle.std.proofs.Common.{get_or, ◌%◌, refl}
-use mathlib.Core.Path.{sym, ◌∙◌}
-use mir.Facts.{to_z-of_z}
-use native.Mathlib.Omega.{arith}
+use Rattle.std.proofs.Common.{get_or, ◌%◌, refl, sym, ◌∙◌, to_z-of_z, arith}
 use Rattle.cell.proofs.Offsets.{on_fits}
 use Rattle.refusals.specs.Limits.{max_points}
 use Rattle.strips.proofs.Levels.{spans-is}

@@ -1,7 +1,4 @@
-use Rattle.std.proofs.Common.{ℕ, List, ℤ, length, take, ◌+◌, ◌≡◌, ◌≤◌, refl}
-use mathlib.Core.Path.{sym, ap, ◌∙◌}
-use native.Mathlib.Omega.{arith}
-use lib.Seq.{length-take-le}
+use Rattle.std.proofs.Common.{ℕ, List, ℤ, length, take, ◌+◌, ◌≡◌, ◌≤◌, refl, sym, ap, ◌∙◌, arith, length-take-le}
 use Rattle.cell.proofs.Offsets.{off-le}
 use Rattle.refusals.specs.Limits.{coordinate}
 use Rattle.strips.specs.Rings.{edge_at}

@@ -1,6 +1,4 @@
-use Rattle.std.proofs.Common.{length, ◌-◌, refl}
-use mathlib.Core.Path.{sym, ◌∙◌}
-use native.Mathlib.Omega.{arith}
+use Rattle.std.proofs.Common.{length, ◌-◌, refl, sym, ◌∙◌, arith}
 use Rattle.strips.proofs.Levels.{left-none}
 use Rattle.strips.proofs.Walks.{left_end, left-strip, left-thin, left-on, band-falls, bands-fall}
 use Rattle.strips.proofs.walk.next.Goals as goal

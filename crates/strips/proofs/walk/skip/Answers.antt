@@ -1,6 +1,4 @@
-use Rattle.std.proofs.Common.{ℕ, length, drop, get_or, ◌+◌, ◌-◌, ◌≡◌, refl}
-use mathlib.Core.Path.{sym, ap, ◌∙◌}
-use native.Mathlib.Omega.{arith}
+use Rattle.std.proofs.Common.{ℕ, length, drop, get_or, ◌+◌, ◌-◌, ◌≡◌, refl, sym, ap, ◌∙◌, arith}
 use Rattle.strips.specs.Walk.{left}
 use Rattle.strips.proofs.Walks.{crossed-flat, left-flat}
 use Rattle.strips.proofs.walk.skip.Goals as goal

@@ -1,5 +1,4 @@
-use mathlib.Core.Path.{sym, ap, ◌∙◌}
-use Rattle.std.proofs.Common.{length}
+use Rattle.std.proofs.Common.{sym, ap, ◌∙◌, length}
 use Rattle.strips.proofs.Walks.{length-heights}
 use Rattle.strips.proofs.walk.sort_heights.Goals as goal
 

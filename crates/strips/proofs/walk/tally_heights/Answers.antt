@@ -1,6 +1,4 @@
-use Rattle.std.proofs.Common.{length, ◌+◌, ◌-◌, ◌≡◌, refl}
-use mathlib.Core.Path.{ap, ◌∙◌}
-use native.Mathlib.Omega.{arith}
+use Rattle.std.proofs.Common.{length, ◌+◌, ◌-◌, ◌≡◌, refl, ap, ◌∙◌, arith}
 use Rattle.cell.proofs.Offsets.{off-le}
 use Rattle.strips.specs.Rings.{y_at}
 use Rattle.strips.specs.Sorted.{insert}

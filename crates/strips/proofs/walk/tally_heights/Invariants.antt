@@ -1,6 +1,5 @@
 -- The entries hold the heights of the points passed, in order.
-use Rattle.std.proofs.Common.{length, take, drop, ◌+◌, ◌≡◌, ◌≤◌}
-use mathlib.Core.List.{map}
+use Rattle.std.proofs.Common.{length, take, drop, ◌+◌, ◌≡◌, ◌≤◌, map}
 use Rattle.strips.specs.Rings.{y_at}
 use Rattle.strips.specs.Sorted.{up_to, sorted}
 use Rattle.strips.specs.Tally.{spread}

@@ -1,6 +1,4 @@
-use Prim.Native.Nat.{ℕ, ◌≤◌}
-use mathlib.Core.Path.{◌≡◌, sym, ap, subst, ◌∙◌}
-use native.Mathlib.Omega.{arith}
+use Rattle.std.proofs.Common.{ℕ, ◌≤◌, ◌≡◌, sym, ap, subst, ◌∙◌, arith}
 use Rattle.refusals.specs.Limits.{max_slots}
 use Rattle.table.specs.Formed.{all_to, cell_ok}
 use Rattle.table.specs.Walk.{past_at}

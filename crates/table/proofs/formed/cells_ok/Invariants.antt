@@ -1,5 +1,5 @@
 -- The walk has found every cell below i to be right, and no four of them ends past i.
-use Prim.Native.Nat.{ℕ, ◌-◌, ◌<◌, ◌≤◌}
+use Rattle.std.proofs.Common.{ℕ, ◌-◌, ◌<◌, ◌≤◌}
 use Rattle.table.proofs.Walk.{Found}
 use Rattle.table.proofs.formed.cells_ok.Given as goal
 

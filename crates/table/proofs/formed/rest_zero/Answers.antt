@@ -1,8 +1,5 @@
-use Prim.Native.Nat.{◌-◌, ◌*◌}
-use mathlib.Core.Path.{sym, ◌∙◌}
+use Rattle.std.proofs.Common.{◌-◌, ◌*◌, sym, ◌∙◌, arith, length}
 use mathlib.Core.Bool.{false≢true}
-use native.Mathlib.Omega.{arith}
-use lib.ListN.{length}
 use Rattle.table.specs.Formed.{rest_zero}
 use Rattle.table.proofs.All.{never}
 use Rattle.table.proofs.Zeros.{zeros, of-zeros}

@@ -1,5 +1,4 @@
-use Prim.Native.Nat.{◌+◌, ◌*◌}
-use native.Mathlib.Omega.{arith}
+use Rattle.std.proofs.Common.{◌+◌, ◌*◌, arith}
 use Rattle.rows.proofs.Fill.{fill_begins, front-turn, fill-ends}
 use Rattle.weights.specs.Sides.{pair_key, pair_keys}
 use Rattle.weights.proofs.sides.side_keys.Goals as goal

@@ -1,5 +1,4 @@
-use mathlib.Core.Path.{◌∙◌}
-use native.Mathlib.Omega.{arith}
+use Rattle.std.proofs.Common.{◌∙◌, arith}
 use Rattle.weights.specs.Weigh.{edge_of}
 use Rattle.weights.proofs.Weighed.{face_in, distance_in, edge_stays, edge-weighed}
 use Rattle.weights.proofs.weigh.weigh_edge.Goals as goal

@@ -1,4 +1,4 @@
-use native.Mathlib.Omega.{arith}
+use Rattle.std.proofs.Common.{arith}
 use lib.Ieee.{nan}
 use Rattle.rows.proofs.Fill.{fill_begins, fill-above, front-turn, fill-ends}
 use Rattle.weights.specs.Weigh.{weight_in}

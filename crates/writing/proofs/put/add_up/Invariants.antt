@@ -1,6 +1,5 @@
 -- The counts still to come add up to what is left as all do to all.
-use mathlib.Core.Path.{◌≡◌}
-use lib.ListN.{drop}
+use Rattle.std.proofs.Common.{◌≡◌, drop}
 use Rattle.writing.specs.Boards.{add_up}
 use Rattle.writing.proofs.put.add_up.Given as goal
 

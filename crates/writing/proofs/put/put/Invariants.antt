@@ -1,5 +1,5 @@
 -- The bytes still to be put make the row what it is to be.
-use mathlib.Core.Path.{◌≡◌}
+use Rattle.std.proofs.Common.{◌≡◌}
 use lib.Seq.{sets}
 use Rattle.board.specs.Writing.{bytes}
 use Rattle.writing.proofs.put.put.Given as goal

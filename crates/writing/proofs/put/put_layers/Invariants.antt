@@ -1,7 +1,5 @@
 -- The entries still to be put make the row what it is to be.
-use Prim.Native.Nat.{◌+◌, ◌*◌}
-use mathlib.Core.Path.{◌≡◌}
-use lib.ListN.{drop}
+use Rattle.std.proofs.Common.{◌+◌, ◌*◌, ◌≡◌, drop}
 use lib.Seq.{sets}
 use Rattle.board.specs.Writing.{each, entry_bytes}
 use Rattle.writing.specs.Boards.{entries_of}

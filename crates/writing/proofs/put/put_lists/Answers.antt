@@ -1,8 +1,4 @@
-use Prim.Native.Nat.{◌+◌, ◌*◌}
-use mathlib.Core.List.{◌++◌}
-use native.Mathlib.Omega.{arith}
-use lib.ListN.{length}
-use lib.ListN.{length-append}
+use Rattle.std.proofs.Common.{◌+◌, ◌*◌, ◌++◌, arith, length, length-append}
 use Rattle.board.specs.Writing.{bytes, each, entry_bytes, polygon_bytes}
 use Rattle.board.proofs.RoundTrip.{bytes-length}
 use Rattle.writing.specs.Boards.{entries_of, polygons_of}

@@ -1,8 +1,4 @@
-use Prim.Native.Nat.{◌-◌}
-use mathlib.Core.Path.{◌≡◌, refl, sym, ◌∙◌}
-use mathlib.Core.List.{[]}
-use native.Mathlib.Omega.{arith}
-use lib.ListN.{length, drop, get_or}
+use Rattle.std.proofs.Common.{◌-◌, ◌≡◌, refl, sym, ◌∙◌, [], arith, length, drop, get_or}
 use Rattle.writing.specs.Boards.{count_of}
 use Rattle.writing.proofs.Turns.{count_fits, polygon-turn, polygons-end}
 use Rattle.writing.proofs.put.put_polygons.Goals as goal

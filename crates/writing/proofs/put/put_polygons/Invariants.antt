@@ -1,8 +1,5 @@
 -- The polygons still to be put, with the points that are left, make the row what it is to be.
-use Prim.Native.Nat.{◌≤◌, ◌+◌, ◌*◌, ◌-◌}
-use mathlib.Core.Path.{◌≡◌}
-use mathlib.Core.Bool.{true}
-use lib.ListN.{length, drop}
+use Rattle.std.proofs.Common.{◌≤◌, ◌+◌, ◌*◌, ◌-◌, ◌≡◌, true, length, drop}
 use lib.Seq.{sets}
 use Rattle.board.specs.Writing.{each, polygon_bytes}
 use Rattle.writing.specs.Boards.{polygons_of, add_up}

@@ -1,13 +1,5 @@
-use Prim.Native.Nat.{◌+◌, ◌*◌}
-use mathlib.Core.Path.{sym, ap, ◌∙◌}
-use mathlib.Core.List.{[]}
-use lib.IntN.{pos}
-use lib.ListN.{drop, get_or}
 use lib.Seq.{sets}
-use mir.Syntax.{w64}
-use mir.Val.{SFits}
-use mir.Facts.{to_z-of_z}
-use Rattle.std.proofs.Common.{rules}
+use Rattle.std.proofs.Common.{◌+◌, ◌*◌, sym, ap, ◌∙◌, [], pos, drop, get_or, w64, SFits, to_z-of_z, rules}
 use Rattle.board.specs.Writing.{each, point_bytes}
 use Rattle.writing.specs.Boards.{ring_of}
 use Rattle.writing.proofs.Turns.{ring_turn}
