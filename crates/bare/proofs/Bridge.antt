@@ -1,5 +1,6 @@
 -- What the rows hold is the net before the weights: nodes, cells and edges. Assumes nothing.
-use Rattle.std.proofs.Common.{◌≡◌, refl, sym, ap, ap₂, ◌∙◌, Bool, true, false, ◌&&◌, not, ◌⊎◌, inl, inr, ⊎_elim, List, [], ◌∷◌, ◌++◌, map, ℕ, zero, suc, ◌+◌, ◌*◌, ◌/◌, ◌%◌, ◌^◌, ◌<◌, ◌≤◌, arith, zero-add, add-zero, ltb, leb, eqb, length, get_or, length-append, get_or-append-add, Float, le-ltb, ltb-true, eqb-true}
+use lib.Ieee.{Float}
+use Rattle.std.proofs.Common.{◌≡◌, refl, sym, ap, ap₂, ◌∙◌, Bool, true, false, ◌&&◌, not, ◌⊎◌, inl, inr, ⊎_elim, List, [], ◌∷◌, ◌++◌, map, ℕ, zero, suc, ◌+◌, ◌*◌, ◌/◌, ◌%◌, ◌^◌, ◌<◌, ◌≤◌, arith, zero-add, add-zero, ltb, leb, eqb, length, get_or, length-append, get_or-append-add, le-ltb, ltb-true, eqb-true}
 use lib.ListN.{length-map, get_or-map}
 use lib.Ieee.{nan}
 use Rattle.rows.specs.Parts.{tab}

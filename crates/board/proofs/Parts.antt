@@ -1,5 +1,6 @@
 -- What an accepted record is made of, where the second walk finds it, and what reading it comes to. Assumes nothing.
-use Rattle.std.proofs.Common.{ℕ, ◌+◌, ◌-◌, ◌≤◌, ◌≡◌, refl, sym, ap, subst, ◌∙◌, Bool, true, false, cond, ◌||◌, ◌&&◌, leb-true, ℤ, Float, List, arith, leb, eqb, length, Result, Ok, Err}
+use lib.Ieee.{Float}
+use Rattle.std.proofs.Common.{ℕ, ◌+◌, ◌-◌, ◌≤◌, ◌≡◌, refl, sym, ap, subst, ◌∙◌, Bool, true, false, cond, ◌||◌, ◌&&◌, leb-true, ℤ, List, arith, leb, eqb, length, Result, Ok, Err}
 use mathlib.Core.Bool.{false≢true}
 use Rattle.refusals.specs.declared.Refusal.{Refusal}
 use Rattle.refusals.specs.declared.Refusal.TheVariants.{WrongVersion, WrongLength, OutOfRange, NoRoom}

@@ -1,5 +1,6 @@
 -- Laws of copying polygons: three rows are filled polygon by polygon. Assumes nothing.
-use Rattle.std.proofs.Common.{ℕ, suc, ◌+◌, ◌-◌, ◌≤◌, ◌<◌, ◌≡◌, refl, sym, ap, subst, ◌∙◌, List, [], ◌∷◌, ◌++◌, map, add-zero, add-suc, suc-add, add-one, arith, ℤ, Float, length, set}
+use lib.Ieee.{Float}
+use Rattle.std.proofs.Common.{ℕ, suc, ◌+◌, ◌-◌, ◌≤◌, ◌<◌, ◌≡◌, refl, sym, ap, subst, ◌∙◌, List, [], ◌∷◌, ◌++◌, map, add-zero, add-suc, suc-add, add-one, arith, ℤ, length, set}
 use mathlib.Core.List.{map-append}
 use lib.Ieee.{binary64, of_bits}
 use lib.ListN.{length-map}

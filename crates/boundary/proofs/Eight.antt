@@ -1,5 +1,6 @@
 -- P1 to P8 hold of the definitions: one computed check over one list. Assumes nothing.
-use Rattle.std.proofs.Common.{◌≡◌, refl, to_bits}
+use lib.Ieee.{to_bits}
+use Rattle.std.proofs.Common.{◌≡◌, refl}
 use lib.Ieee.{of_int, round, mul, div, add, sub, neg}
 use Rattle.cell.specs.Boxes.{shares_edge}
 use Rattle.cell.specs.Ticks.{in_range, off, on}

@@ -1,5 +1,6 @@
 -- A board that build accepts to cut is one that the steps can take. Assumes nothing.
-use Rattle.std.proofs.Common.{ℕ, zero, suc, ◌+◌, ◌-◌, ◌*◌, ◌%◌, ◌^◌, ◌<◌, ◌≤◌, ◌≡◌, refl, sym, ap, ◌∙◌, true, ◌&&◌, List, [], ◌∷◌, ◌++◌, ⊎_elim, arith, eqb, ltb, leb, ℤ, pos, Float, length, get_or, take, drop, replicate, take_at, take_all, eqb-true, leb-true}
+use lib.Ieee.{Float}
+use Rattle.std.proofs.Common.{ℕ, zero, suc, ◌+◌, ◌-◌, ◌*◌, ◌%◌, ◌^◌, ◌<◌, ◌≤◌, ◌≡◌, refl, sym, ap, ◌∙◌, true, ◌&&◌, List, [], ◌∷◌, ◌++◌, ⊎_elim, arith, eqb, ltb, leb, ℤ, pos, length, get_or, take, drop, replicate, take_at, take_all, eqb-true, leb-true}
 use lib.Ieee.{nan}
 use Rattle.cell.proofs.Offsets.{below?}
 use Rattle.cell.proofs.Contact.{and_left, and_right}

@@ -1,7 +1,8 @@
 -- What build leaves is a well-formed table in which every cell is a root and a leaf: each slot below the count has level 0, no parent and
 -- no child, coordinates in range, sides that are positive multiples of 2^(max_level+1) and a polygon of the board; the rest is zero.
 -- Assumes nothing.
-use Rattle.std.proofs.Common.{ℕ, zero, suc, ◌+◌, ◌-◌, ◌*◌, ◌/◌, ◌<◌, ◌≤◌, ◌≡◌, refl, ap, ◌∙◌, true, List, [], ◌∷◌, ◌++◌, ⊎_elim, arith, ltb, ℤ, pos, Float, length, get_or, take, drop, replicate, get_or-append-add, ltb-false}
+use lib.Ieee.{Float}
+use Rattle.std.proofs.Common.{ℕ, zero, suc, ◌+◌, ◌-◌, ◌*◌, ◌/◌, ◌<◌, ◌≤◌, ◌≡◌, refl, ap, ◌∙◌, true, List, [], ◌∷◌, ◌++◌, ⊎_elim, arith, ltb, ℤ, pos, length, get_or, take, drop, replicate, get_or-append-add, ltb-false}
 use lib.ListN.{get_or-replicate, length-replicate, get_or-eq_default}
 use Rattle.cell.proofs.Offsets.{below?}
 use Rattle.cell.proofs.Contact.{and_left, and_right}

@@ -1,5 +1,6 @@
 -- The rows of a board: point counts that add up, the layer list, and the polygons judged one after another. Assumes nothing.
-use Rattle.std.proofs.Common.{ℕ, zero, suc, ◌+◌, ◌-◌, ◌<◌, ◌≤◌, ◌≡◌, refl, sym, ◌∙◌, true, false, List, ⊎_elim, arith, add-one, ℤ, Float, length, get_or, take, drop, eqb, eqb-true, eq-eqb, ne_eqb}
+use lib.Ieee.{Float}
+use Rattle.std.proofs.Common.{ℕ, zero, suc, ◌+◌, ◌-◌, ◌<◌, ◌≤◌, ◌≡◌, refl, sym, ◌∙◌, true, false, List, ⊎_elim, arith, add-one, ℤ, length, get_or, take, drop, eqb, eqb-true, eq-eqb, ne_eqb}
 use lib.Ieee.{nan}
 use borrow.Author.Tests.{eqb-false}
 use Rattle.cell.proofs.Offsets.{below?}

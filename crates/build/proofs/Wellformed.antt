@@ -1,5 +1,6 @@
 -- What build leaves is a well-formed table, by the rules' definition, in which every cell is a root and a leaf. Assumes nothing.
-use Rattle.std.proofs.Common.{ℕ, ◌+◌, ◌*◌, min, ◌<◌, ◌≤◌, ◌≡◌, refl, ap, ◌∙◌, true, None, List, [], ◌∷◌, arith, eqb, ℤ, pos, Float, length, replicate, length-append, get_or-take, get_or-drop, eq-eqb}
+use lib.Ieee.{Float}
+use Rattle.std.proofs.Common.{ℕ, ◌+◌, ◌*◌, min, ◌<◌, ◌≤◌, ◌≡◌, refl, ap, ◌∙◌, true, None, List, [], ◌∷◌, arith, eqb, ℤ, pos, length, replicate, length-append, get_or-take, get_or-drop, eq-eqb}
 use lib.ListN.{length-replicate}
 use Rattle.refusals.specs.Limits.{max_polygons}
 use Rattle.refusals.specs.Said.{accepted}

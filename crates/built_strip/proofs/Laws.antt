@@ -1,5 +1,6 @@
 -- Of a polygon of one strip build leaves roots that are one grid, and balance then leaves no node of it hanging. Assumes nothing.
-use Rattle.std.proofs.Common.{ℕ, zero, suc, ◌+◌, ◌*◌, ◌-◌, ◌/◌, ◌%◌, ◌<◌, ◌≤◌, ◌≡◌, refl, sym, ap, subst, ◌∙◌, true, List, [], ◌∷◌, ◌++◌, append-nil, arith, div-lt_iff_lt-mul, mod-lt, ℤ, pos, Float, length, get_or, drop, replicate, get_or-take, get_or-drop}
+use lib.Ieee.{Float}
+use Rattle.std.proofs.Common.{ℕ, zero, suc, ◌+◌, ◌*◌, ◌-◌, ◌/◌, ◌%◌, ◌<◌, ◌≤◌, ◌≡◌, refl, sym, ap, subst, ◌∙◌, true, List, [], ◌∷◌, ◌++◌, append-nil, arith, div-lt_iff_lt-mul, mod-lt, ℤ, pos, length, get_or, drop, replicate, get_or-take, get_or-drop}
 use Rattle.refusals.specs.Limits.{coordinate}
 use Rattle.refusals.specs.Said.{accepted}
 use Rattle.cell.specs.Boxes.{Box}

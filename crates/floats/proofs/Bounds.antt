@@ -1,5 +1,6 @@
 -- What the rules' ranges say of a number. Assumes nothing.
-use Rattle.std.proofs.Common.{subst, ℕ, ◌*◌, ◌^◌, ◌≤◌, ◌<◌, le_of_lt, mul-one, true, false, T, le→leb, pos, Float}
+use lib.Ieee.{Float}
+use Rattle.std.proofs.Common.{subst, ℕ, ◌*◌, ◌^◌, ◌≤◌, ◌<◌, le_of_lt, mul-one, true, false, T, le→leb, pos}
 use lib.Ieee as Ieee
 use lib.Ieee.{nan, inf, fin, binary64, up, down, le, of_int, in_float, round}
 use lib.Ieee.Fits.{and_l, and_r}

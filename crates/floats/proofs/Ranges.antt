@@ -1,5 +1,6 @@
 -- Ranges with positive ends, and what an operation makes of them. Assumes nothing.
-use Rattle.std.proofs.Common.{◌≡◌, refl, sym, ◌∙◌, ℕ, ◌+◌, ◌*◌, ◌≤◌, ◌<◌, le_trans, le_of_eq, mul_comm, mul_assoc, mul_left_comm, add-mul, add-le-add, mul-le-mul, mul-le-mul_right, mul-pos, zero-lt-suc, true, false, pos, T, eqb, Float, sum}
+use lib.Ieee.{Float, sum}
+use Rattle.std.proofs.Common.{◌≡◌, refl, sym, ◌∙◌, ℕ, ◌+◌, ◌*◌, ◌≤◌, ◌<◌, le_trans, le_of_eq, mul_comm, mul_assoc, mul_left_comm, add-mul, add-le-add, mul-le-mul, mul-le-mul_right, mul-pos, zero-lt-suc, true, false, pos, T, eqb}
 use lib.Ieee.{nan, inf, fin, Format, binary64, round, add, mul, div, le, of_int}
 use lib.Ieee.Bits.{cond_no}
 use lib.Ieee.Order.{round_mono}

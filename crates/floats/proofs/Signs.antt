@@ -1,5 +1,6 @@
 -- Where a result is no NaN, and where it has no minus sign either: laws of the operations. Assumes nothing.
-use Rattle.std.proofs.Common.{◌≡◌, sym, subst, ℕ, zero, suc, ◌+◌, ◌*◌, ◌^◌, ◌<◌, arith, Bool, true, false, not, cond, T, ltb, eqb, eqb→eq, ltb→lt, Float, sum, is_nan}
+use lib.Ieee.{Float, sum, is_nan}
+use Rattle.std.proofs.Common.{◌≡◌, sym, subst, ℕ, zero, suc, ◌+◌, ◌*◌, ◌^◌, ◌<◌, arith, Bool, true, false, not, cond, T, ltb, eqb, eqb→eq, ltb→lt}
 use lib.Dec.{not_T}
 use lib.Ieee.{nan, inf, fin, Format, prec, emax, low, up, down, unlike, odd, units, round, add, mul, div}
 use lib.Ieee.Fits.{round_is}

@@ -1,5 +1,6 @@
 -- Finite values of a bounded size, and what sums and differences make of them. Assumes nothing.
-use Rattle.std.proofs.Common.{◌≡◌, sym, ap, ◌∙◌, subst, ℕ, zero, suc, ◌+◌, ◌-◌, ◌*◌, ◌^◌, ◌≤◌, ◌<◌, le_trans, le_of_eq, le_of_lt, mul-one, one-mul, mul_comm, mul_assoc, mul_right_comm, mul-le-mul_right, le_of_mul-le-mul_right, mul-pos, zero-lt-suc, pow-suc, arith, Bool, true, false, ◌&&◌, ◌||◌, cond, true≢false, T, ltb, eqb, eqb→eq, ltb→lt, lit<, pow-add, Float, sum, is_nan}
+use lib.Ieee.{Float, sum, is_nan}
+use Rattle.std.proofs.Common.{◌≡◌, sym, ap, ◌∙◌, subst, ℕ, zero, suc, ◌+◌, ◌-◌, ◌*◌, ◌^◌, ◌≤◌, ◌<◌, le_trans, le_of_eq, le_of_lt, mul-one, one-mul, mul_comm, mul_assoc, mul_right_comm, mul-le-mul_right, le_of_mul-le-mul_right, mul-pos, zero-lt-suc, pow-suc, arith, Bool, true, false, ◌&&◌, ◌||◌, cond, true≢false, T, ltb, eqb, eqb→eq, ltb→lt, lit<, pow-add}
 use mathlib.Core.Bool.{beq}
 use lib.Pow.{pow-lt}
 use lib.Ieee.{nan, inf, fin, Format, binary64, prec, emax, low, up, down, odd, units, round, neg, add, sub, le}

@@ -1,5 +1,6 @@
 -- Items of equal key are at the same place; the items from 4 * l on are the nodes, and those before them the middles. Assumes nothing.
-use Rattle.std.proofs.Common.{◌≡◌, refl, sym, ap, ap₂, ◌∙◌, Bool, true, false, ◌&&◌, List, ℕ, zero, suc, ◌+◌, ◌*◌, ◌/◌, ◌%◌, ◌<◌, arith, add-zero, eqb, length, get_or, ℤ, Float}
+use lib.Ieee.{Float}
+use Rattle.std.proofs.Common.{◌≡◌, refl, sym, ap, ap₂, ◌∙◌, Bool, true, false, ◌&&◌, List, ℕ, zero, suc, ◌+◌, ◌*◌, ◌/◌, ◌%◌, ◌<◌, arith, add-zero, eqb, length, get_or, ℤ}
 use mathlib.Core.Bool.{and_assoc}
 use Rattle.cell.specs.Boxes.{Box, mid}
 use Rattle.rows.specs.Order.{key, first_of, last_of}

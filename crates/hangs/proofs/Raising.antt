@@ -1,5 +1,6 @@
 -- The extents, side by side: what a turn of the loop does, and what there is in the end. Assumes nothing.
-use Rattle.std.proofs.Common.{◌≡◌, refl, sym, ap, ap₂, subst, ◌∙◌, Bool, true, false, List, ℕ, zero, suc, ◌+◌, ◌*◌, ◌-◌, ◌/◌, ◌%◌, ◌<◌, ◌≤◌, max, arith, add-one, mul_comm, eqb, length, get_or, set, length-set, get_or-set_same, get_or-set_other, ℤ, Float, eqb-true, eq-eqb, ne_eqb}
+use lib.Ieee.{Float}
+use Rattle.std.proofs.Common.{◌≡◌, refl, sym, ap, ap₂, subst, ◌∙◌, Bool, true, false, List, ℕ, zero, suc, ◌+◌, ◌*◌, ◌-◌, ◌/◌, ◌%◌, ◌<◌, ◌≤◌, max, arith, add-one, mul_comm, eqb, length, get_or, set, length-set, get_or-set_same, get_or-set_other, ℤ, eqb-true, eq-eqb, ne_eqb}
 use mathlib.Core.Logic.{by_cases}
 use native.Mathlib.Decide.{ℕ_discrete}
 use Rattle.rows.specs.Order.{last_of}

@@ -1,6 +1,7 @@
 -- The rows that `fill_leaves` leaves are what the next steps ask for: a board of upright boxes; and the pieces are what the net's laws ask for.
 -- Assumes nothing.
-use Rattle.std.proofs.Common.{◌≡◌, refl, sym, ap, subst, ◌∙◌, true, List, [], ◌∷◌, map, ℕ, zero, suc, ◌+◌, ◌*◌, ◌<◌, ◌≤◌, arith, add-zero, T, ltb, ℤ, Float, length, get_or, take, ltb-true}
+use lib.Ieee.{Float}
+use Rattle.std.proofs.Common.{◌≡◌, refl, sym, ap, subst, ◌∙◌, true, List, [], ◌∷◌, map, ℕ, zero, suc, ◌+◌, ◌*◌, ◌<◌, ◌≤◌, arith, add-zero, T, ltb, ℤ, length, get_or, take, ltb-true}
 use lib.Ieee.{nan}
 use lib.Ieee.Positive.{positive}
 use lib.ListN.{length-map}

@@ -1,5 +1,6 @@
 -- Laws of numbers as text. Assumes nothing.
-use Rattle.std.proofs.Common.{ℕ, zero, suc, ◌+◌, ◌-◌, ◌/◌, ◌%◌, ◌^◌, ◌<◌, ◌≤◌, ◌≡◌, refl, sym, ap, ap₂, ◌∙◌, Bool, true, false, [], ◌∷◌, ◌++◌, pow-suc, arith, ltb, Float, to_bits, is_nan, ℤ, pos, negsuc, nat_abs, lt-ltb, le-ltb, leb-true, ltb-true, ltb-false}
+use lib.Ieee.{Float, to_bits, is_nan}
+use Rattle.std.proofs.Common.{ℕ, zero, suc, ◌+◌, ◌-◌, ◌/◌, ◌%◌, ◌^◌, ◌<◌, ◌≤◌, ◌≡◌, refl, sym, ap, ap₂, ◌∙◌, Bool, true, false, [], ◌∷◌, ◌++◌, pow-suc, arith, ltb, ℤ, pos, negsuc, nat_abs, lt-ltb, le-ltb, leb-true, ltb-true, ltb-false}
 use mathlib.Core.Bool.{false≢true}
 use native.Mathlib.Nat.{pow-le-pow_right, one-le-pow}
 use lib.Ieee.{nan, inf, fin, binary64}

@@ -1,5 +1,6 @@
 -- The rules' lines for the worked board, and a refusal. Assumes nothing.
-use Rattle.std.proofs.Common.{ℕ, ◌≡◌, refl, List, [], ◌∷◌, false, pos, negsuc, Float, to_bits}
+use lib.Ieee.{Float, to_bits}
+use Rattle.std.proofs.Common.{ℕ, ◌≡◌, refl, List, [], ◌∷◌, false, pos, negsuc}
 use lib.Ieee.{fin}
 use Rattle.lines.specs.Text.{tens, decimal, signed, hex_of, numbers, totals_text, leaf_text, node_text, edge_text, refused_text}
 

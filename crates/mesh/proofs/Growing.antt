@@ -1,5 +1,6 @@
 -- The steps of a table put together: what is said and left where a step refuses, and where none does. Assumes nothing.
-use Rattle.std.proofs.Common.{ℕ, ◌-◌, ◌/◌, ◌≡◌, refl, sym, ap, ◌∙◌, Bool, true, false, cond, List, [], ◌∷◌, leb, Float, ℤ, length}
+use lib.Ieee.{Float}
+use Rattle.std.proofs.Common.{ℕ, ◌-◌, ◌/◌, ◌≡◌, refl, sym, ap, ◌∙◌, Bool, true, false, cond, List, [], ◌∷◌, leb, ℤ, length}
 use mathlib.Core.Bool.{false≢true}
 use Rattle.refusals.specs.Said.{Said, accepted, refused, refusal}
 use Rattle.refusals.specs.declared.Refusal.{Refusal}

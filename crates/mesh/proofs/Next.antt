@@ -1,5 +1,6 @@
 -- What a caller goes on with after an accepted call: whose the totals are, and what stands at the rows' fronts. Assumes nothing.
-use Rattle.std.proofs.Common.{ℕ, ◌≡◌, refl, sym, ap, ◌∙◌, Bool, true, false, cond, List, [], ◌∷◌, map, leb, Float, ℤ, length, take, replicate, Ok}
+use lib.Ieee.{Float}
+use Rattle.std.proofs.Common.{ℕ, ◌≡◌, refl, sym, ap, ◌∙◌, Bool, true, false, cond, List, [], ◌∷◌, map, leb, ℤ, length, take, replicate, Ok}
 use lib.ListN.{length-map}
 use Rattle.refusals.specs.Said.{accepted, refused}
 use Rattle.build.proofs.Fitting.{refused-accepted}

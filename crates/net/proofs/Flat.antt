@@ -1,5 +1,6 @@
 -- The net before the weights from one list of leaves. Assumes nothing.
-use Rattle.std.proofs.Common.{◌≡◌, refl, sym, ap, ap₂, ◌∙◌, subst, Bool, true, false, ⊎_elim, List, [], ◌∷◌, ◌++◌, map, append_assoc, ℕ, suc, ◌+◌, ◌*◌, ◌≤◌, ◌<◌, arith, ltb, length, get_or, length-append, Float, lt-ltb, eq-eqb}
+use lib.Ieee.{Float}
+use Rattle.std.proofs.Common.{◌≡◌, refl, sym, ap, ap₂, ◌∙◌, subst, Bool, true, false, ⊎_elim, List, [], ◌∷◌, ◌++◌, map, append_assoc, ℕ, suc, ◌+◌, ◌*◌, ◌≤◌, ◌<◌, arith, ltb, length, get_or, length-append, lt-ltb, eq-eqb}
 use lib.ListN.{length-map}
 use Rattle.cell.specs.Boxes.{Box}
 use Rattle.net.specs.Net.{find, has, weld, each, Poly, Node, Edge, Patch, Piece, same_node, nth, nowhere, corners_at, corners_of, nodes_from, edges_from, patches_from, leaf_sum, across, upright, One, Half, ◌·◌, ◌÷◌}

@@ -1,6 +1,7 @@
 -- Where a node made so far stands at the middle of a leaf's side, both halves are edges of the net: for any table and any polygons.
 -- Assumes nothing.
-use Rattle.std.proofs.Common.{◌≡◌, refl, sym, ap, ◌∙◌, subst, Bool, true, false, ⊎_elim, List, [], ◌∷◌, ◌++◌, map, ◌+◌, ◌≤◌, ◌<◌, arith, length, get_or, length-append, Float, eq-eqb}
+use lib.Ieee.{Float}
+use Rattle.std.proofs.Common.{◌≡◌, refl, sym, ap, ◌∙◌, subst, Bool, true, false, ⊎_elim, List, [], ◌∷◌, ◌++◌, map, ◌+◌, ◌≤◌, ◌<◌, arith, length, get_or, length-append, eq-eqb}
 use lib.ListN.{length-map, get_or-map}
 use Rattle.cell.specs.Boxes.{Box, mid}
 use Rattle.table.specs.Mesh.{Cell}

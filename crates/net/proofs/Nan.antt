@@ -1,5 +1,6 @@
 -- Conductances are no NaN, and none is negative. The first part is of binary64, the second of the net. Assumes nothing.
-use Rattle.std.proofs.Common.{◌≡◌, refl, sym, subst, ⊎_elim, Option, None, Some, List, [], ◌∷◌, map, ℕ, zero, suc, ◌+◌, ◌-◌, ◌*◌, ◌^◌, ◌≤◌, ◌<◌, max, lt_of_lt_of_le, mul_assoc, zero-lt-suc, arith, Bool, true, false, not, cond, T, ltb, eqb, eqb→eq, ltb→lt, lit≤, shl_lt, length, Float}
+use lib.Ieee.{Float}
+use Rattle.std.proofs.Common.{◌≡◌, refl, sym, subst, ⊎_elim, Option, None, Some, List, [], ◌∷◌, map, ℕ, zero, suc, ◌+◌, ◌-◌, ◌*◌, ◌^◌, ◌≤◌, ◌<◌, max, lt_of_lt_of_le, mul_assoc, zero-lt-suc, arith, Bool, true, false, not, cond, T, ltb, eqb, eqb→eq, ltb→lt, lit≤, shl_lt, length}
 use lib.Dec.{not_T}
 use lib.ListN.{get_or-eq_default}
 use lib.Ieee.{nan, inf, fin, Format, binary64, prec, emax, low, up, down, odd, units, round, mul, div, of_int, of_bits}

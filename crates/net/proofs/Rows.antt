@@ -1,5 +1,6 @@
 -- A leaf's edges and its cell by places among the keys, as the code has them. Assumes nothing.
-use Rattle.std.proofs.Common.{◌≡◌, refl, sym, ap, ap₂, ◌∙◌, Bool, true, false, List, [], ◌∷◌, ◌++◌, ℕ, ◌+◌, ◌≤◌, ◌<◌, arith, ltb, length, take, Float, ltb-true}
+use lib.Ieee.{Float}
+use Rattle.std.proofs.Common.{◌≡◌, refl, sym, ap, ap₂, ◌∙◌, Bool, true, false, List, [], ◌∷◌, ◌++◌, ℕ, ◌+◌, ◌≤◌, ◌<◌, arith, ltb, length, take, ltb-true}
 use Rattle.cell.specs.Boxes.{Box, mid}
 use Rattle.net.specs.Net.{has, weld, Poly, Node, Edge, Patch, same_node, nth, nowhere, number, node_at, sw_of, se_of, ne_of, nw_of, One, Half, ◌·◌, ◌÷◌, across, upright, join, side_of, sides_at, patch_at}
 use Rattle.net.specs.First.{first_of, number_by, join_by, side_by, sides_by, patch_by}

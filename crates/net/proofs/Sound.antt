@@ -1,6 +1,7 @@
 -- What every net is: its numbers are below the node count, its cells are rectangles, and it has at most 4 nodes, 8 edges and 1 cell a leaf.
 -- Assumes nothing.
-use Rattle.std.proofs.Common.{◌≡◌, refl, sym, ap, ◌∙◌, subst, Bool, true, false, ◌&&◌, ⊎_elim, List, [], ◌∷◌, ◌++◌, map, ℕ, suc, ◌+◌, ◌*◌, ◌≤◌, ◌<◌, mul-suc, arith, leb, eqb, length, length-append, Float, ltb-true, eqb-true, eq-eqb, ne_eqb, le-leb}
+use lib.Ieee.{Float}
+use Rattle.std.proofs.Common.{◌≡◌, refl, sym, ap, ◌∙◌, subst, Bool, true, false, ◌&&◌, ⊎_elim, List, [], ◌∷◌, ◌++◌, map, ℕ, suc, ◌+◌, ◌*◌, ◌≤◌, ◌<◌, mul-suc, arith, leb, eqb, length, length-append, ltb-true, eqb-true, eq-eqb, ne_eqb, le-leb}
 use lib.ListN.{length-map, get_or-append}
 use borrow.Author.Tests.{lt-leb}
 use Rattle.cell.specs.Boxes.{Box, mid}

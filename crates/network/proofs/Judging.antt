@@ -1,5 +1,6 @@
 -- The polygons' sheet resistances judged one after another. Assumes nothing.
-use Rattle.std.proofs.Common.{ℕ, suc, ◌+◌, ◌-◌, ◌<◌, ◌≤◌, ◌≡◌, refl, true, false, List, arith, add-one, Float, get_or}
+use lib.Ieee.{Float}
+use Rattle.std.proofs.Common.{ℕ, suc, ◌+◌, ◌-◌, ◌<◌, ◌≤◌, ◌≡◌, refl, true, false, List, arith, add-one, get_or}
 use lib.Ieee.{nan}
 use Rattle.refusals.specs.Said.{Said, refused}
 use Rattle.floats.specs.Fractions.{in_sheet}

@@ -1,5 +1,6 @@
 -- The steps of a net put together: from the leaves' rows to the rows of the net. Assumes nothing.
-use Rattle.std.proofs.Common.{◌≡◌, refl, sym, ap, ◌∙◌, List, [], ◌∷◌, map, ℕ, ◌+◌, ◌*◌, ◌^◌, ◌<◌, ◌≤◌, arith, ℤ, Float, length, take, replicate}
+use lib.Ieee.{Float}
+use Rattle.std.proofs.Common.{◌≡◌, refl, sym, ap, ◌∙◌, List, [], ◌∷◌, map, ℕ, ◌+◌, ◌*◌, ◌^◌, ◌<◌, ◌≤◌, arith, ℤ, length, take, replicate}
 use lib.ListN.{length-map}
 use Rattle.refusals.specs.Limits.{coordinate}
 use Rattle.table.specs.Mesh.{table}

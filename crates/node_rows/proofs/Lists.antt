@@ -1,5 +1,6 @@
 -- The lists that the rows hold. Assumes nothing.
-use Rattle.std.proofs.Common.{◌≡◌, refl, sym, ap, ap₂, ◌∙◌, List, [], ◌∷◌, ◌++◌, map, ℕ, zero, suc, ◌+◌, ◌*◌, ◌<◌, ◌≤◌, arith, add-zero, mul-zero, mul-suc, mul-le-mul_left, length, get_or, take, length-append, length-take, get_or-append-add, get_or-take, ℤ, pos, Float}
+use lib.Ieee.{Float}
+use Rattle.std.proofs.Common.{◌≡◌, refl, sym, ap, ap₂, ◌∙◌, List, [], ◌∷◌, ◌++◌, map, ℕ, zero, suc, ◌+◌, ◌*◌, ◌<◌, ◌≤◌, arith, add-zero, mul-zero, mul-suc, mul-le-mul_left, length, get_or, take, length-append, length-take, get_or-append-add, get_or-take, ℤ, pos}
 use lib.ListN.{length-map, get_or-append, get_or-map}
 use lib.Ieee.{nan}
 use Rattle.refusals.specs.Limits.{coordinate}

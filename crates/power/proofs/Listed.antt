@@ -1,5 +1,6 @@
 -- A row that is filled from the front. Assumes nothing.
-use Rattle.std.proofs.Common.{ℕ, zero, suc, ◌+◌, ◌<◌, ◌≡◌, refl, sym, ap, ◌∙◌, List, [], ◌∷◌, ◌++◌, append_assoc, add-one, ⊎_elim, eq-or-lt_of_le, arith, length, get_or, drop, set, length-append, drop-cons, Float}
+use lib.Ieee.{Float}
+use Rattle.std.proofs.Common.{ℕ, zero, suc, ◌+◌, ◌<◌, ◌≡◌, refl, sym, ap, ◌∙◌, List, [], ◌∷◌, ◌++◌, append_assoc, add-one, ⊎_elim, eq-or-lt_of_le, arith, length, get_or, drop, set, length-append, drop-cons}
 use lib.ListN.{get_or-append}
 use lib.Seq.{set_at, get_or_at}
 use lib.Ieee.{nan}

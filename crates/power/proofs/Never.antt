@@ -1,5 +1,6 @@
 -- The power of a cell is never a NaN and never negative. Assumes nothing.
-use Rattle.std.proofs.Common.{ℕ, ◌+◌, ◌<◌, ◌≤◌, ◌≡◌, refl, sym, subst, ◌∙◌, Bool, true, false, cond, List, [], arith, length, get_or, drop, T, leb, lit<, Float}
+use lib.Ieee.{Float}
+use Rattle.std.proofs.Common.{ℕ, ◌+◌, ◌<◌, ◌≤◌, ◌≡◌, refl, sym, subst, ◌∙◌, Bool, true, false, cond, List, [], arith, length, get_or, drop, T, leb, lit<}
 use lib.ListN.{get_or-append}
 use lib.Ieee.{nan, binary64, of_int, mul, round, le}
 use lib.Ieee.Positive.{positive}

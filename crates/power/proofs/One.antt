@@ -1,5 +1,6 @@
 -- The contract of `cell_power` permits one answer and one content of the row of answers. Assumes nothing.
-use Rattle.std.proofs.Common.{◌≡◌, refl, sym, ◌∙◌, List, [], Float, Result}
+use lib.Ieee.{Float}
+use Rattle.std.proofs.Common.{◌≡◌, refl, sym, ◌∙◌, List, [], Result}
 use Rattle.refusals.specs.declared.Refusal.{Refusal}
 use Rattle.refusals.proofs.Settled.{one-said}
 use Rattle.sound_net.specs.Nets.{Net}

@@ -1,5 +1,6 @@
 -- What an accepted call says and leaves, and what it may go by. Assumes nothing.
-use Rattle.std.proofs.Common.{ℕ, ◌<◌, ◌≡◌, true, ◌&&◌, List, [], arith, length, T, eqb, eqb→eq, leb, ℤ, Float}
+use lib.Ieee.{Float}
+use Rattle.std.proofs.Common.{ℕ, ◌<◌, ◌≡◌, true, ◌&&◌, List, [], arith, length, T, eqb, eqb→eq, leb, ℤ}
 use lib.Ieee.Fits.{and_l, and_r}
 use Rattle.refusals.specs.Said.{accepted}
 use Rattle.floats.specs.Fractions.{in_sheet, in_potential}

@@ -1,5 +1,6 @@
 -- From what mesh answers and leaves in its rows to the text of the record. Assumes nothing.
-use Rattle.std.proofs.Common.{ℕ, ◌≤◌, ◌≡◌, sym, ap, subst, ◌∙◌, Bool, true, false, cond, List, [], ◌∷◌, map, arith, leb, ℤ, Float, length, take, drop, replicate, Ok}
+use lib.Ieee.{Float}
+use Rattle.std.proofs.Common.{ℕ, ◌≤◌, ◌≡◌, sym, ap, subst, ◌∙◌, Bool, true, false, cond, List, [], ◌∷◌, map, arith, leb, ℤ, length, take, drop, replicate, Ok}
 use lib.ListN.{length-map, length-replicate}
 use lib.Seq.{sets, take-append_seam}
 use Rattle.refusals.specs.declared.Refusal.{Refusal}

@@ -1,5 +1,6 @@
 -- Rows that hold a net: their lines are those of the net. Assumes nothing.
-use Rattle.std.proofs.Common.{ℕ, ◌+◌, ◌*◌, ◌<◌, ◌≤◌, ◌≡◌, refl, sym, ap, ap₂, ◌∙◌, List, [], ◌∷◌, ◌++◌, map, add-zero, arith, ℤ, pos, Float, length, get_or, drop, length-append, get_or-take}
+use lib.Ieee.{Float}
+use Rattle.std.proofs.Common.{ℕ, ◌+◌, ◌*◌, ◌<◌, ◌≤◌, ◌≡◌, refl, sym, ap, ap₂, ◌∙◌, List, [], ◌∷◌, ◌++◌, map, add-zero, arith, ℤ, pos, length, get_or, drop, length-append, get_or-take}
 use lib.Ieee.{nan, binary64, of_bits}
 use lib.ListN.{length-map, length-replicate, get_or-map}
 use Rattle.refusals.specs.declared.Refusal.{Refusal}

@@ -1,5 +1,6 @@
 -- What a refusal prints, and what an accepted call says. Assumes nothing.
-use Rattle.std.proofs.Common.{ℕ, zero, suc, ◌≤◌, ◌≡◌, refl, sym, ap, ◌∙◌, Bool, true, false, cond, List, [], ◌∷◌, leb, ℤ, Float, length, get_or, leb-true}
+use lib.Ieee.{Float}
+use Rattle.std.proofs.Common.{ℕ, zero, suc, ◌≤◌, ◌≡◌, refl, sym, ap, ◌∙◌, Bool, true, false, cond, List, [], ◌∷◌, leb, ℤ, length, get_or, leb-true}
 use mathlib.Core.Bool.{false≢true}
 use lib.Ieee.{nan}
 use Rattle.refusals.specs.declared.Refusal.{Refusal}

@@ -1,6 +1,7 @@
 -- The numbers of the net before the weights: each corner and each end is a node, there are few of them, and the nodes stay in range.
 -- Assumes nothing.
-use Rattle.std.proofs.Common.{◌≡◌, refl, sym, ap, subst, ◌∙◌, List, [], ◌∷◌, map, ℕ, suc, ◌+◌, ◌*◌, ◌<◌, ◌≤◌, arith, zero-add, length, get_or, ℤ, Float}
+use lib.Ieee.{Float}
+use Rattle.std.proofs.Common.{◌≡◌, refl, sym, ap, subst, ◌∙◌, List, [], ◌∷◌, map, ℕ, suc, ◌+◌, ◌*◌, ◌<◌, ◌≤◌, arith, zero-add, length, get_or, ℤ}
 use Rattle.cell.specs.Boxes.{Box}
 use Rattle.rows.specs.Parts.{put, tab}
 use Rattle.rows.specs.Contract.{Small}

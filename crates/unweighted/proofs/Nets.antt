@@ -1,5 +1,6 @@
 -- The rows written hold the net before the weights. Assumes nothing.
-use Rattle.std.proofs.Common.{◌≡◌, refl, sym, ap, subst, ◌∙◌, List, [], ◌∷◌, map, ℕ, ◌+◌, ◌*◌, arith, length, get_or, take, ℤ, Float}
+use lib.Ieee.{Float}
+use Rattle.std.proofs.Common.{◌≡◌, refl, sym, ap, subst, ◌∙◌, List, [], ◌∷◌, map, ℕ, ◌+◌, ◌*◌, arith, length, get_or, take, ℤ}
 use lib.ListN.{length-map}
 use lib.Ieee.{nan}
 use Rattle.rows.specs.Parts.{part, put, tab}

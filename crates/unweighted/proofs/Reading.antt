@@ -1,5 +1,6 @@
 -- The rows written, entry by entry: what the weights read. Assumes nothing.
-use Rattle.std.proofs.Common.{◌≡◌, refl, ap, ◌∙◌, List, [], ◌∷◌, map, ℕ, zero, suc, ◌+◌, ◌*◌, ◌<◌, ◌≤◌, arith, length, get_or, ℤ, Float}
+use lib.Ieee.{Float}
+use Rattle.std.proofs.Common.{◌≡◌, refl, ap, ◌∙◌, List, [], ◌∷◌, map, ℕ, zero, suc, ◌+◌, ◌*◌, ◌<◌, ◌≤◌, arith, length, get_or, ℤ}
 use lib.ListN.{length-map}
 use Rattle.rows.specs.Parts.{put}
 use Rattle.net.specs.Net.{each, Edge, Patch, Piece, nth, nowhere, nodes_from, edges_from, patches_from}

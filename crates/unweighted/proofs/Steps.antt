@@ -1,5 +1,6 @@
 -- From step to step: what the rows hold, and what the next step requires of them. Assumes nothing.
-use Rattle.std.proofs.Common.{◌≡◌, sym, ap, subst, ◌∙◌, List, ℕ, ◌+◌, ◌*◌, ◌<◌, ◌≤◌, arith, length, take, ℤ, Float, length-take-le, get_or-take, ext_get_or}
+use lib.Ieee.{Float}
+use Rattle.std.proofs.Common.{◌≡◌, sym, ap, subst, ◌∙◌, List, ℕ, ◌+◌, ◌*◌, ◌<◌, ◌≤◌, arith, length, take, ℤ, length-take-le, get_or-take, ext_get_or}
 use Rattle.refusals.specs.Limits.{max_polygons}
 use Rattle.rows.specs.Parts.{part, tab}
 use Rattle.rows.specs.Contract.{Small}

@@ -1,5 +1,6 @@
 -- Rows that hold a net: what `apply_weights` requires of them, and the conductances that it writes. Assumes nothing.
-use Rattle.std.proofs.Common.{◌≡◌, refl, sym, ap, subst, ◌∙◌, List, map, ℕ, zero, suc, ◌+◌, ◌*◌, ◌/◌, ◌%◌, ◌^◌, ◌<◌, ◌≤◌, arith, length, get_or, take, length-take, ℤ, Float}
+use lib.Ieee.{Float}
+use Rattle.std.proofs.Common.{◌≡◌, refl, sym, ap, subst, ◌∙◌, List, map, ℕ, zero, suc, ◌+◌, ◌*◌, ◌/◌, ◌%◌, ◌^◌, ◌<◌, ◌≤◌, arith, length, get_or, take, length-take, ℤ}
 use lib.ListN.{length-map}
 use lib.Ieee.{nan}
 use Rattle.refusals.specs.Limits.{coordinate, max_slots}

@@ -1,5 +1,6 @@
 -- The work room once the pairs are sorted in front of the extents. Assumes nothing.
-use Rattle.std.proofs.Common.{◌≡◌, ap, ◌∙◌, List, ℕ, ◌+◌, ◌*◌, ◌-◌, ◌≤◌, arith, length, get_or, take, drop, length-drop, length-take-le, ℤ, Float}
+use lib.Ieee.{Float}
+use Rattle.std.proofs.Common.{◌≡◌, ap, ◌∙◌, List, ℕ, ◌+◌, ◌*◌, ◌-◌, ◌≤◌, arith, length, get_or, take, drop, length-drop, length-take-le, ℤ}
 use borrow.Rule.Slice.PartMut.{put_mid}
 use Rattle.rows.specs.Parts.{part, put, tab}
 use Rattle.rows.proofs.Parts.{length-put, put-above, part-put-in, lent_back}

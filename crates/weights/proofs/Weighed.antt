@@ -1,5 +1,6 @@
 -- An edge's weight, by the rows. Assumes nothing.
-use Rattle.std.proofs.Common.{◌≡◌, refl, sym, ap, ap₂, ◌∙◌, Option, None, Some, List, ℕ, zero, suc, ◌+◌, ◌*◌, ◌/◌, ◌^◌, ◌<◌, ◌≤◌, arith, add-zero, get_or, ℤ, Float}
+use lib.Ieee.{Float}
+use Rattle.std.proofs.Common.{◌≡◌, refl, sym, ap, ap₂, ◌∙◌, Option, None, Some, List, ℕ, zero, suc, ◌+◌, ◌*◌, ◌/◌, ◌^◌, ◌<◌, ◌≤◌, arith, add-zero, get_or, ℤ}
 use lib.Ieee.{nan}
 use Rattle.rows.specs.Parts.{tab}
 use Rattle.rows.proofs.Parts.{part_at}

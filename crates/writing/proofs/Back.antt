@@ -1,5 +1,6 @@
 -- For every board in range: its rows are its board again, so what `write` puts is the record of the board, which reads as the board. Assumes nothing.
-use Rattle.std.proofs.Common.{ℕ, ◌+◌, ◌*◌, ◌-◌, ◌^◌, ◌≤◌, ◌≡◌, refl, sym, ap, subst, ◌∙◌, true, not, List, [], ◌∷◌, map, arith, T, is_nan, length, take, drop, take_at, drop_at, eq-eqb, le-leb, mul-suc, length-append}
+use lib.Ieee.{is_nan}
+use Rattle.std.proofs.Common.{ℕ, ◌+◌, ◌*◌, ◌-◌, ◌^◌, ◌≤◌, ◌≡◌, refl, sym, ap, subst, ◌∙◌, true, not, List, [], ◌∷◌, map, arith, T, length, take, drop, take_at, drop_at, eq-eqb, le-leb, mul-suc, length-append}
 use mathlib.Core.List.{map-append}
 use lib.Ieee.{binary64, of_bits}
 use lib.Ieee.Bits.{to_bits-of_bits, nan_bits_is}

@@ -1,5 +1,6 @@
 -- The record of the rows' board, in the two parts in which it is put. Assumes nothing.
-use Rattle.std.proofs.Common.{ℕ, suc, ◌+◌, ◌-◌, ◌≡◌, refl, sym, ap, ◌∙◌, true, List, [], ◌∷◌, ◌++◌, append_assoc, arith, ℤ, Float, length, drop, length-append}
+use lib.Ieee.{Float}
+use Rattle.std.proofs.Common.{ℕ, suc, ◌+◌, ◌-◌, ◌≡◌, refl, sym, ap, ◌∙◌, true, List, [], ◌∷◌, ◌++◌, append_assoc, arith, ℤ, length, drop, length-append}
 use lib.ListN.{length-map}
 use Rattle.record.specs.declared.Settings.{Settings}
 use Rattle.board.specs.Rows.{Rows}

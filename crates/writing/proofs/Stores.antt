@@ -1,5 +1,6 @@
 -- Laws of bytes stored in a row. Assumes nothing.
-use Rattle.std.proofs.Common.{ℕ, zero, suc, ◌+◌, ◌*◌, ◌-◌, ◌/◌, ◌%◌, ◌≤◌, ◌<◌, ◌≡◌, refl, sym, ap, ◌∙◌, List, [], ◌∷◌, ◌++◌, map, mul-suc, arith, add-one, length, set, drop, get_or, length-drop, Bool, true, false, not, Float, is_nan, T, eq-eqb, drop-cons}
+use lib.Ieee.{Float, is_nan}
+use Rattle.std.proofs.Common.{ℕ, zero, suc, ◌+◌, ◌*◌, ◌-◌, ◌/◌, ◌%◌, ◌≤◌, ◌<◌, ◌≡◌, refl, sym, ap, ◌∙◌, List, [], ◌∷◌, ◌++◌, map, mul-suc, arith, add-one, length, set, drop, get_or, length-drop, Bool, true, false, not, T, eq-eqb, drop-cons}
 use lib.Ieee.{nan, inf, fin, up, down, eq}
 use lib.Seq.{sets, set_comm}
 use Rattle.board.proofs.Shapes.{sets-append}

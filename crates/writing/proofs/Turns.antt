@@ -1,5 +1,6 @@
 -- One polygon more: what its stores leave to be put. Assumes nothing.
-use Rattle.std.proofs.Common.{ℕ, suc, ◌+◌, ◌*◌, ◌-◌, ◌≤◌, ◌<◌, ◌≡◌, refl, sym, ap, ◌∙◌, Bool, true, false, ◌&&◌, List, [], ◌∷◌, ◌++◌, append_assoc, mul-suc, mul-zero, add-one, arith, leb, eqb, ℤ, Float, length, get_or, take, drop, length-append, length-drop, drop-cons, length-take-le, leb-true, le-leb, eqb-true, w64, of_z}
+use lib.Ieee.{Float}
+use Rattle.std.proofs.Common.{ℕ, suc, ◌+◌, ◌*◌, ◌-◌, ◌≤◌, ◌<◌, ◌≡◌, refl, sym, ap, ◌∙◌, Bool, true, false, ◌&&◌, List, [], ◌∷◌, ◌++◌, append_assoc, mul-suc, mul-zero, add-one, arith, leb, eqb, ℤ, length, get_or, take, drop, length-append, length-drop, drop-cons, length-take-le, leb-true, le-leb, eqb-true, w64, of_z}
 use mathlib.Core.Bool.{false≢true}
 use lib.Ieee.{nan}
 use lib.ListN.{length-map}

@@ -1,7 +1,8 @@
 -- The net is refused, or made and written.
 use lib.Ieee.{binary64, of_bits}
 use lib.ListN.{length-replicate}
-use Rattle.std.proofs.Common.{Float, ℕ, ℤ, pos, ◌*◌, ◌∙◌}
+use lib.Ieee.{Float}
+use Rattle.std.proofs.Common.{ℕ, ℤ, pos, ◌*◌, ◌∙◌}
 use Rattle.refusals.specs.Said.{refusal}
 use Rattle.lines.proofs.Joining.{renamed}
 use Rattle.mesh.specs.Says.{leaf_room}

@@ -1,7 +1,8 @@
 -- The record is refused, or its table written.
 use lib.Ieee.{binary64, of_bits}
 use lib.ListN.{length-replicate}
-use Rattle.std.proofs.Common.{Float, rules, ℕ, take, arith, refl, sym, length-take-le}
+use lib.Ieee.{Float}
+use Rattle.std.proofs.Common.{rules, ℕ, take, arith, refl, sym, length-take-le}
 use Rattle.refusals.specs.Said.{refusal}
 use Rattle.lines.proofs.Joining.{renamed, lies}
 use Rattle.mesh.specs.Says.{polygon_room}

@@ -1,4 +1,5 @@
-use Rattle.std.proofs.Common.{◌≡◌, refl, ap₂, ◌∙◌, List, [], ◌∷◌, ℕ, ◌*◌, ◌<◌, ◌≤◌, arith, Float, length, set}
+use lib.Ieee.{Float}
+use Rattle.std.proofs.Common.{◌≡◌, refl, ap₂, ◌∙◌, List, [], ◌∷◌, ℕ, ◌*◌, ◌<◌, ◌≤◌, arith, length, set}
 use Rattle.rows.specs.Parts.{put}
 use Rattle.places.proofs.Writing.{writing_begins, writing-new, writing-old}
 use Rattle.bare.proofs.Parted.{new-at, old-at, put_one}

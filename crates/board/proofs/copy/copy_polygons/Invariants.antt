@@ -1,5 +1,6 @@
 -- What is left to store makes each row what it is to be.
-use Rattle.std.proofs.Common.{ℕ, List, map, ℤ, Float}
+use lib.Ieee.{Float}
+use Rattle.std.proofs.Common.{ℕ, List, map, ℤ}
 use lib.Seq.{sets}
 use Rattle.record.specs.Board.{shapes}
 use Rattle.board.specs.Rows.{polygon_row, sheet_of, point_row, rings}
