@@ -75,9 +75,9 @@ module _ (rs : List Root) (rest : List ℤ) (i : ℕ) (h : i < length rs) where
   unfolding cell_at flat counted
   polygon-of = ap counted (numbers 7 (omega arith))
 
-  box_of : Fits root → box_of (cell_at row i) ≡ box_from root
+  box_of_lem : Fits root → box_of (cell_at row i) ≡ box_from root
   unfolding cell_at flat
-  box_of f =
+  box_of_lem f =
       let z : i * 8 ≡ i * 8 + 0 = omega arith in
       let a : off (start row i) ≡ root.x0 = ap (λ (x : ℕ). off (get_or row x (pos 0))) z ∙ ap off (numbers 0 (omega arith)) ∙ off-on root.x0 f.x0 in
       let c : off (number row i 1) ≡ root.y0 = ap off (numbers 1 (omega arith)) ∙ off-on root.y0 f.y0 in
@@ -146,7 +146,7 @@ module _ (b : Board) (size : ℕ) (fit : Fit b) (p : ℕ) (below : p < polygons 
       let c = at_table (filled b size) (length (roots_of b)) r h in
       let own : (get_or (roots_of b) r no_root).poly ≡ p = sym (polygon-of (roots_of b) rest r h) ∙ sym (ap (λ (x : Mesh.Cell). x.polygon) c) ∙ a.polygon in
       let w = root-placed b no_root (polygons b) p r h own in
-      (w.behind, ap (λ (x : Mesh.Cell). x.box) c ∙ box_of (roots_of b) rest r h (root-fits r w) ∙ ap box_from (root_is r w)))
+      (w.behind, ap (λ (x : Mesh.Cell). x.box) c ∙ box_of_lem (roots_of b) rest r h (root-fits r w) ∙ ap box_from (root_is r w)))
 
 -- ---- an accepted call
 

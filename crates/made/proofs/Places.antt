@@ -15,7 +15,7 @@ use Rattle.net.proofs.All.{All, all-at}
 use Rattle.net.proofs.Sound.{node-is}
 use Rattle.net.proofs.Nan.{Within}
 use Rattle.places.specs.Places.{node_nums, end_nums}
-use Rattle.made.proofs.Rows.{nodes-count, layer-at, component-at, x-at, y-at, ends-long, from_at, to-at}
+use Rattle.made.proofs.Rows.{nodes-count, layer-at, component-at, x-at, y-at, ends-long, from_at_lem, to-at}
 
 -- the largest coordinate of a cell
 abbrev pub top : ℕ
@@ -103,7 +103,7 @@ module _ (ns : List Node) (low : All (Within top) ns) (p : Poly) where
 module _ (es : List Edge) where
   joins-is : (a b : ℕ) (d : Edge) (i : ℕ) → i < length es → joins (each end_nums es) a b i ≡ pair_is (get_or es i d).a (get_or es i d).b a b
   unfolding joins
-  joins-is a b d i h = ap₂ (λ (u w : ℕ). pair_is u w a b) (from_at es d i h) (to-at es d i h)
+  joins-is a b d i h = ap₂ (λ (u w : ℕ). pair_is u w a b) (from_at_lem es d i h) (to-at es d i h)
 
   pub joined_of : (x : Edge) → find same_pair es x < length es → joined (each end_nums es) x.a x.b ≡ true
   joined_of x h =

@@ -60,8 +60,8 @@ module _ (es : List Edge) where
   ends-long = each_long end_nums 2 (λ e. refl) es
 
   module _ (d : Edge) (i : ℕ) (h : i < length es) where
-    pub from_at : from_at (each end_nums es) i ≡ (get_or es i d).a
-    from_at = each_first end_nums 2 (λ e. refl) es i d 0 h (omega arith)
+    pub from_at_lem : from_at (each end_nums es) i ≡ (get_or es i d).a
+    from_at_lem = each_first end_nums 2 (λ e. refl) es i d 0 h (omega arith)
 
     pub to-at : to_at (each end_nums es) i ≡ (get_or es i d).b
     to-at = each_at end_nums 2 (λ e. refl) es i 1 d 0 h (omega arith)

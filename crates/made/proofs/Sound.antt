@@ -22,7 +22,7 @@ use Rattle.net.proofs.Laws.{ends, cells}
 use Rattle.hanging.proofs.Placed.{cell-positive}
 use Rattle.places.specs.Places.{node_nums, corner_nums, end_nums}
 use Rattle.made.specs.Made.{poly_at, InRange, rows_of}
-use Rattle.made.proofs.Rows.{nodes-long, nodes-count, layer-at, component-at, x-at, y-at, ends-long, from_at, to-at, corners-long, sw-at, se-at, ne-at, nw-at}
+use Rattle.made.proofs.Rows.{nodes-long, nodes-count, layer-at, component-at, x-at, y-at, ends-long, from_at_lem, to-at, corners-long, sw-at, se-at, ne-at, nw-at}
 use Rattle.made.proofs.Places.{top}
 use Rattle.made.proofs.Pieces.{pieces-polys, pieces-leaves, nodes-polys, nodes-are, low}
 
@@ -94,7 +94,7 @@ edge_row ns es a i h =
     let e = all-at (Ends (length ns)) d es i a h in
     let p = e.from in
     let q = e.to in
-    record { from = omega (arith, from_at es d i h, nodes-count ns); to = omega (arith, to-at es d i h, nodes-count ns) }
+    record { from = omega (arith, from_at_lem es d i h, nodes-count ns); to = omega (arith, to-at es d i h, nodes-count ns) }
 
 -- ---- cells
 

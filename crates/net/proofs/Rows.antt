@@ -24,8 +24,8 @@ module _ (P : List Node) (ks : List ℕ) (K : Keyed same_node nowhere P ks) (n :
   abbrev N : List Node
   N = weld same_node [] (take n P)
 
-  number_by : (i : ℕ) (a : Node) → i < n → nth P i ≡ a → number N a ≡ number_by ks i
-  number_by i a h e = ap (number N) (sym e) ∙ corner-number same_node nowhere P ks K n i room h
+  number_by_lem : (i : ℕ) (a : Node) → i < n → nth P i ≡ a → number N a ≡ number_by ks i
+  number_by_lem i a h e = ap (number N) (sym e) ∙ corner-number same_node nowhere P ks K n i room h
 
   side-by : (a m b : ℕ) (A M B : Node) (r : Float) → a < n → b < n → m < length P → nth P a ≡ A → nth P m ≡ M → nth P b ≡ B → side_of N A M B r ≡ side_by ks n a m b r
   side-by a m b A M B r ha hb hm ea em eb =
@@ -42,11 +42,11 @@ module _ (P : List Node) (ks : List ℕ) (K : Keyed same_node nowhere P ks) (n :
           (elim z [ true ↦ join N A M (One ÷ (r · Half)) ∷ join N M B (One ÷ (r · Half)) ∷ [] | false ↦ join N A B (One ÷ r) ∷ [] ])
           (elim z [ true ↦ join_by ks a m (One ÷ (r · Half)) ∷ join_by ks m b (One ÷ (r · Half)) ∷ [] | false ↦ join_by ks a b (One ÷ r) ∷ [] ])
       arms true t =
-          let x = number_by a A ha ea in
+          let x = number_by_lem a A ha ea in
           let y = halves_are t in
-          let z = number_by b B hb eb in
+          let z = number_by_lem b B hb eb in
           rw (x, y, z)
-      arms false t = let x = number_by a A ha ea in let z = number_by b B hb eb in rw (x, z)
+      arms false t = let x = number_by_lem a A ha ea in let z = number_by_lem b B hb eb in rw (x, z)
 
   pub leaf-by : (c m : ℕ) (p : Poly) (r : Box) → Standing P n c m p r → sides_at N p r ≡ sides_by ks n c m (across p r) (upright p r)
   unfolding sides_at sides_by
@@ -68,8 +68,8 @@ module _ (P : List Node) (ks : List ℕ) (K : Keyed same_node nowhere P ks) (n :
   patch-by c m p r S =
       let h = S.corners in
       made
-      (number_by c (sw_of p r) (omega arith) S.sw) (number_by (c + 1) (se_of p r) (omega arith) S.se)
-      (number_by (c + 2) (ne_of p r) (omega arith) S.ne) (number_by (c + 3) (nw_of p r) (omega arith) S.nw)
+      (number_by_lem c (sw_of p r) (omega arith) S.sw) (number_by_lem (c + 1) (se_of p r) (omega arith) S.se)
+      (number_by_lem (c + 2) (ne_of p r) (omega arith) S.ne) (number_by_lem (c + 3) (nw_of p r) (omega arith) S.nw)
     where
       made : {a b c d a' b' c' d' : ℕ} {s : Float} → a ≡ a' → b ≡ b' → c ≡ c' → d ≡ d' → ◌≡◌ {A = Patch} (record { sw = a; se = b; ne = c; nw = d; sheet = s }) (record { sw = a'; se = b'; ne = c'; nw = d'; sheet = s })
       made {s} e f g h = λ i. record { sw = e i; se = f i; ne = g i; nw = h i; sheet = s }

@@ -77,9 +77,9 @@ module _ (lay cmp polys bs : List ℕ) (l : ℕ) (ls : List Leaf) (H : Holds lay
   at-component i h = ap (λ (z : Node). z.component) (place-node ls l H.long i h) ∙ H.component (leaf_of (4 * l) i) (leaf-low l i h)
 
   -- the node that the rows say is there
-  pub node_at : (i : ℕ) → i < 8 * l → nth (flat_places ls) i ≡ node_of lay cmp polys bs l i
+  pub node_at_lem : (i : ℕ) → i < 8 * l → nth (flat_places ls) i ≡ node_of lay cmp polys bs l i
   unfolding node_of
-  node_at i h = λ k. record { layer = at-layer i h k; component = at-component i h k; x = at_x i h k; y = at_y i h k }
+  node_at_lem i h = λ k. record { layer = at-layer i h k; component = at-component i h k; x = at_x i h k; y = at_y i h k }
 
   -- the class of a place
   abbrev classes : List ℕ

@@ -50,11 +50,11 @@ module _ (nodes : List ℤ) (n : ℕ) (corners : List ℕ) (sheets : List Float)
     abbrev e : Edge
     e = record { a = get_or ends (2 * j) 0; b = get_or ends (2 * j + 1) 0; g = nan }
 
-    pub face_in : face_in nodes work l (get_or ends (2 * j) 0) (get_or ends (2 * j + 1) 0) < 2 ^ 53
-    face_in = face-small nodes work n l (patches_in corners sheets l) R.extended e (end_in (2 * j) (omega arith)) (end_in (2 * j + 1) (omega arith))
+    pub face_in_lem : face_in nodes work l (get_or ends (2 * j) 0) (get_or ends (2 * j + 1) 0) < 2 ^ 53
+    face_in_lem = face-small nodes work n l (patches_in corners sheets l) R.extended e (end_in (2 * j) (omega arith)) (end_in (2 * j + 1) (omega arith))
 
-    pub distance_in : distance_in nodes (get_or ends (2 * j) 0) (get_or ends (2 * j + 1) 0) < 2 ^ 53
-    distance_in = distance-small nodes work n l (patches_in corners sheets l) R.extended e (end_in (2 * j) (omega arith)) (end_in (2 * j + 1) (omega arith))
+    pub distance_in_lem : distance_in nodes (get_or ends (2 * j) 0) (get_or ends (2 * j + 1) 0) < 2 ^ 53
+    distance_in_lem = distance-small nodes work n l (patches_in corners sheets l) R.extended e (end_in (2 * j) (omega arith)) (end_in (2 * j + 1) (omega arith))
 
 module _ (nodes : List ℤ) (n : ℕ) (corners : List ℕ) (sheets : List Float) (ends : List ℕ) (k : ℕ) (work : List ℕ) (l : ℕ) (R : Ready nodes n corners sheets ends k work l) (j : ℕ) (h : j < k) (g : Float) where
   abbrev cs : List Patch
