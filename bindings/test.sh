@@ -104,4 +104,36 @@ for board in ../boards/*.txt; do
     rust/draw.sh "$board" "$folder/$(basename "$board" .txt)" >/dev/null
 done
 
+say "a strip of 300 pitches is told by every tool that makes a net or a picture"
+cat >"$folder/long.txt" <<'BOARD'
+# The lower strip is 75 mm long.
+level 3
+pitch 0.25
+polygon 1 0 0.0005
+0 0
+75 0
+75 2.5
+2.5 2.5
+2.5 7.5
+0 7.5
+BOARD
+told="line 5: 300 pitches long; at most 256 base cells"
+# Of a file the tools say its name first.
+tell() {
+    status=0
+    "$@" <"$folder/long.txt" >"$folder/made" 2>"$folder/said" || status=$?
+    [ "$status" = 1 ] || fail "$* ended with $status"
+    [ ! -s "$folder/made" ] || fail "$* wrote"
+    grep -qF "$told" "$folder/said" || fail "$* said: $(cat "$folder/said")"
+}
+tell "$bin/board" net
+tell "$bin/board" vtk
+tell "$bin/draw" --board "$folder/long.txt"
+tell "$bin/draw" --board "$folder/long.txt" --power
+tell rust/draw.sh "$folder/long.txt" "$folder/long"
+[ ! -e "$folder/long.svg" ] || fail "draw.sh left a picture"
+# A record is a record, and leafnet takes any: so pack warns.
+"$bin/board" pack <"$folder/long.txt" 2>"$folder/said" >"$folder/long.record"
+grep -qF "warning: $told" "$folder/said" || fail "board pack said: $(cat "$folder/said")"
+
 echo "test.sh: all as expected"

@@ -25,8 +25,9 @@
  * from those.
  *
  * Bands. Where bands of a ring get cells of unequal width, corners of one band's cells stand inside the sides of
- * the other's and no side is cut: the net is wrong there, and no check tells. It can't happen where all ring
- * coordinates are multiples of the base cell, and no strip is longer than cap base cells.
+ * the other's and no side is cut: the net is wrong there, and no check of the library tells. It can't happen where
+ * all ring coordinates are multiples of the base cell and no strip is longer than cap base cells; a strip that is
+ * longer gets larger cells than its neighbours. Look for both before a board is built; the Rust crate does.
  */
 #ifndef LEAFMESH_H
 #define LEAFMESH_H
@@ -52,6 +53,7 @@ extern "C" {
 #define LEAFMESH_LAYER_ENTRIES 64
 #define LEAFMESH_POLYGONS 256
 #define LEAFMESH_RING_POINTS 1024
+#define LEAFMESH_SPLITS 65535 /* of a record */
 #define LEAFMESH_SLOTS 16384
 #define LEAFMESH_SHEET_LOW 0x1p-40 /* ohms a square */
 #define LEAFMESH_SHEET_HIGH 0x1p40 /* ohms a square */
@@ -85,6 +87,12 @@ enum { LEAFMESH_SW, LEAFMESH_SE, LEAFMESH_NE, LEAFMESH_NW };
 #define LEAFMESH_CELLS_A_LEAF 1
 #define LEAFMESH_WORK_A_LEAF 64
 
+/* Work numbers with which a check takes n log n steps, for each node and for each edge; it takes none where there are
+ * more nodes than LEAFMESH_CHECK_NODES, 2^26. */
+#define LEAFMESH_CHECK_WORK_A_NODE 9
+#define LEAFMESH_CHECK_WORK_AN_EDGE 3
+#define LEAFMESH_CHECK_NODES 67108864
+
 /* Lengths of rows that are always enough, in entries of the row's type; they can size static rows. */
 #define LEAFMESH_TABLE_LENGTH(slots) (LEAFMESH_SLOT * (size_t)(slots))
 #define LEAFMESH_NODES_LENGTH(leaves) (LEAFMESH_NODE * LEAFMESH_NODES_A_LEAF * (size_t)(leaves))
@@ -94,7 +102,8 @@ enum { LEAFMESH_SW, LEAFMESH_SE, LEAFMESH_NE, LEAFMESH_NW };
 #define LEAFMESH_SHEETS_LENGTH(leaves) (LEAFMESH_CELLS_A_LEAF * (size_t)(leaves))
 #define LEAFMESH_WORK_LENGTH(leaves) (LEAFMESH_WORK_A_LEAF * (size_t)(leaves))
 /* For a check that takes n log n steps; with less it takes the plain walk. */
-#define LEAFMESH_CHECK_WORK_LENGTH(nodes, edges) (9 * (size_t)(nodes) + 3 * (size_t)(edges))
+#define LEAFMESH_CHECK_WORK_LENGTH(nodes, edges)                                                                    \
+    (LEAFMESH_CHECK_WORK_A_NODE * (size_t)(nodes) + LEAFMESH_CHECK_WORK_AN_EDGE * (size_t)(edges))
 /* Strips of a ring of so many points. */
 #define LEAFMESH_STRIPS_LENGTH(points) ((size_t)(points) / 2 * (size_t)(points))
 /* Bytes of a record; exact. */

@@ -57,7 +57,7 @@ fn main() -> Result<(), Box<dyn Error>> {
     )?;
 
     // The check looks at the middles of sides; that no node stands elsewhere inside one is the outline's doing.
-    let found = check_by_layer(&table, head, net, outlines, &mut [])?;
+    let found = check_by_layer(&table, head, net, outlines)?;
     writeln!(out, "a node without its halves: {found:?}")?;
     writeln!(out, "a node off a side's middle: {:?}", sides::loose(net))?;
 

@@ -3,16 +3,18 @@
 //! Coordinates are whole ticks of 2^-38 m, so that a board lies within a quarter of a metre each way; [`Pitch`] takes
 //! millimetres there and back. Sheet resistance is in ohms a square, potential in volts, power in watts, conductance in
 //! siemens. Every call takes any input and answers `Ok`, or `Err` with a [`Refusal`]; a refused call changes
-//! nothing that it was lent. No call allocates or keeps anything, so any number of threads may call at once.
+//! nothing that it was lent. No call of the library allocates or keeps anything, so any number of threads may call at
+//! once; what is lent stands in the caller's rows. [`Mesh`], [`read`] and the two checks take rows from the heap.
 //! [`limits`] has the ranges, [`columns`] the places of numbers in a slot and in a node.
 //!
 //! **The net's conductances are the original's, bit for bit, and not the copper's at a change of level**, beside other
 //! copper of the layer and where two polygons of a component meet: see docs/CONDUCTANCES.md. [`solving`] shows
 //! how to solve on the cells instead.
 //!
-//! **Where bands of a ring get cells of unequal width the net is wrong**, and no check tells; [`sides::loose`]
-//! does. It can't happen where all ring coordinates are multiples of the base cell, which is what a [`Pitch`]
-//! gives.
+//! **Where bands of a ring get cells of unequal width the net is wrong**, and no check of the library tells. It can't
+//! happen where all ring coordinates are multiples of the base cell, which a [`Pitch`] sees to, and no strip is longer
+//! than [`Settings::cap`] of them, which it can't see to: [`Mesh`] and the tools look for it with [`sides::loose`] and
+//! refuse such a board ([`Unmeshed`]).
 //!
 //! [`Mesh`] holds a table, its polygons and the calls in one; the functions of this page are the library's own.
 //!
@@ -54,12 +56,14 @@ pub mod solving;
 pub mod text;
 #[doc(hidden)]
 pub mod tool;
+mod unmeshed;
 pub mod vtk;
 
 pub use mesh::{Mesh, OwnedNet, Polygons};
 pub use pitch::{Misfit, Pitch, Why};
 use refusal::{judged, judged_net, judged_read};
 pub use refusal::{Reason, Refusal};
+pub use unmeshed::{Loose, TooLong, Unmeshed};
 
 /// x and y in ticks.
 pub type Point = [i64; 2];
@@ -158,12 +162,12 @@ impl NetRows {
     /// Exactly the room that a net of so many leaves needs.
     pub fn for_leaves(leaves: usize) -> Self {
         NetRows {
-            nodes: vec![0; 16 * leaves],
-            ends: vec![0; 16 * leaves],
-            conductances: vec![0.0; 8 * leaves],
-            corners: vec![0; 4 * leaves],
-            sheets: vec![0.0; leaves],
-            work: vec![0; 64 * leaves],
+            nodes: vec![0; 4 * limits::NODES_A_LEAF * leaves],
+            ends: vec![0; 2 * limits::EDGES_A_LEAF * leaves],
+            conductances: vec![0.0; limits::EDGES_A_LEAF * leaves],
+            corners: vec![0; 4 * limits::CELLS_A_LEAF * leaves],
+            sheets: vec![0.0; limits::CELLS_A_LEAF * leaves],
+            work: vec![0; limits::WORK_A_LEAF * leaves],
         }
     }
 
@@ -187,6 +191,13 @@ pub struct Net<'a> {
     pub conductances: &'a [f64],
     pub corners: &'a [u64],
     pub sheets: &'a [f64],
+}
+
+impl Net<'_> {
+    /// Enough work room for a check of this net.
+    fn check_work(&self) -> Vec<u64> {
+        vec![0; limits::check_work(self.nodes.len() / 4, self.conductances.len())]
+    }
 }
 
 /// A node at the middle of a leaf edge that is not joined to both its ends.
@@ -447,13 +458,28 @@ pub fn power(net: Net, potentials: &[f64], answers: &mut [f64]) -> Result<(), Re
     judged(outcome).map(|_| ())
 }
 
-/// The first leaf edge whose middle node lacks a half, nodes being found by their place alone. `work` may
-/// be empty; with enough of it the check takes n log n steps, and it is zero afterwards.
+/// The first leaf edge whose middle node lacks a half, nodes being found by their place alone. Its work room comes
+/// from the heap, so that it takes n log n steps.
 ///
 /// # Errors
 ///
 /// [`Reason::BadTable`].
 pub fn check_network_conforming(
+    table: &[i64],
+    head: Head,
+    net: Net,
+) -> Result<Option<Hanging>, Refusal> {
+    check_network_conforming_with(table, head, net, &mut net.check_work())
+}
+
+/// The same in a lent work room, which may be empty. With [`limits::check_work`] numbers and at most
+/// [`limits::CHECK_NODES`] nodes the check takes n log n steps, and the room is zero after an accepted call; with less
+/// it walks over all nodes for each side, and the room keeps what it held.
+///
+/// # Errors
+///
+/// [`Reason::BadTable`].
+pub fn check_network_conforming_with(
     table: &[i64],
     head: Head,
     net: Net,
@@ -482,12 +508,26 @@ pub fn check_network_conforming(
     refusal::judged_check(outcome)
 }
 
-/// The same with nodes of the leaf's own layer and component.
+/// As [`check_network_conforming`], with nodes of the leaf's own layer and component.
 ///
 /// # Errors
 ///
 /// [`Reason::BadTable`].
 pub fn check_by_layer(
+    table: &[i64],
+    head: Head,
+    net: Net,
+    outlines: Outlines,
+) -> Result<Option<Hanging>, Refusal> {
+    check_by_layer_with(table, head, net, outlines, &mut net.check_work())
+}
+
+/// The same in a lent work room, as in [`check_network_conforming_with`].
+///
+/// # Errors
+///
+/// [`Reason::BadTable`].
+pub fn check_by_layer_with(
     table: &[i64],
     head: Head,
     net: Net,

@@ -34,3 +34,33 @@ pub const SHEET_HIGH: f64 = 1_099_511_627_776.0;
 
 /// Potentials lie from minus this to this, in volts.
 pub const POTENTIAL: f64 = 1_048_576.0;
+
+/// Rows of nodes that a net may need for each leaf.
+pub const NODES_A_LEAF: usize = 4;
+
+/// Rows of edges that a net may need for each leaf.
+pub const EDGES_A_LEAF: usize = 8;
+
+/// Rows of cells that a net needs for each leaf.
+pub const CELLS_A_LEAF: usize = 1;
+
+/// Work numbers that [`network`](crate::network) needs for each leaf.
+pub const WORK_A_LEAF: usize = 64;
+
+/// Work numbers for each node with which a check takes n log n steps.
+pub const CHECK_WORK_A_NODE: usize = 9;
+
+/// Work numbers for each edge, besides those for the nodes.
+pub const CHECK_WORK_AN_EDGE: usize = 3;
+
+/// With more nodes than these, 2^26, a check takes no work room.
+pub const CHECK_NODES: usize = 1 << 26;
+
+/// The work room with which a check takes n log n steps: none where the nodes are too many for it.
+pub const fn check_work(nodes: usize, edges: usize) -> usize {
+    if nodes <= CHECK_NODES {
+        CHECK_WORK_A_NODE * nodes + CHECK_WORK_AN_EDGE * edges
+    } else {
+        0
+    }
+}

@@ -1,9 +1,12 @@
 //! A board's mesh and net with rooms of their own: the calls of the crate's root, one after another.
 
-use crate::columns::{FIRST_CHILD, LEVEL, POLYGON, X0, Y1};
+use crate::columns::{FIRST_CHILD, LEVEL, NODE_X, NODE_Y, POLYGON, X0, Y1};
+use crate::sides::{loose, Inside};
+use crate::unmeshed::{refused, Loose, TooLong, Unmeshed};
 use crate::{
-    balance, build, leaf_count, leaf_order, network, refine, Board, Counts, Head, Net, NetRows,
-    Outlines, Point, Reason, Rect, Refusal, Settings, NO_CELL, SLOT, SLOTS,
+    balance, build, check_by_layer, leaf_count, leaf_order, network, refine, Board, Counts,
+    Hanging, Head, Net, NetRows, Outlines, Point, Reason, Rect, Refusal, Settings, NO_CELL, SLOT,
+    SLOTS,
 };
 
 /// Polygons by rows, owned: what [`build`] and [`network`] take as [`Outlines`].
@@ -65,11 +68,14 @@ impl Board {
     }
 }
 
-/// A table in the largest room, and the polygons that it was made of.
+/// A table in the largest room, and the board that it was made of.
 #[derive(Clone, Debug, PartialEq)]
 pub struct Mesh {
     pub table: Vec<i64>,
     pub head: Head,
+    pub settings: Settings,
+    /// Layers with a cell size of their own.
+    pub list: Vec<[u64; 2]>,
     pub polygons: Polygons,
 }
 
@@ -78,23 +84,41 @@ impl Mesh {
     ///
     /// # Errors
     ///
-    /// Those of [`build`].
-    pub fn new(settings: Settings, list: &[[u64; 2]], polygons: Polygons) -> Result<Self, Refusal> {
+    /// Those of [`build`]. Where a base cell is uneven since its strip is too long, [`Unmeshed::TooLong`].
+    pub fn new(
+        settings: Settings,
+        list: &[[u64; 2]],
+        polygons: Polygons,
+    ) -> Result<Self, Unmeshed> {
         let mut table = vec![0; SLOT * SLOTS];
-        let head = build(settings, list, polygons.outlines(), &mut table)?;
+        let head = build(settings, list, polygons.outlines(), &mut table)
+            .map_err(|refusal| refused(refusal, settings, list, polygons.outlines()))?;
         Ok(Mesh {
             table,
             head,
+            settings,
+            list: list.to_vec(),
             polygons,
         })
     }
 
-    /// The mesh of a board: its base cells, split as it says, balanced.
+    /// The mesh of a board: its base cells, split as it says, balanced. It has a net.
     ///
     /// # Errors
     ///
-    /// Those of [`build`], [`refine`] and [`balance`], and of [`Board::polygons`].
-    pub fn of_board(board: &Board) -> Result<Self, Refusal> {
+    /// Those of [`Mesh::new`], [`refine`], [`balance`], [`Board::polygons`] and [`Mesh::net`].
+    pub fn of_board(board: &Board) -> Result<Self, Unmeshed> {
+        let mesh = Mesh::unjudged(board)?;
+        mesh.net()?;
+        Ok(mesh)
+    }
+
+    /// The same, also where [`Mesh::net`] would refuse.
+    ///
+    /// # Errors
+    ///
+    /// Those of [`Mesh::new`], [`refine`], [`balance`] and [`Board::polygons`].
+    pub fn unjudged(board: &Board) -> Result<Self, Unmeshed> {
         let mut mesh = Mesh::new(board.settings(), &board.layers, board.polygons()?)?;
         for &id in &board.splits {
             mesh.refine(id as usize)?;
@@ -139,11 +163,62 @@ impl Mesh {
     ///
     /// # Errors
     ///
+    /// Those of [`network`]; [`Unmeshed::TooLong`] or [`Unmeshed::Loose`] where the net would be wrong, since
+    /// [`sides::loose`](crate::sides::loose) finds a node inside a leaf's side.
+    pub fn net(&self) -> Result<OwnedNet, Unmeshed> {
+        let made = self.unjudged_net()?;
+        match loose(made.net()) {
+            Some(inside) => Err(self.why_loose(made.net(), inside)?),
+            None => Ok(made),
+        }
+    }
+
+    /// The net of the leaves, whatever stands inside their sides: as [`network`] makes it.
+    ///
+    /// # Errors
+    ///
     /// Those of [`network`].
-    pub fn net(&self) -> Result<OwnedNet, Refusal> {
+    pub fn unjudged_net(&self) -> Result<OwnedNet, Refusal> {
         let mut rows = NetRows::for_leaves(leaf_count(&self.table, self.head)?);
         let counts = network(&self.table, self.head, self.polygons.outlines(), &mut rows)?;
         Ok(OwnedNet { rows, counts })
+    }
+
+    /// The first node at the middle of a leaf's side that lacks a half, among nodes of the leaf's own layer and
+    /// component, of this mesh's net.
+    ///
+    /// # Errors
+    ///
+    /// Those of [`check_by_layer`].
+    pub fn check(&self, net: Net) -> Result<Option<Hanging>, Refusal> {
+        check_by_layer(&self.table, self.head, net, self.polygons.outlines())
+    }
+
+    /// Why a node stands inside a side: a strip of the same copper that is too long, or the place itself.
+    fn why_loose(&self, net: Net, inside: Inside) -> Result<Unmeshed, Refusal> {
+        let leaf = self.order()?[inside.cell];
+        let polygon = self.polygon(leaf);
+        let copper = |polygon: usize| {
+            (
+                self.polygons.layers[polygon],
+                self.polygons.components[polygon],
+            )
+        };
+        let same = |other: usize| copper(other) == copper(polygon);
+        let outlines = self.polygons.outlines();
+        if let Some(long) = TooLong::first(self.settings, &self.list, outlines, same) {
+            return Ok(Unmeshed::TooLong(long));
+        }
+        let place = |node: usize| {
+            let node = &net.nodes[4 * node..][..4];
+            [node[NODE_X], node[NODE_Y]]
+        };
+        Ok(Unmeshed::Loose(Loose {
+            polygon,
+            leaf,
+            place: place(inside.node),
+            side: inside.ends.map(place),
+        }))
     }
 
     /// The eight numbers of a cell; [`columns`](crate::columns) names them.

@@ -1,6 +1,8 @@
 //! What leafnet prints, read back: every line, and that all of them are there.
 
-use crate::{Board, Mesh, Refusal, COORDINATE, MAX_LEVEL};
+use crate::sides::{inside, Inside};
+use crate::{Board, Mesh, Net, OwnedNet, Unmeshed, COORDINATE, MAX_LEVEL};
+use std::collections::{BTreeMap, BTreeSet};
 use std::fmt::Write;
 
 /// A leaf line: id, polygon, level, x0, y0, x1, y1.
@@ -132,10 +134,20 @@ fn numbers<'a, const N: usize>(words: impl Iterator<Item = &'a str>) -> Option<[
 ///
 /// # Errors
 ///
-/// Those of [`Mesh::of_board`] and [`Mesh::net`].
-pub fn show(board: &Board) -> Result<String, Refusal> {
-    let mesh = Mesh::of_board(board)?;
-    let (order, net) = (mesh.order()?, mesh.net()?);
+/// Those of [`Mesh::of_board`].
+pub fn show(board: &Board) -> Result<String, Unmeshed> {
+    let mesh = Mesh::unjudged(board)?;
+    let made = mesh.net()?;
+    show_mesh(board, &mesh, &made)
+}
+
+/// The same of a mesh and a net that were made of the board already.
+///
+/// # Errors
+///
+/// Those of [`Mesh::new`] and [`Mesh::order`].
+pub fn show_mesh(board: &Board, mesh: &Mesh, made: &OwnedNet) -> Result<String, Unmeshed> {
+    let order = mesh.order()?;
     let before = Mesh::new(board.settings(), &board.layers, board.polygons()?)?
         .head
         .count;
@@ -144,10 +156,10 @@ pub fn show(board: &Board) -> Result<String, Refusal> {
         "cells {} leaves {} nodes {} edges {} splits {splits}\n",
         mesh.head.count,
         order.len(),
-        net.counts.nodes,
-        net.counts.edges
+        made.counts.nodes,
+        made.counts.edges
     );
-    let net = net.net();
+    let net = made.net();
     for id in order {
         let ([x0, y0, x1, y1], level, polygon) = (mesh.rect(id), mesh.level(id), mesh.polygon(id));
         let _ = writeln!(text, "leaf {id} {polygon} {level} {x0} {y0} {x1} {y1}");
@@ -163,6 +175,73 @@ pub fn show(board: &Board) -> Result<String, Refusal> {
         let _ = writeln!(text, "edge {} {} {:016x}", ends[0], ends[1], g.to_bits());
     }
     Ok(text)
+}
+
+/// A node inside a leaf's side and not at its middle, and the leaf's id: the net is wrong there. The text doesn't say of
+/// what layer and component a polygon is; it is taken to be one that has all corners of its leaves, and where several
+/// have, each must have such a node.
+pub fn loose(printed: &Printed) -> Option<(usize, Inside)> {
+    let nodes: Vec<i64> = printed.nodes.iter().flatten().copied().collect();
+    let mut numbers = BTreeMap::new();
+    for (number, &node) in printed.nodes.iter().enumerate() {
+        numbers.insert(node, number as u64);
+    }
+    let coppers: BTreeSet<[i64; 2]> = printed
+        .nodes
+        .iter()
+        .map(|node| [node[0], node[1]])
+        .collect();
+    let mut polygons: BTreeMap<usize, Vec<&Leaf>> = BTreeMap::new();
+    for leaf in &printed.leaves {
+        polygons.entry(leaf.polygon).or_default().push(leaf);
+    }
+    for leaves in polygons.values() {
+        let corners_in = |&[layer, component]: &[i64; 2]| -> Option<Vec<u64>> {
+            let places = leaves.iter().flat_map(|leaf| corners(leaf.rect));
+            let number = |[x, y]: [i64; 2]| numbers.get(&[layer, component, x, y]).copied();
+            places.map(number).collect()
+        };
+        let first_loose = |corners: Vec<u64>| {
+            let net = Net {
+                nodes: &nodes,
+                ends: &[],
+                conductances: &[],
+                corners: &corners,
+                sheets: &vec![1.0; leaves.len()],
+            };
+            inside(net).into_iter().find(|one| !one.middle)
+        };
+        let found: Option<Vec<Inside>> = coppers
+            .iter()
+            .filter_map(corners_in)
+            .map(first_loose)
+            .collect();
+        if let Some(&one) = found.as_ref().and_then(|all| all.first()) {
+            return Some((leaves[one.cell].id, one));
+        }
+    }
+    None
+}
+
+fn corners([x0, y0, x1, y1]: [i64; 4]) -> [[i64; 2]; 4] {
+    [[x0, y0], [x1, y0], [x1, y1], [x0, y1]]
+}
+
+/// The text of a net that can be used.
+///
+/// # Errors
+///
+/// In words: those of [`read`], and the first that [`loose`] finds.
+pub fn read_sound(text: &str) -> Result<Printed, String> {
+    let printed = read(text)?;
+    match loose(&printed) {
+        None => Ok(printed),
+        Some((leaf, Inside { node, ends, .. })) => Err(format!(
+            "node {node} stands inside a side of leaf {leaf}, between nodes {} and {}, and not at its middle: the net is \
+             wrong there. Make all coordinates multiples of the base cell, and no strip longer than cap base cells",
+            ends[0], ends[1]
+        )),
+    }
 }
 
 /// Whether a text is that of a board, to the last bit.

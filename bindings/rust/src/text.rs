@@ -30,7 +30,9 @@
 use crate::limits::{
     CAP, CELL, LAYER_ENTRIES, POLYGONS, RING_POINTS, SHEET_HIGH, SHEET_LOW, SPLITS,
 };
-use crate::{read, record_length, write, Board, Pitch, COORDINATE, MAX_LEVEL};
+use crate::{
+    read, record_length, write, Board, Pitch, Point, Reason, Unmeshed, COORDINATE, MAX_LEVEL,
+};
 use std::error::Error;
 use std::fmt::{self, Write};
 use std::ops::RangeInclusive;
@@ -61,8 +63,10 @@ fn unclear<T>(line: usize, words: String) -> Result<T, Unclear> {
 }
 
 /// The lines that a board's parts stand on, counted from 1; 0 for a setting that the text leaves out.
-#[derive(Clone, Debug, Default, PartialEq, Eq)]
+#[derive(Clone, Debug, Default, PartialEq)]
 pub struct Lines {
+    /// The pitch of a text in millimetres.
+    pub pitch: Option<Pitch>,
     pub level: usize,
     pub cap: usize,
     pub target: usize,
@@ -76,7 +80,6 @@ pub struct Lines {
 struct Reading {
     board: Board,
     lines: Lines,
-    pitch: Option<Pitch>,
 }
 
 /// ```
@@ -108,7 +111,6 @@ pub fn parse_with_lines(text: &str) -> Result<(Board, Lines), Unclear> {
     let mut reading = Reading {
         board,
         lines: Lines::default(),
-        pitch: None,
     };
     for (index, words) in text.lines().enumerate() {
         let meant = words.split('#').next().unwrap_or("");
@@ -167,7 +169,7 @@ impl Reading {
     }
 
     fn take_level(&mut self, line: usize, level: u64) -> Result<(), Why> {
-        if self.pitch.is_some() {
+        if self.lines.pitch.is_some() {
             return Err(Some(
                 "level stands before pitch, which depends on it".to_string(),
             ));
@@ -186,13 +188,13 @@ impl Reading {
         };
         let pitch = Pitch::new(millimetres, level).map_err(|why| Some(why.to_string()))?;
         (self.board.target, self.lines.target) = (pitch.target(), line);
-        self.pitch = Some(pitch);
+        self.lines.pitch = Some(pitch);
         Ok(())
     }
 
     /// Ticks, or millimetres where there is a pitch.
     fn length(&self, word: &str) -> Result<i64, Why> {
-        match self.pitch {
+        match self.lines.pitch {
             Some(pitch) => pitch
                 .ticks(number(word)?)
                 .map_err(|why| Some(why.to_string())),
@@ -208,13 +210,65 @@ impl Reading {
 /// The first line that makes no sense, or whose value or number is past what a record can hold.
 pub fn pack(text: &str) -> Result<Vec<u8>, Unclear> {
     let (board, lines) = parse_with_lines(text)?;
-    judge(&board, &lines)?;
-    let mut record = vec![0; record_length(&board)];
-    let length = write(&board, &mut record).or_else(|why| unclear(0, why.to_string()))?;
+    pack_board(&board, &lines)
+}
+
+/// The record of a board that was read with its lines, as [`pack`] makes it.
+///
+/// # Errors
+///
+/// Those of [`pack`].
+pub fn pack_board(board: &Board, lines: &Lines) -> Result<Vec<u8>, Unclear> {
+    judge(board, lines)?;
+    let mut record = vec![0; record_length(board)];
+    let length = write(board, &mut record).or_else(|why| unclear(0, why.to_string()))?;
     record.truncate(length);
     let again = read(&record).or_else(|why| unclear(0, why.to_string()))?;
-    compare(&board, &again, &lines)?;
+    compare(board, &again, lines)?;
     Ok(record)
+}
+
+impl Lines {
+    /// Why a board has no mesh, with the line of its text to blame.
+    pub fn blame(&self, board: &Board, why: &Unmeshed) -> String {
+        match why {
+            Unmeshed::Refused(refusal) => {
+                let line = match refusal.reason {
+                    Reason::Slanted | Reason::UnevenCell => self.polygons.get(refusal.place),
+                    _ => None,
+                };
+                line.map_or(refusal.to_string(), |line| {
+                    format!("line {line}: {refusal}")
+                })
+            }
+            Unmeshed::TooLong(long) => {
+                let before = board.polygons.iter().take(long.polygon);
+                let first = before.map(|polygon| polygon[2] as usize).sum::<usize>();
+                let line = self.points.get(first + long.point).copied().unwrap_or(0);
+                let own = self.pitch.filter(|pitch| pitch.target() == long.cell);
+                let unit = own.map_or("base cells", |_| "pitches");
+                let (cells, cap) = (long.cells, long.cap);
+                format!("line {line}: {cells} {unit} long; at most {cap} base cells")
+            }
+            Unmeshed::Loose(loose) => {
+                let line = self.polygons.get(loose.polygon).copied().unwrap_or(0);
+                let [node, from, to] =
+                    [loose.place, loose.side[0], loose.side[1]].map(|place| self.place(place));
+                format!(
+                    "line {line}: a node at {node} stands inside a leaf's side, from {from} to {to}, and not at its \
+                     middle: make all coordinates multiples of the base cell, and draw copper once"
+                )
+            }
+        }
+    }
+
+    /// A place in the text's own units.
+    fn place(&self, [x, y]: Point) -> String {
+        match self.pitch {
+            Some(pitch) => format!("({} mm, {} mm)", pitch.millimetres(x), pitch.millimetres(y)),
+            None => format!("({x}, {y})"),
+        }
+    }
 }
 
 /// Whether every value and every number of parts fits a record.

@@ -1,21 +1,36 @@
 //! What the tools have in common: words, input, output and how they end. A tool that can't write all it has says so
 //! and ends with 1; an output that was closed before the start looks like an empty file to it.
 
-use crate::{read, text, Board};
+use crate::text::{self, Lines};
+use crate::{read, Board, Mesh, OwnedNet, Unmeshed};
 use std::fs;
 use std::io::{self, Read, Write};
 use std::process::ExitCode;
 
 /// Writes what was made to standard output, or why nothing was to standard error.
 pub fn end(made: Result<Vec<u8>, String>) -> ExitCode {
-    match made.and_then(|bytes| put(&bytes)) {
-        Ok(()) => ExitCode::SUCCESS,
+    end_with(made.map(|bytes| (bytes, None)))
+}
+
+/// The same, and a warning behind what was written.
+pub fn end_with(made: Result<(Vec<u8>, Option<String>), String>) -> ExitCode {
+    match made.and_then(|(bytes, warning)| put(&bytes).map(|()| warning)) {
+        Ok(warning) => {
+            if let Some(words) = warning {
+                say(&words);
+            }
+            ExitCode::SUCCESS
+        }
         Err(why) => {
-            // With nowhere to say it the status is all there is.
-            let _ = writeln!(io::stderr(), "{why}");
+            say(&why);
             ExitCode::FAILURE
         }
     }
+}
+
+/// On standard error; with nowhere to say it the status is all there is.
+pub fn say(words: &str) {
+    let _ = writeln!(io::stderr(), "{words}");
 }
 
 fn put(bytes: &[u8]) -> Result<(), String> {
@@ -40,11 +55,40 @@ pub fn text(bytes: Vec<u8>) -> Result<String, String> {
     String::from_utf8(bytes).map_err(|why| why.to_string())
 }
 
-/// A board of its record, or of its text: a record begins with its version, which no text does.
-pub fn board(bytes: Vec<u8>) -> Result<Board, String> {
-    if bytes.first() == Some(&1) {
-        return read(&bytes).map_err(|why| why.to_string());
+/// A board that was given by its record or its text.
+pub struct Given {
+    pub board: Board,
+    /// None of a record.
+    lines: Option<Lines>,
+}
+
+impl Given {
+    /// A record begins with its version, which no text does.
+    pub fn of_bytes(bytes: Vec<u8>) -> Result<Self, String> {
+        if bytes.first() == Some(&1) {
+            let board = read(&bytes).map_err(|why| why.to_string())?;
+            return Ok(Given { board, lines: None });
+        }
+        let (board, lines) =
+            text::parse_with_lines(&self::text(bytes)?).map_err(|why| why.to_string())?;
+        let record = text::pack_board(&board, &lines).map_err(|why| why.to_string())?;
+        Ok(Given {
+            board: read(&record).map_err(|why| why.to_string())?,
+            lines: Some(lines),
+        })
     }
-    let record = text::pack(&self::text(bytes)?).map_err(|why| why.to_string())?;
-    read(&record).map_err(|why| why.to_string())
+
+    /// Its mesh and its net, or why there is none, with the line of a text.
+    pub fn mesh(&self) -> Result<(Mesh, OwnedNet), String> {
+        let mesh = Mesh::unjudged(&self.board).map_err(|why| self.blame(&why))?;
+        let net = mesh.net().map_err(|why| self.blame(&why))?;
+        Ok((mesh, net))
+    }
+
+    pub fn blame(&self, why: &Unmeshed) -> String {
+        match &self.lines {
+            Some(lines) => lines.blame(&self.board, why),
+            None => why.to_string(),
+        }
+    }
 }

@@ -128,14 +128,30 @@ fn net_and_checks_agree() {
     for room in [0, 4096] {
         let mut work = vec![0; room];
         assert_eq!(
-            check_network_conforming(&table, head, net, &mut work),
+            check_network_conforming_with(&table, head, net, &mut work),
             Ok(None)
         );
         assert_eq!(
-            check_by_layer(&table, head, net, outlines(), &mut work),
+            check_by_layer_with(&table, head, net, outlines(), &mut work),
             Ok(None)
         );
         assert!(work.iter().all(|&w| w == 0));
+    }
+    assert_eq!(check_network_conforming(&table, head, net), Ok(None));
+}
+
+/// With exactly the work room that a check asks for it is used, and with one number less it isn't.
+#[test]
+fn a_checks_work_room_is_as_long_as_it_says() {
+    let (table, head) = two_roots(64);
+    let mut rows = NetRows::for_leaves(8);
+    let counts = network(&table, head, outlines(), &mut rows).expect("room");
+    let enough = limits::check_work(counts.nodes, counts.edges);
+    for (length, left) in [(enough, 0), (enough - 1, 7)] {
+        let mut work = vec![7; length];
+        let net = rows.net(counts);
+        check_by_layer_with(&table, head, net, outlines(), &mut work).expect("sound");
+        assert!(work.iter().all(|&w| w == left));
     }
 }
 
@@ -146,11 +162,10 @@ fn a_net_without_an_edge_is_found_out() {
     let counts = network(&table, head, outlines(), &mut rows).expect("room");
     let net = rows.net(counts);
     let quick = |net: Net| {
-        let mut work = vec![0; 4096];
-        let quick = check_by_layer(&table, head, net, outlines(), &mut work).expect("sound");
+        let quick = check_by_layer(&table, head, net, outlines()).expect("sound");
         assert_eq!(
             quick,
-            check_by_layer(&table, head, net, outlines(), &mut []).expect("sound")
+            check_by_layer_with(&table, head, net, outlines(), &mut []).expect("sound")
         );
         quick
     };
@@ -221,10 +236,13 @@ fn calls_need_little_stack() {
         let counts = network(&table, head, square, &mut rows)?;
         let net = rows.net(counts);
         assert_eq!(
-            check_network_conforming(&table, head, net, &mut work)?,
+            check_network_conforming_with(&table, head, net, &mut work)?,
             None
         );
-        assert_eq!(check_by_layer(&table, head, net, square, &mut work)?, None);
+        assert_eq!(
+            check_by_layer_with(&table, head, net, square, &mut work)?,
+            None
+        );
         Ok(())
     };
     std::thread::scope(|scope| {

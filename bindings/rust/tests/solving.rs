@@ -5,8 +5,8 @@ use leafmesh::{sides, text, Mesh, OwnedNet};
 
 fn net_of(board: &str) -> OwnedNet {
     let board = text::parse(board).expect("a board");
-    let mesh = Mesh::of_board(&board).expect("a mesh");
-    mesh.net().expect("a net")
+    let mesh = Mesh::unjudged(&board).expect("a mesh");
+    mesh.unjudged_net().expect("a net")
 }
 
 fn ohms(system: &System, net: &OwnedNet) -> f64 {

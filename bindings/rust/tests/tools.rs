@@ -1,5 +1,6 @@
 //! The tools, run: what they make, and that they end with 1 and say why wherever they can't.
 
+use leafmesh::{printed, text, Mesh};
 use std::fs::{self, OpenOptions};
 use std::io::Write;
 use std::path::{Path, PathBuf};
@@ -305,4 +306,112 @@ fn draw_sh_says_its_usage_and_leaves_no_empty_file() {
         .expect("the script");
     assert_eq!((output.status.code(), names()), (Some(0), 3), "{output:?}");
     fs::remove_dir_all(&folder).expect("a folder");
+}
+
+/// A board whose lower strip is so many pitches long, its upper strip ten.
+fn of_pitches(long: u32) -> String {
+    let east = f64::from(long) * 0.25;
+    format!("level 3\npitch 0.25\npolygon 1 0 0.0005\n0 0\n{east} 0\n{east} 2.5\n2.5 2.5\n2.5 7.5\n0 7.5\n")
+}
+
+/// Every tool that makes a net or a picture.
+fn refused_by_all(board: &str, words: &str) {
+    // Tests run side by side.
+    let own = format!("leafmesh-long-{}-{:p}", std::process::id(), board);
+    let folder = std::env::temp_dir().join(own);
+    fs::create_dir_all(&folder).expect("a folder");
+    let file = folder.join("board.txt");
+    fs::write(&file, board).expect("a file");
+    let name = file.to_str().expect("a name");
+    for tool in [["net"], ["vtk"]] {
+        assert_eq!(
+            refused(BOARD, &tool, board.as_bytes()),
+            format!("{words}\n")
+        );
+    }
+    for tool in [
+        vec!["--board", name],
+        vec!["--board", name, "--power"],
+        vec!["--record", name],
+    ] {
+        assert_eq!(
+            refused(DRAW, &tool, b"cells 0 leaves 0 nodes 0 edges 0 splits 0\n"),
+            format!("{name}: {words}\n")
+        );
+    }
+    // A record is a record; but it is said, behind what is written.
+    let output = run(BOARD, &["pack"], board.as_bytes());
+    assert!(output.status.success() && !output.stdout.is_empty());
+    assert_eq!(
+        String::from_utf8_lossy(&output.stderr),
+        format!("warning: {words}\n")
+    );
+    // Of a record there are no lines to name.
+    assert!(!refused(BOARD, &["net"], &output.stdout).contains("line"));
+    fs::remove_dir_all(&folder).expect("a folder");
+}
+
+/// 300 pitches make uneven cells, which the library refuses; 768 make cells of three pitches, whose corners don't meet
+/// those of the other band, and which it takes; 512 make cells of two pitches, at whose middles the others stand.
+#[test]
+fn a_strip_that_is_too_long_is_told_by_its_line() {
+    refused_by_all(
+        &of_pitches(300),
+        "line 4: 300 pitches long; at most 256 base cells",
+    );
+    refused_by_all(
+        &of_pitches(768),
+        "line 4: 768 pitches long; at most 256 base cells",
+    );
+    let in_ticks = "cap 4\nlevel 0\ntarget 2\n# a shorter cap\npolygon 1 0 1\n8 2\n2 2\n2 0\n14 0\n14 4\n8 4\n";
+    refused_by_all(in_ticks, "line 7: 6 base cells long; at most 4 base cells");
+    for good in [256, 512] {
+        made(BOARD, &["net"], of_pitches(good).as_bytes());
+    }
+}
+
+/// Bands of unequal cells, though no strip is too long; and a finer polygon beside another one.
+#[test]
+fn bands_that_do_not_meet_are_told_by_their_polygon() {
+    let bands = "level 0\ntarget 6\npolygon 1 0 1\n0 0\n6 0\n6 2\n8 2\n8 4\n0 4\n";
+    let so = "stands inside a leaf's side, from (6, 2) to (0, 2), and not at its middle: make all coordinates multiples \
+              of the base cell, and draw copper once";
+    refused_by_all(bands, &format!("line 3: a node at (4, 2) {so}"));
+    let text = text::parse(bands).expect("a board");
+    let mesh = Mesh::unjudged(&text).expect("a mesh");
+    let made = mesh.unjudged_net().expect("a net");
+    let printed = printed::show_mesh(&text, &mesh, &made).expect("a text");
+    for tool in [DRAW, RELAX] {
+        let said = refused(tool, &[], printed.as_bytes());
+        assert!(
+            said.starts_with("node 4 stands inside a side of leaf 0, between nodes 2 and 3, and not at its middle"),
+            "{said}"
+        );
+    }
+    let in_millimetres =
+        "level 1\npitch 0.5\nlayer 1 1.5\npolygon 1 0 1\n0 0\n1.5 0\n1.5 1\n4 1\n4 3\n0 3\n";
+    let said = refused(BOARD, &["net"], in_millimetres.as_bytes());
+    assert!(said.starts_with("line 4: a node at ("), "{said}");
+    assert!(said.contains(" mm)"), "{said}");
+}
+
+/// A board of the library's refusals 4 and 5 is told by its polygon's line.
+#[test]
+fn slanted_and_uneven_polygons_are_told_by_their_line() {
+    let good = "polygon 1 0 1\n0 0\n16 0\n16 16\n0 16\n";
+    let slanted = format!("target 16\n{good}polygon 1 0 1\n0 0\n8 8\n");
+    let said = refused(BOARD, &["net"], slanted.as_bytes());
+    assert_eq!(
+        said,
+        "line 7: refused 4 1: two neighbouring points of a ring differ in both x and y\n"
+    );
+    let said = refused(
+        BOARD,
+        &["net"],
+        format!("level 4\ntarget 16\n{good}").as_bytes(),
+    );
+    assert_eq!(
+        said,
+        "line 3: refused 5 0: a base cell's side is no multiple of 2^(max_level+1) ticks\n"
+    );
 }

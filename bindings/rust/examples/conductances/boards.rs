@@ -126,8 +126,9 @@ pub struct Meshed {
 }
 
 pub fn meshed(case: Case) -> Result<Meshed, Box<dyn Error>> {
-    let mesh = Mesh::of_board(&text::parse(case.board)?)?;
-    let net = mesh.net()?;
+    // The last board's bands don't meet, which `Mesh::of_board` refuses.
+    let mesh = Mesh::unjudged(&text::parse(case.board)?)?;
+    let net = mesh.unjudged_net()?;
     Ok(Meshed { case, mesh, net })
 }
 

@@ -1,8 +1,9 @@
 //! Standard input to standard output: `board pack` makes a record of a board's text, `board unpack` the text of a
 //! record. Of either, `board net` prints what leafnet prints, with no bound of 64 slots, and `board vtk` a file for
-//! ParaView.
+//! ParaView. These two refuse a board whose net would be wrong; `pack` makes its record and warns.
 
-use leafmesh::{printed, read, text, tool, vtk, Board, Mesh};
+use leafmesh::tool::{self, Given};
+use leafmesh::{printed, read, text, vtk, Mesh, Unmeshed};
 use std::env;
 use std::process::ExitCode;
 
@@ -10,34 +11,44 @@ const USAGE: &str = "usage: board pack|unpack|net|vtk < input > output";
 
 fn main() -> ExitCode {
     let words: Vec<String> = env::args().skip(1).collect();
-    tool::end(run(&words))
+    tool::end_with(run(&words))
 }
 
-fn run(words: &[String]) -> Result<Vec<u8>, String> {
+/// What is to be written, and a warning.
+fn run(words: &[String]) -> Result<(Vec<u8>, Option<String>), String> {
+    let silent = |text: String| (text.into_bytes(), None);
     match words {
-        [word] if word == "pack" => {
-            text::pack(&tool::text(tool::input()?)?).map_err(|why| why.to_string())
-        }
-        [word] if word == "unpack" => unpack(&tool::input()?),
-        [word] if word == "net" => in_text(&tool::board(tool::input()?)?),
-        [word] if word == "vtk" => in_vtk(&tool::board(tool::input()?)?),
+        [word] if word == "pack" => pack(&tool::text(tool::input()?)?),
+        [word] if word == "unpack" => unpack(&tool::input()?).map(silent),
+        [word] if word == "net" => in_text(&Given::of_bytes(tool::input()?)?).map(silent),
+        [word] if word == "vtk" => in_vtk(&Given::of_bytes(tool::input()?)?).map(silent),
         _ => Err(USAGE.to_string()),
     }
 }
 
-fn unpack(record: &[u8]) -> Result<Vec<u8>, String> {
+/// A record is a record also where its net would be wrong, which leafnet doesn't say.
+fn pack(text: &str) -> Result<(Vec<u8>, Option<String>), String> {
+    let (board, lines) = text::parse_with_lines(text).map_err(|why| why.to_string())?;
+    let record = text::pack_board(&board, &lines).map_err(|why| why.to_string())?;
+    let board = read(&record).map_err(|why| why.to_string())?;
+    let warning = match Mesh::of_board(&board) {
+        Ok(_) | Err(Unmeshed::Refused(_)) => None,
+        Err(why) => Some(format!("warning: {}", lines.blame(&board, &why))),
+    };
+    Ok((record, warning))
+}
+
+fn unpack(record: &[u8]) -> Result<String, String> {
     let board = read(record).map_err(|why| why.to_string())?;
-    Ok(text::show(&board).into_bytes())
+    Ok(text::show(&board))
 }
 
-fn in_text(board: &Board) -> Result<Vec<u8>, String> {
-    let text = printed::show(board).map_err(|why| why.to_string())?;
-    Ok(text.into_bytes())
+fn in_text(given: &Given) -> Result<String, String> {
+    let (mesh, made) = given.mesh()?;
+    printed::show_mesh(&given.board, &mesh, &made).map_err(|why| why.to_string())
 }
 
-fn in_vtk(board: &Board) -> Result<Vec<u8>, String> {
-    let mesh = Mesh::of_board(board).map_err(|why| why.to_string())?;
-    let net = mesh.net().map_err(|why| why.to_string())?;
-    let file = vtk::of_mesh(&mesh, net.net(), &[]).map_err(|why| why.to_string())?;
-    Ok(file.into_bytes())
+fn in_vtk(given: &Given) -> Result<String, String> {
+    let (mesh, made) = given.mesh()?;
+    vtk::of_mesh(&mesh, made.net(), &[]).map_err(|why| why.to_string())
 }

@@ -8,7 +8,8 @@
 
 use leafmesh::drawing::{densities, Picture};
 use leafmesh::solving::{across, System};
-use leafmesh::{power, printed, tool, Mesh, Net};
+use leafmesh::tool::{self, Given};
+use leafmesh::{power, printed, Mesh, Net};
 use std::env;
 use std::process::ExitCode;
 
@@ -57,9 +58,9 @@ fn asked(mut words: impl Iterator<Item = String>) -> Option<Asked> {
 }
 
 fn of_board(file: &str, asked: &Asked) -> Result<Picture, String> {
-    let board = tool::board(tool::file(file)?).map_err(|why| format!("{file}: {why}"))?;
-    let mesh = Mesh::of_board(&board).map_err(|why| format!("{file}: {why}"))?;
-    let made = mesh.net().map_err(|why| format!("{file}: {why}"))?;
+    let given = Given::of_bytes(tool::file(file)?);
+    let made = given.and_then(|given| given.mesh());
+    let (mesh, made) = made.map_err(|why| format!("{file}: {why}"))?;
     let title = asked.title.as_deref().unwrap_or(file);
     let picture = Picture::of_mesh(title, &mesh, made.net()).map_err(|why| why.to_string())?;
     if !asked.power {
@@ -67,7 +68,7 @@ fn of_board(file: &str, asked: &Asked) -> Result<Picture, String> {
     }
     let (system, by) = match System::of_cells(made.net()) {
         Ok(system) => (system, ""),
-        // Elements need aligned bands; the conductances are what is left.
+        // A side's end that hangs itself, as polygons over each other may have: the conductances are what is left.
         Err(_) => (System::of_net(made.net()), " by the net's conductances"),
     };
     let volts = system
@@ -78,19 +79,19 @@ fn of_board(file: &str, asked: &Asked) -> Result<Picture, String> {
 }
 
 fn of_text(asked: &Asked) -> Result<Picture, String> {
-    let printed = printed::read(&tool::text(tool::input()?)?)?;
+    let text = tool::text(tool::input()?)?;
     let title = asked.title.as_deref().unwrap_or("leafnet's mesh");
     let Some(file) = &asked.record else {
-        return Picture::of_printed(title, &printed, None);
+        return Picture::of_printed(title, &printed::read_sound(&text)?, None);
     };
-    let board = tool::board(tool::file(file)?).map_err(|why| format!("{file}: {why}"))?;
-    let picture = Picture::of_printed(title, &printed, Some(&board))?;
+    let given = Given::of_bytes(tool::file(file)?).map_err(|why| format!("{file}: {why}"))?;
+    let printed = printed::read(&text)?;
+    let (mesh, made) = given.mesh().map_err(|why| format!("{file}: {why}"))?;
+    let picture = Picture::of_printed(title, &printed, Some(&given.board))?;
     let Some(file) = &asked.potentials else {
         return Ok(picture);
     };
     let volts = numbers_in(file)?;
-    let mesh = Mesh::of_board(&board).map_err(|why| why.to_string())?;
-    let made = mesh.net().map_err(|why| why.to_string())?;
     let named = |why| format!("{file}: {why}");
     coloured(picture, POWER, &mesh, made.net(), &volts).map_err(named)
 }

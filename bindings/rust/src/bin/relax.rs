@@ -17,7 +17,7 @@ fn run() -> Result<Vec<u8>, String> {
     if env::args().count() > 1 {
         return Err("usage: relax < leafnet's output > potentials".to_string());
     }
-    let mesh = printed::read(&tool::text(tool::input()?)?)?;
+    let mesh = printed::read_sound(&tool::text(tool::input()?)?)?;
     let mut text = String::new();
     for volt in potentials(&mesh)? {
         let _ = writeln!(text, "{volt:?}");

@@ -1,0 +1,157 @@
+//! Why a board has no mesh, or a mesh no net that could be used.
+
+use crate::{strips, Outlines, Point, Reason, Rect, Refusal, Settings};
+use std::error::Error;
+use std::fmt;
+
+/// Why there is no mesh of a board, or no net of a mesh.
+#[derive(Clone, Copy, Debug, PartialEq)]
+#[non_exhaustive]
+pub enum Unmeshed {
+    /// The library refuses.
+    Refused(Refusal),
+    /// A strip would need more base cells than it may have: its cells get larger than those of its neighbours.
+    TooLong(TooLong),
+    /// A node stands inside a leaf's side and not at its middle, where no side is cut: the net would be wrong there.
+    Loose(Loose),
+}
+
+/// A strip that is longer than as many base cells as it may have.
+#[derive(Clone, Copy, Debug, PartialEq, Eq)]
+pub struct TooLong {
+    pub polygon: usize,
+    /// Of the polygon's points the first at an end of the edge that bounds the strip on the west.
+    pub point: usize,
+    pub strip: Rect,
+    /// How many base cells the strip would need along its longer side.
+    pub cells: u64,
+    /// How many it may have.
+    pub cap: u64,
+    /// The size wanted of a base cell, in ticks.
+    pub cell: u64,
+}
+
+/// A node inside the side of a leaf, at neither its middle nor its ends.
+#[derive(Clone, Copy, Debug, PartialEq, Eq)]
+pub struct Loose {
+    /// That of the leaf.
+    pub polygon: usize,
+    pub leaf: usize,
+    /// Where the node stands.
+    pub place: Point,
+    /// The side's ends, anticlockwise round the leaf.
+    pub side: [Point; 2],
+}
+
+impl From<Refusal> for Unmeshed {
+    fn from(refusal: Refusal) -> Self {
+        Unmeshed::Refused(refusal)
+    }
+}
+
+impl fmt::Display for Unmeshed {
+    fn fmt(&self, f: &mut fmt::Formatter<'_>) -> fmt::Result {
+        match self {
+            Unmeshed::Refused(refusal) => refusal.fmt(f),
+            Unmeshed::TooLong(long) => long.fmt(f),
+            Unmeshed::Loose(loose) => loose.fmt(f),
+        }
+    }
+}
+
+impl Error for Unmeshed {}
+
+impl fmt::Display for TooLong {
+    fn fmt(&self, f: &mut fmt::Formatter<'_>) -> fmt::Result {
+        write!(
+            f,
+            "polygon {}, point {}: {} base cells long; at most {}",
+            self.polygon, self.point, self.cells, self.cap
+        )
+    }
+}
+
+impl fmt::Display for Loose {
+    fn fmt(&self, f: &mut fmt::Formatter<'_>) -> fmt::Result {
+        let ([x, y], [[ax, ay], [bx, by]]) = (self.place, self.side);
+        write!(
+            f,
+            "polygon {}: a node at ({x}, {y}) stands inside a leaf's side from ({ax}, {ay}) to ({bx}, {by}) and not at \
+             its middle: balance the mesh, and make all coordinates multiples of the base cell",
+            self.polygon
+        )
+    }
+}
+
+impl TooLong {
+    /// The first strip of a board, by polygon and then in the order of [`strips`], that is longer than `cap` base
+    /// cells. Polygons for which `asked` says no are passed over.
+    pub(crate) fn first(
+        settings: Settings,
+        list: &[[u64; 2]],
+        outlines: Outlines,
+        asked: impl Fn(usize) -> bool,
+    ) -> Option<Self> {
+        let mut rest = outlines.points;
+        for (polygon, &count) in outlines.counts.iter().enumerate() {
+            let (ring, behind) = rest.split_at((count as usize).min(rest.len()));
+            rest = behind;
+            if !asked(polygon) {
+                continue;
+            }
+            let layer = u64::from(outlines.layers[polygon]);
+            let own = list.iter().find(|entry| entry[0] == layer && entry[1] > 0);
+            let cell = own.map_or(settings.target, |entry| entry[1]);
+            let cells = |[x0, y0, x1, y1]: Rect| ((x1 - x0).max(y1 - y0) as u64).div_ceil(cell);
+            let long = strips_of(ring)
+                .into_iter()
+                .find(|&strip| cells(strip) > settings.cap);
+            if let Some(strip) = long {
+                return Some(TooLong {
+                    polygon,
+                    point: west_of(ring, strip),
+                    strip,
+                    cells: cells(strip),
+                    cap: settings.cap,
+                    cell,
+                });
+            }
+        }
+        None
+    }
+}
+
+/// None where the ring is refused.
+fn strips_of(ring: &[Point]) -> Vec<Rect> {
+    let mut rows = vec![[0; 4]; ring.len() / 2 * ring.len()];
+    let count = strips(ring, &mut rows).unwrap_or(0);
+    rows.truncate(count);
+    rows
+}
+
+/// The first point at an end of a ring's edge that bounds a strip on the west.
+fn west_of(ring: &[Point], [x0, y0, _, y1]: Rect) -> usize {
+    let next = |at: usize| (at + 1) % ring.len();
+    let bounds = |at: usize| {
+        let ([ax, ay], [bx, by]) = (ring[at], ring[next(at)]);
+        ax == x0 && bx == x0 && ay.min(by) <= y0 && y1 <= ay.max(by)
+    };
+    let edge = (0..ring.len()).find(|&at| bounds(at));
+    edge.map_or(0, |at| at.min(next(at)))
+}
+
+/// What is said of a board that the library refuses: a strip that is too long makes uneven cells, and is named.
+pub(crate) fn refused(
+    refusal: Refusal,
+    settings: Settings,
+    list: &[[u64; 2]],
+    outlines: Outlines,
+) -> Unmeshed {
+    let long = match refusal.reason {
+        Reason::UnevenCell => {
+            TooLong::first(settings, list, outlines, |polygon| polygon == refusal.place)
+        }
+        _ => None,
+    };
+    long.map_or(Unmeshed::Refused(refusal), Unmeshed::TooLong)
+}
