@@ -17,14 +17,14 @@ esac
 folder=$(mktemp -d)
 trap 'rm -rf "$folder"' EXIT
 page=../docs/CONDUCTANCES.md
-for name in conductances neck; do
+for name in conductances hottest neck; do
     (cd rust && cargo run --offline --release --quiet --example "$name" -- "$folder") >"$folder/$name.txt"
 done
 # What stands between a comment with an example's name and the next "end" is what that example prints.
 awk -v folder="$folder" '
     /^<!-- end -->$/ { inside = 0 }
     !inside { print }
-    /^<!-- (conductances|neck) -->$/ {
+    /^<!-- (conductances|hottest|neck) -->$/ {
         inside = 1
         fence = $2 == "neck" ? "```" : ""
         if (fence) print fence
@@ -35,5 +35,5 @@ awk -v folder="$folder" '
 case "${1:-}" in
 --write) cat "$folder/page.md" >"$page" ;;
 --check) diff "$page" "$folder/page.md" ;;
-*) cat "$folder/conductances.txt" "$folder/neck.txt" ;;
+*) cat "$folder/conductances.txt" "$folder/hottest.txt" "$folder/neck.txt" ;;
 esac

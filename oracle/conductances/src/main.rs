@@ -1,9 +1,12 @@
-//! Prints the table of docs/CONDUCTANCES.md, after holding the net of every board to the original's,
+//! Prints the first two tables of docs/CONDUCTANCES.md, after holding every table and net in them to the original's,
 //! number by number and bit by bit. Ends with 1 if one differs.
 
 #[path = "../../../bindings/rust/examples/conductances/boards.rs"]
 #[rustfmt::skip] // formatted where it stands
 mod boards;
+#[path = "../../../bindings/rust/examples/hottest/rounds.rs"]
+#[rustfmt::skip]
+mod rounds;
 
 use boards::{Meshed, CASES};
 use calls::build::{build, Outlines, Settings};
@@ -13,7 +16,7 @@ use calls::network::{network, NetRoom};
 use calls::sheets::Sheets;
 use calls::table::{leaf_count, refine};
 use calls::{Answer, Refusal};
-use leafmesh::{text, Board, SLOT, SLOTS};
+use leafmesh::{text, Mesh, OwnedNet, SLOT, SLOTS};
 use std::error::Error;
 use std::io::{stdout, Write};
 
@@ -22,55 +25,71 @@ fn main() -> Result<(), Box<dyn Error>> {
     let all = all?;
     let mut numbers = 0;
     for meshed in &all {
-        numbers += held_to_the_original(meshed)?;
+        let splits = text::parse(meshed.case.board)?.splits;
+        let splits = splits.into_iter().map(|id| id as usize).collect();
+        let original = original(&meshed.mesh, &[splits]);
+        numbers += held(meshed.case.words, &meshed.mesh, &meshed.net, original)?;
+    }
+    let rounds = rounds::rounds()?;
+    let mut splits = Vec::new();
+    for round in &rounds {
+        splits.push(round.splits.clone());
+        numbers += held("the neck", &round.mesh, &round.net, original(&round.mesh, &splits))?;
     }
     let mut out = stdout();
-    write!(out, "{}", boards::table(&all)?)?;
-    writeln!(out, "{} nets, {numbers} numbers: each is the original's, bit for bit", all.len())?;
+    writeln!(out, "{}\n{}", boards::table(&all)?, rounds::table(&rounds)?)?;
+    let nets = all.len() + rounds.len();
+    writeln!(out, "{nets} nets, {numbers} numbers: each is the original's, bit for bit")?;
     Ok(())
 }
 
-/// How many numbers of tables and nets were compared; the first that differs is an error.
-fn held_to_the_original(meshed: &Meshed) -> Result<usize, Box<dyn Error>> {
-    let board = text::parse(meshed.case.board)?;
-    let (table, net) = original(&board).map_err(|Refusal { number, place }| {
-        format!("{}: the original's side refuses {number} {place}", meshed.case.words)
+/// How many numbers of a table and a net were compared; the first that differs is an error.
+fn held(
+    words: &str,
+    mesh: &Mesh,
+    made: &OwnedNet,
+    original: Answer<(Vec<i64>, Net)>,
+) -> Result<usize, Box<dyn Error>> {
+    let (table, net) = original.map_err(|Refusal { number, place }| {
+        format!("{words}: the original's side refuses {number} {place}")
     })?;
-    let rows = meshed.net.net();
+    let rows = made.net();
     let bits = |row: &[f64]| -> Vec<u64> { row.iter().map(|number| number.to_bits()).collect() };
-    let same = table == meshed.mesh.table
+    let same = table == mesh.table
         && net.nodes == rows.nodes
         && net.ends == rows.ends
         && bits(&net.conductance) == bits(rows.conductances)
         && net.corners == rows.corners
         && bits(&net.r_sheet) == bits(rows.sheets);
     if !same {
-        return Err(format!("{}: another net than the original's", meshed.case.words).into());
+        return Err(format!("{words}: another net than the original's").into());
     }
     let net = [net.nodes.len(), net.ends.len(), net.corners.len()].iter().sum::<usize>()
         + net.conductance.len()
         + net.r_sheet.len();
-    Ok(SLOT * meshed.mesh.head.count + net)
+    Ok(SLOT * mesh.head.count + net)
 }
 
-/// The table and the net that the original makes of a board.
-fn original(board: &Board) -> Answer<(Vec<i64>, Net)> {
-    let none = Refusal { number: 3, place: 0 };
-    let polygons = board.polygons().map_err(|_| none)?;
+/// The table and the net that the original makes of a mesh's board, split in rounds, each balanced.
+fn original(mesh: &Mesh, rounds: &[Vec<usize>]) -> Answer<(Vec<i64>, Net)> {
+    let polygons = &mesh.polygons;
     let sheets = Sheets {
         layer: &polygons.layers,
         component: &polygons.components,
         r_sheet: &polygons.sheets,
     };
     let outlines = Outlines { sheets, point_count: &polygons.counts, points: &polygons.points };
-    let max_level = board.max_level;
-    let settings = Settings { max_level, cap: board.cap, target: board.target as i64, layers: &[] };
+    let max_level = mesh.settings.max_level;
+    let target = mesh.settings.target as i64;
+    let settings = Settings { max_level, cap: mesh.settings.cap, target, layers: &[] };
     let mut table = vec![0; SLOT * SLOTS];
     let mut count = build(&settings, &outlines, &mut table)?;
-    for &id in &board.splits {
-        count = refine(&mut table, count as usize, max_level, id as usize)?;
+    for splits in rounds {
+        for &id in splits {
+            count = refine(&mut table, count as usize, max_level, id)?;
+        }
+        count += 4 * balance(&mut table, count as usize, max_level)?;
     }
-    count += 4 * balance(&mut table, count as usize, max_level)?;
     let count = count as usize;
     let room = NetRoom::for_leaves(leaf_count(&table, count, max_level)? as usize);
     let net = network(&table, count, max_level, &sheets, &room)?;

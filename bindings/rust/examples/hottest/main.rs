@@ -1,0 +1,14 @@
+//! What the net says of its hottest cell, where a neck is refined by the net's own power: the second table of
+//! docs/CONDUCTANCES.md.
+//!
+//! `cargo run --release --example hottest`
+
+mod rounds;
+
+use std::error::Error;
+use std::io::{stdout, Write};
+
+fn main() -> Result<(), Box<dyn Error>> {
+    write!(stdout(), "{}", rounds::table(&rounds::rounds()?)?)?;
+    Ok(())
+}
