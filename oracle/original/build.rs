@@ -1,7 +1,7 @@
 //! Copies the original's source from the folder that holds it into `OUT_DIR`.
 //!
 //! The repository holds none of the original's text. Two things differ in the copy: the call of
-//! `merge_nets_by_component` that ends `build_network` is gone, as the rules have it, and a
+//! `merge_nets_by_component` that ends `build_network` is gone, as docs/RULES.md has it, and a
 //! public name for the private `shares_edge` is appended.
 
 use std::env;

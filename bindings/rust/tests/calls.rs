@@ -1,4 +1,4 @@
-//! The calls through the bindings: the rules' boundary cases, refusals, and that a refused call changes nothing.
+//! The calls through the bindings: the boundary cases of docs/RULES.md, refusals, and that a refused call changes nothing.
 
 use leafmesh::*;
 

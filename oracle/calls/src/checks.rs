@@ -1,4 +1,4 @@
-//! The two checks of a net: the original's, and the by-layer check, which the rules add.
+//! The two checks of a net: the original's, and the by-layer check, which the original doesn't have.
 
 use crate::net::NetRows;
 use crate::network::polygons_are_known;
@@ -38,7 +38,7 @@ fn named_in(text: &str) -> Hanging {
     Hanging { node: numbers[0], from: numbers[1], to: numbers[2] }
 }
 
-/// By the rules' words: the same walk with nodes of the leaf's own layer and component, the last
+/// By the words of docs/RULES.md: the same walk with nodes of the leaf's own layer and component, the last
 /// one winning. Refuses 7.
 pub fn check_by_layer(
     table: &[i64],

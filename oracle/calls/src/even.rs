@@ -41,7 +41,7 @@ pub fn conform(table: &mut [i64], count: usize, max_level: u64) -> Answer<u64> {
     even(table, count, max_level, Allowed::None)
 }
 
-/// The room is judged by the coarsest splitting, as the rules word it: the original has no bound
+/// The room is judged by the coarsest splitting, as in docs/RULES.md: the original has no bound
 /// and might never come back. Where both can be had their sizes must agree.
 pub fn even(table: &mut [i64], count: usize, max_level: u64, allowed: Allowed) -> Answer<u64> {
     require(well_formed(table, count, max_level), 7, 0)?;

@@ -1,4 +1,4 @@
-//! What the program `leafnet` prints for a record, by the rules' words and the calls beside this
+//! What the program `leafnet` prints for a record, by docs/RULES.md and the calls beside this
 //! file.
 
 use crate::build::build;

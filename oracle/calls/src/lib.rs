@@ -1,7 +1,7 @@
 //! Every taken call of the original on plain rows of ticks.
 //!
-//! Each call first applies the rules' refusals, in the rules' order, by a reading of its own:
-//! the original panics or goes on where the rules refuse. What is left goes to the original, run
+//! Each call first applies the refusals of docs/RULES.md, in their order, by a reading of its own:
+//! the original panics or goes on where those rules refuse. What is left goes to the original, run
 //! on tick times 2^-38, and comes back as ticks; both ways are asserted to be exact.
 
 pub mod build;

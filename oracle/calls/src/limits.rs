@@ -1,4 +1,4 @@
-//! The ranges of the rules' table.
+//! The ranges of docs/RULES.md.
 
 /// Coordinates reach from minus this to this, in ticks.
 pub const COORDINATE: i64 = 1 << 36;

@@ -18,7 +18,7 @@ pub struct NetRoom {
 }
 
 impl NetRoom {
-    /// Exactly what the rules ask for so many leaves.
+    /// Exactly the room that docs/RULES.md asks for so many leaves.
     pub fn for_leaves(leaves: usize) -> Self {
         NetRoom { nodes: 4 * leaves, edges: 8 * leaves, cells: leaves, work: 64 * leaves }
     }

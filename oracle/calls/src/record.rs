@@ -1,4 +1,4 @@
-//! The board record: a reader by the rules' words, and a writer for tests.
+//! The board record: a reader by the words of docs/RULES.md, and a writer for tests.
 
 use crate::build::{Outlines, Settings};
 use crate::limits::{

@@ -46,7 +46,7 @@ fn original_strips(ring: &[TickPoint]) -> Vec<Rect> {
         .collect()
 }
 
-/// The strips by the rules' words, over whole numbers. Build's refusals 5 and 6 are judged by
+/// The strips by the words of docs/RULES.md, over whole numbers. Build's refusals 5 and 6 are judged by
 /// these, so that they don't rest on the original.
 pub fn strips_by_the_words(ring: &[TickPoint]) -> Vec<Rect> {
     if ring.len() < 3 {

@@ -1,4 +1,4 @@
-//! What is easy to miss in the rules' words, shown of the original.
+//! What is easy to miss in docs/RULES.md, shown of the original.
 
 mod common;
 

@@ -1,4 +1,4 @@
-//! Refusals in the rules' order: two faults at once, and the earlier one is answered.
+//! Refusals in the order of docs/RULES.md: two faults at once, and the earlier one is answered.
 
 mod common;
 
@@ -275,7 +275,7 @@ fn sound_net() -> (Board, Table, Net) {
     (board, table, net)
 }
 
-/// All ways to spoil a net that the rules list.
+/// All ways to spoil a net that docs/RULES.md lists.
 fn spoiled() -> Vec<Net> {
     let (_, _, net) = sound_net();
     let changes: [fn(&mut Net); 11] = [

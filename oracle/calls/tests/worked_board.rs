@@ -6,7 +6,7 @@ use calls::leafnet::leafnet;
 use calls::record::{read_record, write_record};
 use common::{mesh, net_of, wide_room, worked_board};
 
-/// Byte for byte by the rules' field list, written out here and not by the writer.
+/// Byte for byte by the field list of docs/RULES.md, written out here and not by the writer.
 fn record() -> Vec<u8> {
     let mut bytes = vec![1, 0, 0, 0, 97];
     bytes.push(1);

@@ -1,5 +1,5 @@
 //! The two checks: the original's, and the by-layer check against this folder's own reading of
-//! the rules.
+//! docs/RULES.md.
 
 use crate::port::{checks as port, outcome_of};
 use crate::report::Report;

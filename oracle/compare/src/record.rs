@@ -245,8 +245,8 @@ fn board_of([max_level, cap, target]: [u64; 3], rows: &Rows) -> Board {
     board
 }
 
-/// The writer's answer. The rules have no writer; this one refuses 7 for polygon rows that don't
-/// fit together, 3 for counts past the rules', 6 for too few bytes.
+/// The writer's answer. docs/RULES.md has no writer; this one refuses 7 for polygon rows that don't
+/// fit together, 3 for counts past those of a record, 6 for too few bytes.
 fn write_rows(settings: [u64; 3], rows: &Rows, out: &mut [u8]) -> Answer<u64> {
     let points: u128 = rows.polygons.iter().map(|row| u128::from(row[2])).sum();
     require(rows.polygons.len() == rows.sheets.len(), 7, 0)?;

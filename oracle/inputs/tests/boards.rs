@@ -47,7 +47,7 @@ fn the_originals_ceiling_never_errs() {
     }
 }
 
-/// Roots by the rules' words: strips in order, rows from the bottom, left to right.
+/// Roots by docs/RULES.md: strips in order, rows from the bottom, left to right.
 fn roots_by_the_words(board: &Board) -> Vec<Slot> {
     let mut points = board.points.iter().copied();
     let mut roots = Vec::new();
@@ -190,7 +190,7 @@ fn the_checks_agree_where_there_is_one_polygon() {
     assert!(none > 500 && some > 50, "{none} {some}");
 }
 
-/// Power by the rules' formula, in its order of operations.
+/// Power by the formula of docs/RULES.md, in its order of operations.
 #[test]
 fn powers_are_those_of_the_formula() {
     let mut random = Random::new(27);
