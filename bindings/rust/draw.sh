@@ -12,7 +12,8 @@ case $# in
 esac
 board=$1
 name=${board%.record}
-out=${2:-${name%.txt}}
+name=${name%.txt}
+out=${2:-$name}
 here=$(cd "$(dirname "$0")" && pwd)
 [ -n "${LEAFMESH_LIBRARY:-}" ] || "$here/../library.sh"
 (cd "$here" && cargo build --offline --release --quiet --bin draw)
