@@ -2,8 +2,10 @@
 //!
 //! A tick is 2^-38 m, and a millimetre is no whole number of them. A board in millimetres is put on a pitch: a
 //! length in millimetres, taken as the nearest multiple of 2^(max_level+1) ticks. Where all coordinates are
-//! multiples of the pitch, and the pitch is the target, every base cell is a square of one pitch, bands meet
-//! corner to corner, and every cell can be split max_level times.
+//! multiples of the pitch, the pitch is the target, and no strip is longer than [`Settings::cap`](crate::Settings)
+//! pitches (256 at most), every base cell is a square of one pitch, bands meet corner to corner, and every cell can be
+//! split max_level times. A longer strip gets cells of more than one pitch, which need not meet its neighbours' nor be
+//! whole multiples of 2^(max_level+1) ticks; a pitch can't see that, and [`Mesh`](crate::Mesh) does.
 
 use crate::{Point, COORDINATE, MAX_LEVEL, TICK};
 use std::error::Error;

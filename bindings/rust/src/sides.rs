@@ -66,8 +66,9 @@ pub fn hanging(net: Net) -> Vec<usize> {
     found
 }
 
-/// The first node inside a side that isn't at its middle: none on a balanced board whose coordinates are
-/// multiples of its base cell.
+/// The first node inside a side that isn't at its middle: none on a balanced board of one polygon whose coordinates are
+/// multiples of its base cell and whose strips are no longer than [`Settings::cap`](crate::Settings) base cells.
+/// [`Mesh::net`](crate::Mesh::net) refuses a net that has one.
 pub fn loose(net: Net) -> Option<Inside> {
     inside(net).into_iter().find(|one| !one.middle)
 }

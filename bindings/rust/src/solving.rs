@@ -56,8 +56,8 @@ impl fmt::Display for NoFit {
         let node = self.node;
         write!(
             f,
-            "node {node} stands inside a cell's side, not at its middle: balance the table, and make all \
-             coordinates multiples of the base cell"
+            "node {node} stands inside a cell's side, not at its middle: balance the table, make all coordinates \
+             multiples of the base cell, and no strip longer than cap of them"
         )
     }
 }
