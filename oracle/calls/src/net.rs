@@ -38,7 +38,7 @@ impl NetRows<'_> {
         (x, y)
     }
 
-    /// The rules: a net is bad if its rows differ in length, a coordinate is out of range, a cell
+    /// By docs/RULES.md a net is bad if its rows differ in length, a coordinate is out of range, a cell
     /// or edge names a node not below the count, or a cell's corners aren't SW, SE, NE, NW of a
     /// rectangle with positive sides. A layer past 16 bits or a component past 32 bits, which a row
     /// of wider numbers can hold, is read as a coordinate out of range is.

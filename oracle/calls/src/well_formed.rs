@@ -1,4 +1,4 @@
-//! The rules' "Well-formed table", clause by clause.
+//! A well-formed table, clause by clause as docs/RULES.md has it.
 
 use crate::limits::{coordinate_in_range, POLYGONS, SLOTS, WIDEST_LEVEL};
 use crate::table::{Slot, NO_CELL, WIDTH};

@@ -1,4 +1,4 @@
-//! The rules' boundary cases P1 to P8, asked of the original.
+//! The boundary cases P1 to P8 of docs/RULES.md, asked of the original.
 
 mod common;
 

@@ -1,4 +1,4 @@
-//! The rules' worked board, from its 102 bytes to the printed text.
+//! The worked board of docs/RULES.md, from its 102 bytes to the printed text.
 
 mod common;
 

@@ -263,7 +263,7 @@ fn deep_corner(level: u64) -> Mesh {
     mesh
 }
 
-/// The rules' P2, unbalanced.
+/// P2 of docs/RULES.md, unbalanced.
 fn p2() -> Mesh {
     let mut mesh = Mesh::of_table(Table::with(2, &[[0, 0, 8, 8], [8, 0, 16, 8]], &[0, 3]));
     mesh.push_polygon(1, 0, 1.0);

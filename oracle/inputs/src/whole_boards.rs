@@ -207,7 +207,7 @@ fn crowd(board: &mut Board, random: &mut Random) {
     board.push_polygon(9, 0, 1.0, &[[0, 0], [side, 0], [side, side], [0, side]]);
 }
 
-/// The rules' worked board.
+/// The worked board of docs/RULES.md.
 pub fn worked_board() -> Board {
     let mut board = Board { max_level: 1, cap: 256, target: 4, ..Board::default() };
     board.push_polygon(1, 0, 1.0, &[[0, 0], [4, 0], [4, 4], [0, 4]]);
