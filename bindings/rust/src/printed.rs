@@ -177,9 +177,9 @@ pub fn show_mesh(board: &Board, mesh: &Mesh, made: &OwnedNet) -> Result<String, 
     Ok(text)
 }
 
-/// A node inside a leaf's side and not at its middle, and the leaf's id: the net is wrong there. The text doesn't say of
-/// what layer and component a polygon is; it is taken to be one that has all corners of its leaves, and where several
-/// have, each must have such a node.
+/// A node inside a leaf's side and not at its middle, and the leaf's id: the net is wrong there. The text doesn't say
+/// of what layer and component a polygon is; it is taken to be one that has all corners of its leaves, and where
+/// several have, each must have such a node.
 pub fn loose(printed: &Printed) -> Option<(usize, Inside)> {
     let nodes: Vec<i64> = printed.nodes.iter().flatten().copied().collect();
     let mut numbers = BTreeMap::new();
@@ -237,8 +237,8 @@ pub fn read_sound(text: &str) -> Result<Printed, String> {
     match loose(&printed) {
         None => Ok(printed),
         Some((leaf, Inside { node, ends, .. })) => Err(format!(
-            "node {node} stands inside a side of leaf {leaf}, between nodes {} and {}, and not at its middle: the net is \
-             wrong there. Make all coordinates multiples of the base cell, and no strip longer than cap base cells",
+            "node {node} stands inside a side of leaf {leaf}, between nodes {} and {}, and not at its middle: the net \
+             is wrong there. Make all coordinates multiples of the base cell, and no strip longer than cap base cells",
             ends[0], ends[1]
         )),
     }

@@ -1,4 +1,5 @@
-//! The calls through the bindings: the boundary cases of docs/RULES.md, refusals, and that a refused call changes nothing.
+//! The calls through the bindings: the boundary cases of docs/RULES.md, refusals, and that a refused call changes
+//! nothing.
 
 use leafmesh::*;
 

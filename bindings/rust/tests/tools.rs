@@ -374,8 +374,8 @@ fn a_strip_that_is_too_long_is_told_by_its_line() {
 #[test]
 fn bands_that_do_not_meet_are_told_by_their_polygon() {
     let bands = "level 0\ntarget 6\npolygon 1 0 1\n0 0\n6 0\n6 2\n8 2\n8 4\n0 4\n";
-    let so = "stands inside a leaf's side, from (6, 2) to (0, 2), and not at its middle: make all coordinates multiples \
-              of the base cell, and draw copper once";
+    let so = "stands inside a leaf's side, from (6, 2) to (0, 2), and not at its middle: make all coordinates \
+              multiples of the base cell, and draw copper once";
     refused_by_all(bands, &format!("line 3: a node at (4, 2) {so}"));
     let text = text::parse(bands).expect("a board");
     let mesh = Mesh::unjudged(&text).expect("a mesh");

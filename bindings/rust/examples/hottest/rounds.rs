@@ -104,7 +104,8 @@ fn watts(net: Net, system: &System) -> Result<(f64, Vec<f64>), Box<dyn Error>> {
 /// The table of the page: a line a round.
 pub fn table(rounds: &[Round]) -> Result<String, Box<dyn Error>> {
     let mut lines = String::from(
-        "| Round | leaves | net's hottest cell: its power by the net / by elements | power of all cells / V²G |\n|---|---|---|---|\n",
+        "| Round | leaves | net's hottest cell: its power by the net / by elements | power of all cells / V²G |\n\
+         |---|---|---|---|\n",
     );
     for (number, round) in rounds.iter().enumerate() {
         let net = round.net.net();

@@ -1,0 +1,348 @@
+//! The examples of docs/RULES.md, run.
+
+use leafmesh::*;
+
+fn refused(number: u64, place: usize) -> (u64, usize) {
+    (number, place)
+}
+
+fn number_of(refusal: Refusal) -> (u64, usize) {
+    (refusal.reason.number(), refusal.place)
+}
+
+/// One square of 4 by 4 ticks.
+fn worked_record() -> Vec<u8> {
+    let board = text::parse("level 1\ncap 256\ntarget 4\npolygon 1 0 1\n0 0\n4 0\n4 4\n0 4\n");
+    let board = board.expect("a board");
+    let mut record = vec![0; record_length(&board)];
+    write(&board, &mut record).expect("room");
+    record
+}
+
+#[test]
+fn records() {
+    let worked = worked_record();
+    assert_eq!(worked.len(), 102);
+    let mut shorter = worked[..101].to_vec();
+    let of = |bytes: &[u8]| number_of(read(bytes).expect_err("a refusal"));
+    assert_eq!(of(&shorter), refused(2, 1));
+    shorter[4] = 0x60;
+    assert_eq!(of(&shorter), refused(2, 100));
+    let mut no_target = worked.clone();
+    no_target[15] = 0;
+    assert_eq!(of(&no_target), refused(3, 8));
+    assert_eq!(of(&worked[..4]), refused(2, 1));
+    assert_eq!(of(&[]), refused(2, 0));
+    assert_eq!(of(&[2]), refused(1, 0));
+    // Two entries of layer 3.
+    let mut entries = worked[..16].to_vec();
+    entries.extend([
+        0, 2, 0, 3, 0, 0, 0, 0, 0, 0, 0, 8, 0, 3, 0, 0, 0, 0, 0, 0, 0, 8,
+    ]);
+    entries.extend([0, 0, 0, 0]);
+    entries[4] = entries.len() as u8 - 5;
+    assert_eq!(of(&entries), refused(3, 28));
+}
+
+fn strips_of(ring: &[Point]) -> Vec<Rect> {
+    let mut out = [[0; 4]; 16];
+    let count = strips(ring, &mut out).expect("a ring");
+    out[..count].to_vec()
+}
+
+#[test]
+fn rings() {
+    let bracket = [
+        [0, 0],
+        [12, 0],
+        [12, 4],
+        [4, 4],
+        [4, 8],
+        [12, 8],
+        [12, 12],
+        [0, 12],
+    ];
+    assert_eq!(
+        strips_of(&bracket),
+        [[0, 0, 12, 4], [0, 4, 4, 8], [0, 8, 12, 12]]
+    );
+    // Crossings 0, 4, 4, 8, and 0, 0, 4, 8.
+    let touching = [[0, 0], [4, 0], [4, 4], [4, 0], [8, 0], [8, 4], [0, 4]];
+    assert_eq!(strips_of(&touching), [[0, 0, 4, 4], [4, 0, 8, 4]]);
+    let folded = [
+        [4, 0],
+        [8, 0],
+        [8, 4],
+        [4, 4],
+        [4, 0],
+        [0, 0],
+        [0, 4],
+        [0, 0],
+    ];
+    assert_eq!(strips_of(&folded), [[4, 0, 8, 4]]);
+    let crossing = [
+        [0, 0],
+        [8, 0],
+        [8, 8],
+        [4, 8],
+        [4, 4],
+        [12, 4],
+        [12, 12],
+        [0, 12],
+    ];
+    let between: Vec<Rect> = strips_of(&crossing)
+        .into_iter()
+        .filter(|strip| strip[1] == 4)
+        .collect();
+    assert_eq!(between, [[0, 4, 4, 8], [8, 4, 12, 8]]);
+    assert_eq!(
+        number_of(strips(&[[0, 0], [1, 1]], &mut []).expect_err("slanted")),
+        refused(4, 0)
+    );
+}
+
+/// How many base cells a strip of this width has in one row of a board of level 0, or the refusal.
+fn across(wide: i64, target: u64, cap: u64) -> Result<usize, (u64, usize)> {
+    let outlines = Outlines {
+        layers: &[1],
+        components: &[0],
+        sheets: &[1.0],
+        counts: &[4],
+        points: &[[0, 0], [wide, 0], [wide, 2], [0, 2]],
+    };
+    let settings = Settings {
+        max_level: 0,
+        cap,
+        target,
+    };
+    let head = build(settings, &[], outlines, &mut [0; 8 * SLOT]).map_err(number_of)?;
+    Ok(head.count)
+}
+
+#[test]
+fn base_cells() {
+    assert_eq!(across(24, 10, 256), Ok(3));
+    assert_eq!(across(24, 10, 2), Ok(2));
+    assert_eq!(across(20, 10, 256), Ok(2));
+    assert_eq!(across(20, 9, 256), Err(refused(5, 0)));
+}
+
+#[test]
+fn contacts() {
+    for (other, shared) in [
+        ([4, 2, 8, 6], true),
+        ([1, 4, 2, 5], true),
+        ([4, 4, 8, 8], false),
+        ([4, 3, 8, 8], true),
+        ([5, 0, 8, 4], false),
+        ([2, 2, 6, 6], false),
+        ([0, 0, 4, 4], false),
+    ] {
+        assert_eq!(contact([0, 0, 4, 4], other), Ok(shared), "{other:?}");
+    }
+}
+
+/// A table of these roots, split and balanced: the splits that balance made, and the table.
+fn balanced(roots: &[Rect], splits: &[usize]) -> (usize, Vec<i64>, Head) {
+    let mut table = vec![0; 64 * SLOT];
+    for (slot, root) in table.chunks_exact_mut(SLOT).zip(roots) {
+        slot[..4].copy_from_slice(root);
+        slot[columns::PARENT] = NO_CELL;
+        slot[columns::FIRST_CHILD] = NO_CELL;
+    }
+    let mut head = Head {
+        count: roots.len(),
+        max_level: 3,
+    };
+    for &id in splits {
+        head = refine(&mut table, head, id).expect("a leaf");
+    }
+    let (made, head) = balance(&mut table, head).expect("room");
+    (made, table, head)
+}
+
+#[test]
+fn balance_in_a_row_and_over_one_another() {
+    let row = [[0, 0, 16, 16], [16, 0, 32, 16], [32, 0, 48, 16]];
+    let (made, table, head) = balanced(&row, &[0, 4, 8]);
+    assert_eq!((made, head.count), (2, 23));
+    let first_child = |id: usize| table[SLOT * id + columns::FIRST_CHILD];
+    assert_eq!(
+        [first_child(1), first_child(15), first_child(2)],
+        [15, 19, NO_CELL]
+    );
+
+    let over = [[0, 0, 16, 32], [0, 0, 16, 16]];
+    assert_eq!(balanced(&over, &[1, 4, 8]).0, 0);
+    let (made, table, _) = balanced(&over, &[1, 4, 8, 0]);
+    assert_eq!(made, 1);
+    assert_eq!(table[SLOT * 16..][..4], [0, 16, 8, 32]);
+    assert_ne!(table[SLOT * 16 + columns::FIRST_CHILD], NO_CELL);
+}
+
+/// The net of a board's text, as edges by their ends.
+fn edges_of(text: &str) -> (Mesh, OwnedNet, Vec<([u64; 2], f64)>) {
+    let board = text::parse(text).expect("a board");
+    let mesh = Mesh::unjudged(&board).expect("a mesh");
+    let net = mesh.unjudged_net().expect("a net");
+    let ends = net
+        .net()
+        .ends
+        .chunks_exact(2)
+        .map(|ends| [ends[0], ends[1]]);
+    let edges = ends.zip(net.net().conductances.iter().copied()).collect();
+    (mesh, net, edges)
+}
+
+#[test]
+fn a_split_square_and_its_weights() {
+    let (mesh, net, edges) =
+        edges_of("level 1\ntarget 8\npolygon 1 0 1\n0 0\n8 0\n8 16\n0 16\nsplit 0\n");
+    assert_eq!(mesh.order(), Ok(vec![1, 2, 3, 4, 5]));
+    let places: Vec<[i64; 2]> = net
+        .net()
+        .nodes
+        .chunks_exact(4)
+        .map(|node| [node[2], node[3]])
+        .collect();
+    let expected = [
+        [0, 8],
+        [8, 8],
+        [8, 16],
+        [0, 16],
+        [0, 0],
+        [4, 0],
+        [4, 4],
+        [0, 4],
+        [8, 0],
+        [8, 4],
+        [4, 8],
+    ];
+    assert_eq!(places, expected);
+    assert_eq!(edges.len(), 15);
+    assert_eq!(edges[0], ([0, 10], 1.5));
+    assert_eq!(edges[1].0, [10, 1]);
+    assert_eq!(
+        [edges[2].0, edges[3].0, edges[4].0],
+        [[3, 2], [0, 3], [1, 2]]
+    );
+    assert_eq!(edges[3].1, 0.25);
+}
+
+#[test]
+fn two_squares_out_of_step() {
+    let (_, _, edges) = edges_of(
+        "level 0\ntarget 2\npolygon 1 0 1\n0 0\n2 0\n2 2\n0 2\npolygon 1 0 1\n0 1\n2 1\n2 3\n0 3\n",
+    );
+    let expected = [
+        ([0, 1], 0.25),
+        ([3, 2], 0.5),
+        ([0, 3], 0.5),
+        ([1, 2], 0.5),
+        ([4, 5], 0.5),
+        ([7, 6], 0.25),
+        ([4, 3], 2.0),
+        ([3, 7], 2.0),
+        ([5, 2], 2.0),
+        ([2, 6], 2.0),
+    ];
+    assert_eq!(edges, expected);
+}
+
+#[test]
+fn powers() {
+    for (wide, high, sheet, volts, expected) in [
+        (4, 4, 1.0, [0.0, 1.0, 1.0, 0.0], 1.0),
+        (8, 4, 1.0, [0.0, 1.0, 1.0, 0.0], 0.5),
+        (4, 8, 2.0, [0.0, 1.0, 1.0, 0.0], 1.0),
+        (4, 4, 1.0, [0.0, 1.0, 0.0, 1.0], 0.0),
+    ] {
+        let nodes = [1, 0, 0, 0, 1, 0, wide, 0, 1, 0, wide, high, 1, 0, 0, high];
+        let net = Net {
+            nodes: &nodes,
+            ends: &[],
+            conductances: &[],
+            corners: &[0, 1, 2, 3],
+            sheets: &[sheet],
+        };
+        let mut watts = [-1.0];
+        power(net, &volts, &mut watts).expect("in range");
+        assert_eq!(watts, [expected]);
+    }
+}
+
+#[test]
+fn layers_over_each_other() {
+    let square = "0 0\n8 0\n8 8\n0 8\n";
+    let text =
+        format!("level 1\ntarget 8\npolygon 1 0 1\n{square}polygon 2 0 1\n{square}split 0\n");
+    let (mesh, net, _) = edges_of(&text);
+    let named = check_network_conforming(&mesh.table, mesh.head, net.net());
+    assert_eq!(
+        named,
+        Ok(Some(Hanging {
+            node: 1,
+            from: 9,
+            to: 10
+        }))
+    );
+    assert_eq!(net.net().nodes[4..8], [1, 0, 4, 0]);
+    assert_eq!(mesh.check(net.net()), Ok(None));
+}
+
+#[test]
+fn leafnets_text() {
+    let board = read(&worked_record()).expect("a board");
+    let expected = "cells 1 leaves 1 nodes 4 edges 4 splits 0\n\
+        leaf 0 0 0 0 0 4 4\n\
+        node 0 1 0 0 0\nnode 1 1 0 4 0\nnode 2 1 0 4 4\nnode 3 1 0 0 4\n\
+        edge 0 1 3fe0000000000000\nedge 3 2 3fe0000000000000\n\
+        edge 0 3 3fe0000000000000\nedge 1 2 3fe0000000000000\n";
+    assert_eq!(printed::show(&board).expect("a net"), expected);
+}
+
+#[test]
+fn just_past_a_limit() {
+    assert!(matches!(
+        leaf_count(
+            &vec![0; SLOT * SLOTS],
+            Head {
+                count: 0,
+                max_level: 12
+            }
+        ),
+        Ok(0)
+    ));
+    let long = vec![0; SLOT * (SLOTS + 1)];
+    let bad = leaf_count(
+        &long,
+        Head {
+            count: 0,
+            max_level: 12,
+        },
+    )
+    .expect_err("too many slots");
+    assert_eq!(number_of(bad), refused(7, 0));
+    let bad = leaf_count(
+        &[],
+        Head {
+            count: 0,
+            max_level: 13,
+        },
+    )
+    .expect_err("too deep");
+    assert_eq!(number_of(bad), refused(7, 0));
+    assert!(strips(&vec![[0, 0]; limits::RING_POINTS], &mut []).is_ok());
+    let bad = strips(&vec![[0, 0]; limits::RING_POINTS + 1], &mut []).expect_err("too many points");
+    assert_eq!(number_of(bad), refused(3, 0));
+    for max_level in [13, 255] {
+        let settings = Settings {
+            max_level,
+            cap: 1,
+            target: 1,
+        };
+        let bad =
+            build(settings, &[], Polygons::default().outlines(), &mut []).expect_err("too deep");
+        assert_eq!(number_of(bad), refused(3, 0));
+    }
+}
