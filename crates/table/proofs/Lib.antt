@@ -16,6 +16,6 @@ pub mod Zeros
 pub mod Walk
 pub mod Splits
 pub mod Refining
-pub mod Counting
 pub mod Times
 pub mod Tables
+pub mod Listed

@@ -2,7 +2,7 @@
 use Rattle.std.specs.Prelude.{ℕ, ◌-◌, List, filter}
 use Rattle.std.specs.List.{range_with_len}
 use Rattle.table.specs.Mesh.{Cell, is_leaf}
-use Rattle.table.specs.Rows.{cells_in, leaves_in}
+use Rattle.table.specs.Rows.{cells_in, leaves_in, order_in}
 use Rattle.table.specs.declared.view.Table.{Table}
 use Rattle.table.specs.declared.view.Leaves.{Leaves}
 
@@ -13,6 +13,10 @@ cells t = cells_in t.row.now t.head
 -- the leaves by id
 abbrev pub leaves : Table → List ℕ
 leaves t = leaves_in t.row.now t.head
+
+-- the leaves by polygon, then id
+abbrev pub order : Table → List ℕ
+order t = order_in t.row.now t.head
 
 abbrev pub leaves_left : Leaves → List ℕ
 leaves_left l = filter (is_leaf (cells l.table)) (range_with_len l.next (l.table.head.count - l.next))

@@ -1,14 +1,15 @@
 // A table to be read: a lent row and its head, judged once.
-ghost use Rattle.std.specs.Prelude.{◌≡◌, ◌/◌, ◌<◌, ◌≤◌, ◌↔◌, ◌++◌, length, drop, IsSome, IfSome};
+ghost use Rattle.std.specs.Prelude.{◌≡◌, ◌/◌, ◌<◌, ◌≤◌, ◌↔◌, length, IsSome, IfSome};
 ghost use Rattle.std.specs.Iterator.{YieldsFirst, item_count};
 ghost use Rattle.refusals.specs.Limits.{widest_level, max_slots};
 ghost use Rattle.table.specs.Slots.{cell_at};
 ghost use Rattle.table.specs.Mesh.{at, is_leaf};
 ghost use Rattle.table.specs.Formed.{WellFormed};
-ghost use Rattle.table.specs.Rows.{IsTable, leaves_in};
+ghost use Rattle.table.specs.Rows.{IsTable};
 
 use crate::Head;
 use crate::formed::well_formed;
+use crate::leaves::append_order;
 use crate::slots::{first_at, level_at, parent_at, poly_at};
 use cell::Cell;
 
@@ -24,11 +25,13 @@ pub struct Table<'a> {
 }
 
 impl<'a> Table<'a> {
-    ghost use Rattle.table.specs.Tables.{cells, leaves, leaves_left};
+    ghost use Rattle.table.specs.Leaves.{written};
+    ghost use Rattle.table.specs.Tables.{cells, leaves, order, leaves_left};
 
     /// The row as a table; none where it is not well formed.
     #[tactic(auto, using(crate::proofs::Tables::table_bounds))]
     pub fn new(row: &'a [i64], head: Head) -> Option<Table<'a>>
+        ensures table { IsSome result ↔ IsTable row.now head }
         ensures formed { IsSome result ↔ WellFormed row.now head.count head.max_level }
         ensures same_row { IfSome result (λ t. t.row.now ≡ row.now) }
         ensures same_head { IfSome result (λ t. t.head ≡ head) }
@@ -102,6 +105,27 @@ impl<'a> Table<'a> {
     {
         self.leaves().count()
     }
+
+    /// The leaves by id, into the front of a row that has room for them.
+    #[tactic(auto, unfolding(crate::specs::Leaves::written))]
+    pub fn list_leaves(&self, out: &mut [u64])
+        requires { length (leaves self.now) ≤ length out.old }
+        ensures { out.new ≡ written (leaves self.now) out.old }
+    {
+        let mut at = 0;
+        for id in self.leaves() {
+            out[at] = id as u64;
+            at += 1;
+        }
+    }
+
+    /// The leaves by polygon, then id, into the front of a row that has room for them.
+    pub fn list_order(&self, out: &mut [u64])
+        requires { length (leaves self.now) ≤ length out.old }
+        ensures { out.new ≡ written (order self.now) out.old }
+    {
+        append_order(self.row, self.head.count, out);
+    }
 }
 
 /// The ids of a table's leaves, rising.
@@ -129,19 +153,5 @@ impl Iterator for Leaves<'_> {
             }
         }
         None
-    }
-}
-
-/// The leaves into the front of a row, which has room for them.
-pub fn list_leaves(table: &Table<'_>, out: &mut [u64])
-    requires { length (leaves_in table.now.row.now table.now.head) ≤ length out.old }
-    ensures { out.new
-        ≡ leaves_in table.now.row.now table.now.head
-        ++ drop (length (leaves_in table.now.row.now table.now.head)) out.old }
-{
-    let mut at = 0;
-    for id in table.leaves() {
-        out[at] = id as u64;
-        at += 1;
     }
 }
