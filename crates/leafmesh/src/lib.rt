@@ -44,7 +44,7 @@ pub fn accept(value: u64) -> Outcome
 pub fn refuse(why: Refusal) -> Outcome
     ensures { result ≡ outcome_of (refusal why) }
 {
-    let code = refusals::code_of(why);
+    let code = why.code();
     Outcome {
         number: code.number,
         place: code.place as u64,

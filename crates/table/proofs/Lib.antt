@@ -19,3 +19,4 @@ pub mod Refining
 pub mod Times
 pub mod Tables
 pub mod Listed
+pub mod Counted

@@ -8,3 +8,4 @@ pub mod Refine
 pub mod Rows
 pub mod Tables
 pub mod TablesMut
+pub mod Laws

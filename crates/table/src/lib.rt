@@ -5,6 +5,7 @@
 
 pub mod edit;
 pub mod formed;
+pub mod laws;
 pub mod leaves;
 pub mod refine;
 pub mod slots;
