@@ -14,8 +14,8 @@ pub mod view;
 pub use edit::TableMut;
 pub use view::Table;
 
-// What a table has beside its row. A call that changes the count answers the head anew.
-#[derive(Clone, Copy)]
+/// What a table has beside its row. A call that changes the count answers the head anew.
+#[derive(Clone, Copy, Debug, PartialEq, Eq)]
 pub struct Head {
     pub count: usize,
     pub max_level: u64,

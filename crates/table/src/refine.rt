@@ -16,17 +16,20 @@ use refusals::Refusal;
 // Child k of cell i goes to slot n + k.
 #[tactic(auto, unfolding(crate::specs::Refine::put_kid))]
 fn put_kid(t: &mut [i64], n: usize, i: usize, c: Cell, k: u64)
-    requires { (k < 4) × ((n + 4) * 8 ≤ length t.old) × (c.level < widest_level) }
+    requires quadrant { k < 4 }
+    requires room { (n + 4) * 8 ≤ length t.old }
+    requires finer { c.level < widest_level }
     ensures { t.new ≡ put_kid t.old n i c k }
 {
     put_cell(t, n + k as usize, c.child(i as u64, k));
 }
 
-// Cell i gets four children in the slots from n on. Internal: the slots are in the row and the cell is above the widest
-// level.
+/// Cell i gets four children in the slots from n on.
 #[tactic(auto, unfolding(crate::specs::Refine::split_row))]
 pub fn split_cell(t: &mut [i64], n: usize, i: usize)
-    requires { (i < n) × ((n + 4) * 8 ≤ length t.old) × ((cell_at t.old i).level < widest_level) }
+    requires inside { i < n }
+    requires room { (n + 4) * 8 ≤ length t.old }
+    requires finer { (cell_at t.old i).level < widest_level }
     ensures { t.new ≡ split_row t.old n i }
 {
     let c = cell_at(t, i);

@@ -8,7 +8,11 @@ use Rattle.table.proofs.edit.TableMut.split.Goals as goal
 pub split_cell-requires : goal.split_cell-requires
 split_cell-requires c =
     let s = c.args.self.now in
-    (c.requires.inside, omega arith, omega (arith, level_read s.row.now s.head.count c.args.id c.requires.inside))
+    record {
+      inside = c.requires.inside;
+      room = omega arith;
+      finer = omega (arith, level_read s.row.now s.head.count c.args.id c.requires.inside);
+    }
 
 pub invariant_of-self : goal.invariant_of-self
 invariant_of-self c =

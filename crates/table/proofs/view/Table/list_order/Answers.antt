@@ -8,8 +8,8 @@ pub append_order-requires : goal.append_order-requires
 append_order-requires c =
     let s = c.args.self.now in
     record {
-      n_in_bounds = omega (arith, s.within);
-      n_in_bounds_2 = omega (arith, order_in-length s.row.now s.head s.formed, ap length (order_ids-in s.row.now s.head));
+      slots = omega (arith, s.within);
+      room = omega (arith, order_in-length s.row.now s.head s.formed, ap length (order_ids-in s.row.now s.head));
     }
 
 pub returns : goal.returns
