@@ -5,7 +5,7 @@ ghost use Rattle.cell.specs.Ticks.{in_range, off, on, metres_of};
 use refusals::limits::COORDINATE;
 
 // The highest coordinate of a cell: 2^37.
-const TOP: u64 = 137438953472;
+const TOP: u64 = 2 * COORDINATE as u64;
 
 /// Whether a coordinate is in the rules' range.
 pub fn in_range(z: i64) -> bool

@@ -6,7 +6,7 @@ ghost use Rattle.std.specs.Prelude.{◌≡◌, true, length, take};
 ghost use Rattle.std.proofs.lemmas.List.Edits.{sets};
 ghost use Rattle.table.specs.Rows.{order_in};
 ghost use Rattle.table.specs.Leaves.{listed_row};
-ghost use Rattle.table.specs.Refine.{is_accepted};
+ghost use Rattle.refusals.specs.Said.{is_accepted};
 ghost use Rattle.even.specs.Even.{evening_said};
 ghost use Rattle.board.specs.Rows.{rows_of};
 ghost use Rattle.mesh.specs.Polygons.{column};
