@@ -10,7 +10,8 @@ use Rattle.contact.specs.declared.Rect.{Rect}
 use Rattle.contact.specs.Contact.{contact_says}
 use Rattle.cell.specs.Cells.{no_cell}
 use Rattle.table.specs.Mesh.{Cell, is_none, table}
-use Rattle.table.specs.Refine.{refine_row}
+use Rattle.table.specs.Rows.{head_of}
+use Rattle.table.specs.Refine.{refined_row}
 use Rattle.coarsest.specs.Passes.{balancing, conforming}
 use Rattle.even.specs.Even.{even_says, even_row}
 use Rattle.strips.specs.declared.walk.Strip.{Strip}
@@ -53,7 +54,7 @@ root x0 y0 x1 y1 polygon = pos x0 ∷ pos y0 ∷ pos x1 ∷ pos y1 ∷ pos 0 ∷
 -- P2's input in a row of this many slots: "Roots (0,0,8,8), (8,0,16,8), max_level 2; split 0, then 3". It has 10 cells
 unfoldable pub lent : ℕ → List ℤ
 lent slots =
-    refine_row (refine_row (root 0 0 8 8 0 ++ root 8 0 16 8 1 ++ replicate ((slots - 2) * 8) (pos 0)) 2 2 0) 6 2 3
+    refined_row (refined_row (root 0 0 8 8 0 ++ root 8 0 16 8 1 ++ replicate ((slots - 2) * 8) (pos 0)) (head_of 2 2) 0) (head_of 6 2) 3
 
 unfoldable pub leaves : List Cell → ℕ
 leaves [] = 0

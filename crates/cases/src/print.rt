@@ -35,7 +35,7 @@ pub fn rectangles(out: &mut String, row: &[[i64; 4]]) -> Result<(), AllocError> 
 }
 
 pub fn refused(out: &mut String, why: Refusal) -> Result<(), AllocError> {
-    let code = refusals::code_of(why);
+    let code = why.code();
     writeln!(out, " refused {} {}", code.number, code.place)
 }
 

@@ -2,3 +2,4 @@
 pub mod Boxes
 pub mod Cells
 pub mod Ticks
+pub mod Laws

@@ -8,18 +8,20 @@ ghost use Rattle.refusals.specs.Limits.{widest_level};
 ghost use Rattle.cell.specs.Boxes.{overlaps, shares_edge, quad_at};
 ghost use Rattle.cell.specs.Cells.{box_of, root_of, cut_to, centre, child_of};
 
+pub mod laws;
 pub mod ticks;
 
-#[derive(Clone, Copy)]
+/// A cell, by value.
+#[derive(Clone, Copy, Debug, PartialEq, Eq)]
 pub struct Cell {
     pub x0: u64,
     pub y0: u64,
     pub x1: u64,
     pub y1: u64,
     pub level: u64,
-    // The parent's id, NO_CELL at a root.
+    /// The parent's id, `NO_CELL` at a root.
     pub parent: u64,
-    // The first of four children with consecutive ids, NO_CELL at a leaf.
+    /// The first of four children with consecutive ids, `NO_CELL` at a leaf.
     pub first: u64,
     pub poly: u64,
 }
@@ -32,29 +34,29 @@ fn mid(a: u64, b: u64) -> u64
 }
 
 impl Cell {
-    // One tick in metres, 2^-38.
+    /// One tick in metres, 2^-38.
     pub const TICK: f64 = 3.637978807091713e-12;
-    // Marks no parent and no child.
+    /// Marks no parent and no child.
     pub const NO_CELL: u64 = 4294967295;
-    // The deepest level that a table may ask for.
+    /// The deepest level that a table may ask for.
     pub const WIDEST_LEVEL: u64 = refusals::limits::MAX_LEVEL;
 
     pub fn root(x0: u64, y0: u64, x1: u64, y1: u64, poly: u64) -> Cell
         ensures { result ≡ root_of x0 y0 x1 y1 poly }
     {
         Cell {
-            x0: x0,
-            y0: y0,
-            x1: x1,
-            y1: y1,
+            x0,
+            y0,
+            x1,
+            y1,
             level: 0,
             parent: Cell::NO_CELL,
             first: Cell::NO_CELL,
-            poly: poly,
+            poly,
         }
     }
 
-    // The point at which the cell is cut, as a cell of no width and no height.
+    /// The point at which the cell is cut, as a cell of no width and no height.
     pub fn midpoint(self) -> Cell
         ensures { result ≡ centre self }
     {
@@ -65,14 +67,11 @@ impl Cell {
             y0: y,
             x1: x,
             y1: y,
-            level: self.level,
-            parent: self.parent,
-            first: self.first,
-            poly: self.poly,
+            ..self
         }
     }
 
-    // The cell cut down to a quadrant: 0 SW, 1 SE, 2 NW, else NE.
+    /// The cell cut down to a quadrant: 0 SW, 1 SE, 2 NW, else NE.
     pub fn quadrant(self, k: u64) -> Cell
         ensures { result ≡ cut_to (quad_at k) self }
     {
@@ -98,7 +97,7 @@ impl Cell {
         c
     }
 
-    // Child k of the cell with this id. Internal: only a cell above the widest level is split.
+    /// Child k of the cell with this id. Only a cell above the widest level is split.
     pub fn child(self, id: u64, k: u64) -> Cell
         requires { self.level < widest_level }
         ensures { result ≡ child_of id (quad_at k) self }
@@ -118,11 +117,51 @@ fn overlap(a: u64, b: u64, c: u64, d: u64) -> bool
     ((a < b) & (a < d)) & ((c < b) & (c < d))
 }
 
-// Whether two cells have a piece of border in common that is longer than a point.
+/// Whether two cells have a piece of border in common that is longer than a point.
 pub fn shares_edge(a: Cell, b: Cell) -> bool
     ensures { result ≡ shares_edge (box_of a) (box_of b) }
 {
     let beside = (a.x1 == b.x0) | (b.x1 == a.x0);
     let stacked = (a.y1 == b.y0) | (b.y1 == a.y0);
     (beside & overlap(a.y0, a.y1, b.y0, b.y1)) | (stacked & overlap(a.x0, a.x1, b.x0, b.x1))
+}
+
+#[cfg(test)]
+mod tests {
+    use super::*;
+
+    #[test]
+    fn a_root_and_its_children(rt: HostRuntime) {
+        let root = Cell::root(0, 0, 8, 8, 2);
+        let middle = root.midpoint();
+        assert_eq!(rt; middle.x0, 4);
+        assert_eq!(rt; middle.y1, 4);
+        assert_eq!(rt;
+            root.quadrant(1),
+            Cell {
+                x0: 4,
+                y1: 4,
+                ..root
+            }
+        );
+        let child = root.child(7, 2);
+        assert_eq!(rt;
+            child,
+            Cell {
+                x1: 4,
+                y0: 4,
+                level: 1,
+                parent: 7,
+                ..root
+            }
+        );
+    }
+
+    // Across a corner there is no contact; along a piece of border there is.
+    #[test]
+    fn contact(rt: HostRuntime) {
+        let a = Cell::root(0, 0, 4, 4, 0);
+        assert!(rt; !shares_edge(a, Cell::root(4, 4, 8, 8, 0)));
+        assert!(rt; shares_edge(a, Cell::root(4, 3, 8, 8, 0)));
+    }
 }

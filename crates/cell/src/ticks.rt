@@ -4,14 +4,17 @@ ghost use Rattle.cell.specs.Ticks.{in_range, off, on, metres_of};
 
 use refusals::limits::COORDINATE;
 
-// Whether a coordinate is in the rules' range.
+// The highest coordinate of a cell: 2^37.
+const TOP: u64 = 2 * COORDINATE as u64;
+
+/// Whether a coordinate is in the rules' range.
 pub fn in_range(z: i64) -> bool
     ensures { result ≡ in_range z }
 {
     (-COORDINATE <= z) & (z <= COORDINATE)
 }
 
-// A coordinate as a cell holds it. One out of range is taken for the nearest in range, so that nothing is asked of a caller.
+/// A coordinate as a cell holds it. One out of range is taken for the nearest in range, so that nothing is asked of a caller.
 pub fn offset(z: i64) -> u64
     ensures { result ≡ off z }
 {
@@ -19,26 +22,47 @@ pub fn offset(z: i64) -> u64
         return 0;
     }
     if COORDINATE <= z {
-        return 137438953472;
+        return TOP;
     }
     (z + COORDINATE) as u64
 }
 
-// The way back.
+/// The way back.
 pub fn ticks(n: u64) -> i64
     ensures { result ≡ on n }
 {
-    if 137438953472 < n {
+    if TOP < n {
         return COORDINATE;
     }
     n as i64 - COORDINATE
 }
 
-// A length in metres. Internal: exact, and every length of a cell is below 2^53. A signed number becomes a fraction in one
-// instruction, an unsigned one in several.
+/// A length in metres, exactly. Every length of a cell is below 2^53.
+// A signed number becomes a fraction in one instruction, an unsigned one in several.
 pub fn metres(length: u64) -> f64
     requires { length < 2 ^ 53 }
     ensures { result ≡ metres_of length }
 {
     ((length as i64) as f64) * crate::Cell::TICK
+}
+
+#[cfg(test)]
+mod tests {
+    use super::*;
+
+    #[test]
+    fn ends_of_the_range(rt: HostRuntime) {
+        assert!(rt; in_range(-68719476736));
+        assert!(rt; !in_range(-68719476737));
+        assert!(rt; in_range(68719476736));
+        assert!(rt; !in_range(68719476737));
+        assert_eq!(rt; offset(-68719476736), 0);
+        assert_eq!(rt; offset(i64::MAX), 137438953472);
+        assert_eq!(rt; ticks(offset(-5)), -5);
+    }
+
+    #[test]
+    fn a_metre(rt: HostRuntime) {
+        assert_eq!(rt; metres(274877906944), 1.0);
+    }
 }

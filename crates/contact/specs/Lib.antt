@@ -1,2 +1,3 @@
 -- The contact call.
 pub mod Contact
+pub mod Laws

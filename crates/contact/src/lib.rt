@@ -10,7 +10,10 @@ use cell::Cell;
 use cell::ticks::{in_range, offset};
 use refusals::Refusal;
 
-#[derive(Clone, Copy)]
+pub mod laws;
+
+/// A rectangle in signed ticks.
+#[derive(Clone, Copy, Debug, PartialEq, Eq)]
 pub struct Rect {
     pub x0: i64,
     pub y0: i64,
@@ -46,8 +49,7 @@ impl Rect {
     }
 }
 
-// Contact of the rules: refusal 3 for a coordinate out of range or a side that isn't positive, else whether they share
-// an edge.
+/// Whether two rectangles share an edge; refusal 3 for a coordinate out of range or a side that isn't positive.
 #[tactic(auto, unfolding(crate::specs::Contact::contact_says))]
 pub fn between(a: Rect, b: Rect) -> Result<bool, Refusal>
     ensures { contact_said result ≡ contact_says a b }
@@ -56,4 +58,39 @@ pub fn between(a: Rect, b: Rect) -> Result<bool, Refusal>
         return Err(Refusal::OutOfRange(0));
     }
     Ok(cell::shares_edge(a.as_cell(), b.as_cell()))
+}
+
+#[cfg(test)]
+mod tests {
+    use super::*;
+
+    // The rectangle from (x0, y0) to (8, 8) beside the one from (0, 0) to (4, 4).
+    fn beside(x0: i64, y0: i64) -> Result<bool, Refusal> {
+        let a = Rect {
+            x0: 0,
+            y0: 0,
+            x1: 4,
+            y1: 4,
+        };
+        let b = Rect {
+            x0,
+            y0,
+            x1: 8,
+            y1: 8,
+        };
+        between(a, b)
+    }
+
+    #[test]
+    fn a_corner_and_an_edge(rt: HostRuntime) {
+        assert_eq!(rt; beside(4, 4), Ok(false));
+        assert_eq!(rt; beside(4, 3), Ok(true));
+    }
+
+    #[test]
+    fn refusals(rt: HostRuntime) {
+        assert_eq!(rt; beside(8, 3), Err(Refusal::OutOfRange(0)));
+        assert_eq!(rt; beside(-68719476736, 3), Ok(false));
+        assert_eq!(rt; beside(-68719476737, 3), Err(Refusal::OutOfRange(0)));
+    }
 }

@@ -3,7 +3,9 @@ use Rattle.std.proofs.Common.{◌≡◌, refl, sym, subst, true, List, [], ◌�
 use Rattle.cell.specs.Boxes.{Box}
 use Rattle.table.specs.Mesh.{Cell, at, table}
 use Rattle.table.specs.Formed.{Formed, well_formed}
-use Rattle.table.specs.Refine.{is_accepted, refine_says, refine_row}
+use Rattle.table.specs.Rows.{head_of}
+use Rattle.refusals.specs.Said.{is_accepted}
+use Rattle.table.specs.Refine.{refine_says, refined_row}
 use Rattle.table.proofs.Cells.{length-table}
 use Rattle.table.proofs.Refining.{accepted-facts, accepted-table}
 use Rattle.table.proofs.Wellformed.{formed-facts}
@@ -23,10 +25,10 @@ pub row-hangs-not : (row : List ℤ) (n M : ℕ) (ps : List Poly) (pre : List Pi
 row-hangs-not row n M ps pre q qs w balanced e strip = no-node-hangs (table row n) ps pre q qs e M (formed-facts row n M w).cells balanced strip
 
 -- an accepted refinement of a row keeps its polygons of one strip
-pub refine-strip : (row : List ℤ) (n M id k : ℕ) → is_accepted (refine_says row n M id) ≡ true → OneStrip (table row n) k → OneStrip (table (refine_row row n M id) (n + 4)) k
+pub refine-strip : (row : List ℤ) (n M id k : ℕ) → is_accepted (refine_says row (head_of n M) id) ≡ true → OneStrip (table row n) k → OneStrip (table (refined_row row (head_of n M) id) (n + 4)) k
 refine-strip row n M id k ok s =
-    let inside : id < length (table row n) = rw length-table (accepted-facts row n M id ok).inside in
-    subst (λ (u : List Cell). OneStrip u k) (sym (accepted-table row n M id ok)) (strip-split (table row n) id inside k s)
+    let inside : id < length (table row n) = rw length-table (accepted-facts row (head_of n M) id ok).inside in
+    subst (λ (u : List Cell). OneStrip u k) (sym (accepted-table row (head_of n M) id ok)) (strip-split (table row n) id inside k s)
 
 module _ (M : ℕ) (t : List Cell) (formed : Formed M t) where
   -- balance leaves none hanging

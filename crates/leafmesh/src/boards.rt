@@ -32,7 +32,7 @@ pub struct ReadOutcome {
 fn unread(why: Refusal) -> ReadOutcome
     ensures { result ≡ read_outcome_of (refusal why) }
 {
-    let code = refusals::code_of(why);
+    let code = why.code();
     ReadOutcome {
         number: code.number,
         place: code.place as u64,

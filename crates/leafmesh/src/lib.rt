@@ -6,9 +6,9 @@
 ghost use Rattle.std.specs.Prelude.{◌≡◌, [], ◌∷◌};
 ghost use Rattle.refusals.specs.Said.{accepted, refusal, said, bit};
 ghost use Rattle.contact.specs.Contact.{contact_said, contact_says};
-ghost use Rattle.table.specs.Formed.{well_formed};
-ghost use Rattle.table.specs.Leaves.{leaf_ids, order_ids, leaf_count_says, list_says, list_row};
-ghost use Rattle.table.specs.Refine.{refined_said, refine_says, refine_row};
+ghost use Rattle.table.specs.Rows.{head_of, leaves_in, order_in};
+ghost use Rattle.table.specs.Leaves.{leaf_count_says, list_says, listed_row};
+ghost use Rattle.table.specs.Refine.{refined_said, refine_says, refined_row};
 ghost use Rattle.coarsest.specs.Passes.{balancing, conforming};
 ghost use Rattle.even.specs.Even.{evening_said, even_says, even_row};
 ghost use Rattle.leafmesh.specs.Outcome.{outcome_of, rect_of};
@@ -44,7 +44,7 @@ pub fn accept(value: u64) -> Outcome
 pub fn refuse(why: Refusal) -> Outcome
     ensures { result ≡ outcome_of (refusal why) }
 {
-    let code = refusals::code_of(why);
+    let code = why.code();
     Outcome {
         number: code.number,
         place: code.place as u64,
@@ -121,7 +121,7 @@ pub extern "C" fn leafmesh_contact(
 // How many leaves the table has.
 #[unsafe(no_mangle)]
 pub extern "C" fn leafmesh_leaf_count(table: &[i64], count: usize, max_level: u64) -> Outcome
-    ensures { result ≡ outcome_of (leaf_count_says table.now count max_level) }
+    ensures { result ≡ outcome_of (leaf_count_says table.now (head_of count max_level)) }
 {
     of_count(table::leaves::leaf_count(table, Head { count, max_level }))
 }
@@ -134,9 +134,10 @@ pub extern "C" fn leafmesh_leaves(
     max_level: u64,
     out: &mut [u64],
 ) -> Outcome
-    ensures value { result
-        ≡ outcome_of (list_says (well_formed table.now count max_level) (leaf_ids table.now count) out.old) }
-    ensures out_after { out.new ≡ list_row (well_formed table.now count max_level) (leaf_ids table.now count) out.old }
+    ensures value { let head = head_of count max_level in
+        result ≡ outcome_of (list_says table.now head (leaves_in table.now head) out.old) }
+    ensures out_after { let head = head_of count max_level in
+        out.new ≡ listed_row table.now head (leaves_in table.now head) out.old }
 {
     of_count(table::leaves::leaves(table, Head { count, max_level }, out))
 }
@@ -149,9 +150,10 @@ pub extern "C" fn leafmesh_leaf_order(
     max_level: u64,
     out: &mut [u64],
 ) -> Outcome
-    ensures value { result
-        ≡ outcome_of (list_says (well_formed table.now count max_level) (order_ids table.now count) out.old) }
-    ensures out_after { out.new ≡ list_row (well_formed table.now count max_level) (order_ids table.now count) out.old }
+    ensures value { let head = head_of count max_level in
+        result ≡ outcome_of (list_says table.now head (order_in table.now head) out.old) }
+    ensures out_after { let head = head_of count max_level in
+        out.new ≡ listed_row table.now head (order_in table.now head) out.old }
 {
     of_count(table::leaves::leaf_order(table, Head { count, max_level }, out))
 }
@@ -164,8 +166,8 @@ pub extern "C" fn leafmesh_refine(
     max_level: u64,
     id: usize,
 ) -> Outcome
-    ensures value { result ≡ outcome_of (refine_says table.old count max_level id) }
-    ensures table_after { table.new ≡ refine_row table.old count max_level id }
+    ensures value { result ≡ outcome_of (refine_says table.old (head_of count max_level) id) }
+    ensures table_after { table.new ≡ refined_row table.old (head_of count max_level) id }
 {
     of_refined(table::refine::refine(table, Head { count, max_level }, id))
 }

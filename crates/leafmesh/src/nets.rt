@@ -42,7 +42,7 @@ pub struct CheckOutcome {
 fn unmade(why: Refusal) -> NetOutcome
     ensures { result ≡ net_outcome_of (refusal why) }
 {
-    let code = refusals::code_of(why);
+    let code = why.code();
     NetOutcome {
         number: code.number,
         place: code.place as u64,
@@ -70,7 +70,7 @@ fn of_netted(answer: Result<Counts, Refusal>) -> NetOutcome
 fn unchecked(why: Refusal) -> CheckOutcome
     ensures { result ≡ check_outcome_of (refusal why) }
 {
-    let code = refusals::code_of(why);
+    let code = why.code();
     CheckOutcome {
         number: code.number,
         place: code.place as u64,

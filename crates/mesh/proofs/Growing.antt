@@ -12,7 +12,7 @@ use Rattle.build.specs.Says.{build_says, build_leaves}
 use Rattle.build.proofs.Fitting.{refusal-keeps, refused-accepted}
 use Rattle.coarsest.specs.Passes.{balancing}
 use Rattle.table.specs.Formed.{well_formed}
-use Rattle.table.specs.Refine.{is_accepted}
+use Rattle.refusals.specs.Said.{is_accepted}
 use Rattle.even.specs.Even.{even_says, even_row, even_cells}
 use Rattle.mesh.specs.Refining.{refine_all_says, refine_all_row}
 use Rattle.mesh.specs.Growing.{also, value_at, Given, given, level_of, roots_say, roots_row, split_say, refined_row, balance_say, balanced_row, grow_says, grow_leaves}

@@ -7,8 +7,8 @@ use Rattle.build.proofs.Fitting.{refused-accepted}
 use Rattle.record.specs.Fields.{value}
 use Rattle.record.specs.Board.{Board, points_in}
 use Rattle.board.specs.Rows.{sheet_of}
-use Rattle.table.specs.Formed.{well_formed}
-use Rattle.table.specs.Leaves.{order_ids, list_says}
+use Rattle.table.specs.Rows.{head_of, order_in}
+use Rattle.table.specs.Leaves.{list_says}
 use Rattle.mesh.specs.declared.Totals.{Totals}
 use Rattle.mesh.specs.Growing.{level_of, value_at, balance_say, balanced_row, grow_says}
 use Rattle.mesh.specs.Says.{polygon_room, leaf_room, input_room, meshed_said, totals_say, count_of, leaf_order, table_says, board_in, mesh_of, mesh_says, given_by, Made}
@@ -26,9 +26,9 @@ was_read s {vs} e = by (leb (length s) input_room) e
     by false e = absurd (refused-accepted 6 0 vs (sym e))
 
 totals-said : (t : List ℤ) (n M polygons splits room : ℕ) {vs : List ℕ} → accepted vs ≡ totals_say t n M polygons splits room
-    → accepted vs ≡ accepted (M ∷ n ∷ polygons ∷ splits ∷ length (order_ids t n) ∷ [])
+    → accepted vs ≡ accepted (M ∷ n ∷ polygons ∷ splits ∷ length (order_in t (head_of n M)) ∷ [])
 unfolding totals_say
-totals-said t n M polygons splits room e = (also-accepted (list_says (well_formed t n M) (order_ids t n) (replicate room 0)) _ e).1
+totals-said t n M polygons splits room e = (also-accepted (list_says t (head_of n M) (order_in t (head_of n M)) (replicate room 0)) _ e).1
 
 table-said : (b : Board) {vs : List ℕ} → accepted vs ≡ table_says (given_by b) leaf_room
     → accepted vs ≡ totals_say (balanced_row (given_by b)) (count_of (given_by b)) (level_of (given_by b)) (length (map points_in b.polygons)) (value_at 0 (balance_say (given_by b))) leaf_room

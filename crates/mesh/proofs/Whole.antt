@@ -5,8 +5,9 @@ use lib.Seq.{sets}
 use Rattle.refusals.specs.declared.Refusal.{Refusal}
 use Rattle.refusals.specs.Said.{Said, accepted, refusal}
 use Rattle.table.specs.Formed.{well_formed}
-use Rattle.table.specs.Leaves.{order_ids, list_row, written}
-use Rattle.table.specs.Refine.{is_accepted}
+use Rattle.table.specs.Rows.{head_of, order_in}
+use Rattle.table.specs.Leaves.{listed_row, written}
+use Rattle.refusals.specs.Said.{is_accepted}
 use Rattle.record.specs.declared.Settings.{Settings}
 use Rattle.record.specs.declared.Counts.{Counts}
 use Rattle.record.specs.Fields.{value}
@@ -85,7 +86,7 @@ module _ (s : List ℕ) (rows rows' : Rows) (r : Roomed rows) (g : Settings) (n 
 
       -- and so is all that the rows hold
       pub made : (o o' l l' c c' : List ℕ) → is_accepted (totals_say t' count level n.polygons splits (length o)) ≡ true
-          → o' ≡ list_row (well_formed t' count level) (order_ids t' count) o
+          → o' ≡ listed_row t' (head_of count level) (order_in t' (head_of count level)) o
           → l' ≡ sets l 0 (column 0 (take n.polygons rows'.polygons)) → c' ≡ sets c 0 (column 1 (take n.polygons rows'.polygons))
           → Made s t' o o' l l' c c' rows.sheets rows'.sheets
       made o o' l l' c c' a i j k =
@@ -96,8 +97,9 @@ module _ (s : List ℕ) (rows rows' : Rows) (r : Roomed rows) (g : Settings) (n 
             table = table_is;
             order =
                 i ∙ totals-written t' count level n.polygons splits o a
-                ∙ ap (λ x. written (order_ids x count) o) table_is
-                ∙ ap (λ (x : Said). written (order_ids (balanced_row (given_by w.board)) (value_at 1 x)) o) balance-is;
+                ∙ ap (λ x. written (order_in x (head_of count level)) o) table_is
+                ∙ ap (λ x. written (order_in (balanced_row (given_by w.board)) (head_of count x)) o) (grew-level (given_by w.board) splits count level grown-board)
+                ∙ ap (λ (x : Said). written (order_in (balanced_row (given_by w.board)) (head_of (value_at 1 x) (level_of (given_by w.board)))) o) balance-is;
             layers = j ∙ ap (sets l 0) (columns-are 0 (λ x. x.layer) (λ x. refl));
             components = k ∙ ap (sets c 0) (columns-are 1 (λ x. x.component) (λ x. refl));
             sheets = ap (λ (x : Rows). x.sheets) (rows_left s rows rows' r w.board w.end w.read q);

@@ -5,8 +5,8 @@ use Rattle.refusals.specs.declared.Refusal.{Refusal}
 use Rattle.refusals.specs.declared.Refusal.TheVariants.{NoRoom}
 use Rattle.refusals.specs.Limits.{max_polygons}
 use Rattle.refusals.specs.Said.{Said, accepted, refused, refusal, said}
-use Rattle.table.specs.Formed.{well_formed}
-use Rattle.table.specs.Leaves.{order_ids, written, list_says}
+use Rattle.table.specs.Rows.{head_of, order_in}
+use Rattle.table.specs.Leaves.{written, list_says}
 use Rattle.build.specs.declared.Settings as Build
 use Rattle.build.specs.Board.{polygons}
 use Rattle.record.specs.declared.Settings.{Settings}
@@ -51,14 +51,15 @@ meshed_said = said (λ t. t.max_level ∷ t.count ∷ t.polygons ∷ t.splits �
 -- the totals of a table with n cells, once its leaves are in a row of this room: 7, then 6
 unfoldable pub totals_say : List ℤ → ℕ → ℕ → ℕ → ℕ → ℕ → Said
 totals_say t n M polygons splits room =
-    also (list_says (well_formed t n M) (order_ids t n) (replicate room 0)) (accepted (M ∷ n ∷ polygons ∷ splits ∷ length (order_ids t n) ∷ []))
+    let ids = order_in t (head_of n M) in
+    also (list_says t (head_of n M) ids (replicate room 0)) (accepted (M ∷ n ∷ polygons ∷ splits ∷ length ids ∷ []))
 
 abbrev pub count_of : Given → ℕ
 count_of g = value_at 1 (balance_say g)
 
 -- the leaves of the balanced table, by polygon, then id
 abbrev pub leaf_order : Given → List ℕ
-leaf_order g = order_ids (balanced_row g) (count_of g)
+leaf_order g = order_in (balanced_row g) (head_of (count_of g) (level_of g))
 
 unfoldable pub table_says : Given → ℕ → Said
 table_says g room = also (grow_says g) (totals_say (balanced_row g) (count_of g) (level_of g) (polygons g.board) (value_at 0 (balance_say g)) room)

@@ -4,9 +4,9 @@
 
 ghost use Rattle.std.specs.Prelude.{◌≡◌, true, length, take};
 ghost use Rattle.std.proofs.lemmas.List.Edits.{sets};
-ghost use Rattle.table.specs.Formed.{well_formed};
-ghost use Rattle.table.specs.Leaves.{order_ids, list_row};
-ghost use Rattle.table.specs.Refine.{is_accepted};
+ghost use Rattle.table.specs.Rows.{order_in};
+ghost use Rattle.table.specs.Leaves.{listed_row};
+ghost use Rattle.refusals.specs.Said.{is_accepted};
 ghost use Rattle.even.specs.Even.{evening_said};
 ghost use Rattle.board.specs.Rows.{rows_of};
 ghost use Rattle.mesh.specs.Polygons.{column};
@@ -101,8 +101,7 @@ fn order_leaves(
 ) -> Result<Totals, Refusal>
     ensures result_value { meshed_said result ≡ totals_say table.now head.count head.max_level polygons splits
         (length order.old) }
-    ensures order_after { order.new ≡ list_row (well_formed table.now head.count head.max_level)
-        (order_ids table.now head.count) order.old }
+    ensures order_after { order.new ≡ listed_row table.now head (order_in table.now head) order.old }
 {
     let leaves = leaf_order(table, head, order)?;
     Ok(Totals {

@@ -6,8 +6,10 @@ use lib.Seq.{sets, take-append_seam}
 use Rattle.refusals.specs.declared.Refusal.{Refusal}
 use Rattle.refusals.specs.Said.{Said, accepted, refused, refusal}
 use Rattle.table.specs.Formed.{well_formed}
-use Rattle.table.specs.Leaves.{order_ids, list_says, written}
+use Rattle.table.specs.Rows.{head_of, order_in}
+use Rattle.table.specs.Leaves.{list_says, written}
 use Rattle.table.proofs.Shape.{formed-within}
+use Rattle.table.proofs.Listed.{order_ids-in}
 use Rattle.build.specs.Board.{polygons}
 use Rattle.build.proofs.Fitting.{refused-accepted}
 use Rattle.record.specs.Fields.{value}
@@ -28,12 +30,13 @@ use Rattle.printing.proofs.Refusing.{refusal-text, list-accepted}
 
 -- ---- leaves are slots of the table
 
-slotted : (t : List ℤ) (n M k : ℕ) → well_formed t n M ≡ true → k ≡ length (order_ids t n) → Slotted t (order_ids t n) k
-slotted t n M k f e =
-    record {
+slotted : (t : List ℤ) (n M k : ℕ) → well_formed t n M ≡ true → k ≡ length (order_in t (head_of n M)) → Slotted t (order_in t (head_of n M)) k
+slotted t n M k f =
+    subst (λ (ids : List ℕ). k ≡ length ids → Slotted t ids k) (order_ids-in t (head_of n M))
+    (λ e. record {
       long = omega (arith, e);
       slot = λ v h. omega (arith, leaf-id t n v (omega (arith, e)), formed-within t n M f);
-    }
+    })
 
 -- ---- what an accepted board says
 
@@ -50,11 +53,11 @@ told : (g : Given) (t : Totals) → meshed_said (Ok t) ≡ table_says g leaf_roo
 unfolding table_says totals_say
 told g t e =
     let us = level_of g ∷ count_of g ∷ polygons g.board ∷ value_at 0 (balance_say g) ∷ length (leaf_order g) ∷ [] in
-    let ok = well_formed (balanced_row g) (count_of g) (level_of g) in
-    let list = list_says ok (leaf_order g) (replicate leaf_room 0) in
+    let head = head_of (count_of g) (level_of g) in
+    let list = list_says (balanced_row g) head (leaf_order g) (replicate leaf_room 0) in
     let a = also-accepted (grow_says g) (totals_say (balanced_row g) (count_of g) (level_of g) (polygons g.board) (value_at 0 (balance_say g)) leaf_room) e in
     let b = also-accepted list (accepted us) a.1 in
-    let l = list-accepted ok (leaf_order g) (replicate leaf_room 0) b.0 in
+    let l = list-accepted (balanced_row g) head (leaf_order g) (replicate leaf_room 0) b.0 in
     let v : accepted (t.max_level ∷ t.count ∷ t.polygons ∷ t.splits ∷ t.leaves ∷ []) ≡ accepted us = b.1 in
     record {
       level = cc;

@@ -8,8 +8,10 @@ use Rattle.refusals.specs.declared.Refusal.TheVariants.{BadTable, NoRoom}
 use Rattle.refusals.specs.Limits.{max_polygons}
 use Rattle.refusals.specs.Said.{Said, accepted, refused, refusal}
 use Rattle.refusals.proofs.Settled.{as-refused}
+use Rattle.table.specs.declared.Head.{Head}
+use Rattle.table.specs.Formed.{well_formed}
 use Rattle.table.specs.Leaves.{leaf_ids, list_says}
-use Rattle.table.specs.Refine.{is_accepted}
+use Rattle.refusals.specs.Said.{is_accepted}
 use Rattle.floats.specs.Fractions.{in_sheet}
 use Rattle.build.proofs.Fitting.{refused-accepted}
 use Rattle.network.specs.Says.{Polygons, Rows, fits, sheets_from, roomy, net_of, counted, network_says}
@@ -20,9 +22,8 @@ pub refusal-text : (x : Refusal) (text : List ℕ) → said_text (refusal x) ≡
 refusal-text x text = let r = as-refused x in ap (λ (a : Said). unless_refused a []) r.2 ∙ sym (ap (λ (a : Said). unless_refused a text) r.2)
 
 -- a list of leaves was accepted: its table is well formed, and the row is long enough
-pub list-accepted : (formed : Bool) (ids out : List ℕ) → is_accepted (list_says formed ids out) ≡ true → (formed ≡ true) × (length ids ≤ length out)
-unfolding list_says
-list-accepted formed ids out e = by formed (leb (length ids) (length out)) refl e
+pub list-accepted : (t : List ℤ) (h : Head) (ids out : List ℕ) → is_accepted (list_says t h ids out) ≡ true → (well_formed t h.count h.max_level ≡ true) × (length ids ≤ length out)
+list-accepted t h ids out e = by (well_formed t h.count h.max_level) (leb (length ids) (length out)) refl e
   where
     by : (a b : Bool) → leb (length ids) (length out) ≡ b → is_accepted (cond a (cond b (accepted (length ids ∷ [])) (refusal NoRoom)) (refusal BadTable)) ≡ true
         → (a ≡ true) × (length ids ≤ length out)

@@ -23,7 +23,7 @@ fn refuse(out: &mut [u8], why: Refusal) -> usize
     ensures upper_bound { result ≤ length out.old }
     ensures puts { Puts 0 (said_text (refusal why)) out.old result out.new }
 {
-    let code = refusals::code_of(why);
+    let code = why.code();
     lines::refused_line(out, code.number, code.place)
 }
 

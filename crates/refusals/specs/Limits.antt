@@ -1,28 +1,29 @@
--- The rules' table of ranges, for the contracts. src/limits.rt has the same numbers for the code.
-use Rattle.std.specs.Prelude.{ℕ, ◌^◌}
+-- The rules' table of ranges, for the contracts: the constants of src/limits.rt, which has each number once.
+use Rattle.std.specs.Prelude.{ℕ, nat_abs}
+use Rattle.refusals.specs.declared.limits.TheConstants.{COORDINATE, MAX_LEVEL, CAP, CELL, LAYERS, POLYGONS, RING_POINTS, SLOTS}
 
 -- a coordinate lies from -coordinate to coordinate
 abbrev pub coordinate : ℕ
-coordinate = 2 ^ 36
+coordinate = nat_abs COORDINATE
 
 abbrev pub widest_level : ℕ
-widest_level = 12
+widest_level = MAX_LEVEL
 
 abbrev pub max_cap : ℕ
-max_cap = 256
+max_cap = CAP
 
 -- the target cell, and a layer's cell
 abbrev pub max_cell : ℕ
-max_cell = 2 ^ 36
+max_cell = CELL
 
 abbrev pub max_layers : ℕ
-max_layers = 64
+max_layers = LAYERS
 
 abbrev pub max_polygons : ℕ
-max_polygons = 256
+max_polygons = POLYGONS
 
 abbrev pub max_points : ℕ
-max_points = 1024
+max_points = RING_POINTS
 
 abbrev pub max_slots : ℕ
-max_slots = 16384
+max_slots = SLOTS

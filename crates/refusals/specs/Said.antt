@@ -25,6 +25,10 @@ abbrev pub said : {A : Type 0} → (A → List ℕ) → Result A Refusal → Sai
 said values (Ok a) = accepted (values a)
 said values (Err why) = refusal why
 
+abbrev pub is_accepted : Said → Bool
+is_accepted (accepted values) = true
+is_accepted (refused number place) = false
+
 -- yes and no as a value of an accepted call
 abbrev pub bit : Bool → ℕ
 bit true = 1

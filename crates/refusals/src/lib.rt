@@ -4,10 +4,13 @@
 ghost use Rattle.std.specs.Prelude.{◌≡◌, ◌<◌};
 ghost use Rattle.refusals.specs.Said.{refused, refusal};
 
+use std::fmt;
+
+pub mod laws;
 pub mod limits;
 
-// The ten refusals. A case holds its place where the rules give it one other than 0.
-#[derive(Clone, Copy)]
+/// The ten refusals. A case holds its place where the rules give it one other than 0.
+#[derive(Clone, Copy, Debug, PartialEq, Eq)]
 pub enum Refusal {
     WrongVersion,
     WrongLength(usize),
@@ -21,56 +24,98 @@ pub enum Refusal {
     FinestLevel(usize),
 }
 
-// A refusal as the rules number it.
-#[derive(Clone, Copy)]
+/// A refusal as the rules number it.
+#[derive(Clone, Copy, Debug, PartialEq, Eq)]
 pub struct Code {
     pub number: u64,
     pub place: usize,
 }
 
-pub fn code_of(r: Refusal) -> Code
-    ensures { (refused result.number result.place ≡ refusal r) × (0 < result.number) }
-{
-    match r {
-        Refusal::WrongVersion => Code {
-            number: 1,
-            place: 0,
-        },
-        Refusal::WrongLength(at) => Code {
-            number: 2,
-            place: at,
-        },
-        Refusal::OutOfRange(at) => Code {
-            number: 3,
-            place: at,
-        },
-        Refusal::Slanted(polygon) => Code {
-            number: 4,
-            place: polygon,
-        },
-        Refusal::UnevenCell(polygon) => Code {
-            number: 5,
-            place: polygon,
-        },
-        Refusal::NoRoom => Code {
-            number: 6,
-            place: 0,
-        },
-        Refusal::BadTable => Code {
-            number: 7,
-            place: 0,
-        },
-        Refusal::NoSuchCell(id) => Code {
-            number: 8,
-            place: id,
-        },
-        Refusal::AlreadySplit(id) => Code {
-            number: 9,
-            place: id,
-        },
-        Refusal::FinestLevel(id) => Code {
-            number: 10,
-            place: id,
-        },
+impl Refusal {
+    pub fn code(self) -> Code
+        ensures number_and_place { refused result.number result.place ≡ refusal self }
+        ensures above_0 { 0 < result.number }
+    {
+        let (number, place) = match self {
+            Refusal::WrongVersion => (1, 0),
+            Refusal::WrongLength(at) => (2, at),
+            Refusal::OutOfRange(at) => (3, at),
+            Refusal::Slanted(polygon) => (4, polygon),
+            Refusal::UnevenCell(polygon) => (5, polygon),
+            Refusal::NoRoom => (6, 0),
+            Refusal::BadTable => (7, 0),
+            Refusal::NoSuchCell(id) => (8, id),
+            Refusal::AlreadySplit(id) => (9, id),
+            Refusal::FinestLevel(id) => (10, id),
+        };
+        Code { number, place }
+    }
+}
+
+impl fmt::Display for Refusal {
+    fn fmt<W: fmt::Write>(&self, f: &mut fmt::Formatter<W>) -> fmt::Result {
+        match *self {
+            Refusal::WrongVersion => write!(f, "the version is not 1"),
+            Refusal::WrongLength(at) => write!(f, "the length is wrong at byte {at}"),
+            Refusal::OutOfRange(at) => write!(f, "a value is out of range at {at}"),
+            Refusal::Slanted(polygon) => write!(f, "polygon {polygon} has a slanted edge"),
+            Refusal::UnevenCell(polygon) => write!(
+                f,
+                "a base cell of polygon {polygon} can't be halved often enough"
+            ),
+            Refusal::NoRoom => write!(f, "too little room"),
+            Refusal::BadTable => write!(f, "not a well-formed table or net"),
+            Refusal::NoSuchCell(id) => write!(f, "there is no cell {id}"),
+            Refusal::AlreadySplit(id) => write!(f, "cell {id} is split already"),
+            Refusal::FinestLevel(id) => write!(f, "cell {id} is at the finest level"),
+        }
+    }
+}
+
+#[cfg(test)]
+mod tests {
+    use super::*;
+    use std::test::Fail;
+
+    #[test]
+    fn numbers_and_places(rt: HostRuntime) -> Result<(), Fail> {
+        assert_eq!(rt;
+            Refusal::WrongVersion.code(),
+            Code {
+                number: 1,
+                place: 0
+            }
+        );
+        assert_eq!(rt;
+            Refusal::WrongLength(28).code(),
+            Code {
+                number: 2,
+                place: 28
+            }
+        );
+        assert_eq!(rt;
+            Refusal::BadTable.code(),
+            Code {
+                number: 7,
+                place: 0
+            }
+        );
+        assert_eq!(rt;
+            Refusal::FinestLevel(3).code(),
+            Code {
+                number: 10,
+                place: 3
+            }
+        );
+        Ok(())
+    }
+
+    #[test]
+    fn in_words(rt: HostRuntime) -> Result<(), Fail> {
+        let text = format!(in rt.alloc(); "{}", Refusal::AlreadySplit(3))?;
+        assert_eq!(rt; text.as_str(), "cell 3 is split already");
+        let text = format!(in rt.alloc(); "{:?}", Refusal::Slanted(1))?;
+        assert_eq!(rt; text.as_str(), "Slanted(1)");
+        Ok(())
     }
 }

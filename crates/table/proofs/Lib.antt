@@ -16,5 +16,7 @@ pub mod Zeros
 pub mod Walk
 pub mod Splits
 pub mod Refining
-pub mod Counting
 pub mod Times
+pub mod Tables
+pub mod Listed
+pub mod Counted

@@ -1,51 +1,76 @@
--- The call that splits a leaf: when it is accepted, and that it then hands back a well-formed table, with that leaf split.
+-- The call that splits a leaf: when it is accepted, and that it then leaves a well-formed table, with that leaf split.
 -- Assumes nothing.
-use Rattle.std.proofs.Common.{ℕ, ◌+◌, ◌-◌, ◌/◌, ◌<◌, ◌≤◌, ◌≡◌, refl, ap, Bool, true, false, cond, List, [], ◌∷◌, arith, ltb, leb, ℤ, length, ltb-true, leb-true}
+use Rattle.std.proofs.Common.{ℕ, ◌+◌, ◌/◌, ◌<◌, ◌≤◌, ◌≡◌, refl, ap, ◌∙◌, Bool, true, false, cond, [], ◌∷◌, List, ltb, leb, ℤ, length, lt-ltb, le-leb, ltb-true, leb-true}
 use mathlib.Core.Bool.{false≢true}
-use Rattle.refusals.specs.Said.{accepted, refusal}
+use Rattle.refusals.specs.Said.{accepted, refusal, is_accepted}
 use Rattle.refusals.specs.declared.Refusal.TheVariants.{BadTable, NoSuchCell, AlreadySplit, FinestLevel, NoRoom}
+use Rattle.table.specs.declared.Head.{Head}
 use Rattle.table.specs.Slots.{cell_at}
-use Rattle.table.specs.Mesh.{split, table}
+use Rattle.table.specs.Mesh.{at, split, is_leaf}
 use Rattle.table.specs.Formed.{well_formed}
 use Rattle.table.specs.Leaves.{leaf_at}
-use Rattle.table.specs.Refine.{split_row, is_accepted, refine_says, refine_row}
+use Rattle.table.specs.Rows.{IsTable, cells_in}
+use Rattle.table.specs.Refine.{split_row, refine_says, refined_row}
 use Rattle.table.proofs.Wellformed.{formed-facts}
 use Rattle.table.proofs.Splits.{refine-formed, split-table}
+use Rattle.table.proofs.Tables.{leaf_read, level_read}
 
-pub record Refinable (t : List ℤ) (n M id : ℕ) : Type 0 where
-  pub formed : well_formed t n M ≡ true
-  pub inside : id < n
-  pub leaf : leaf_at t id ≡ true
-  pub finer : (cell_at t id).level < M
-  pub room : n + 4 ≤ length t / 8
+pub record Refinable (row : List ℤ) (head : Head) (id : ℕ) : Type 0 where
+  pub formed : IsTable row head
+  pub inside : id < head.count
+  pub leaf : is_leaf (cells_in row head) id ≡ true
+  pub finer : (at (cells_in row head) id).level < head.max_level
+  pub room : head.count + 4 ≤ length row / 8
 
-module _ (t : List ℤ) (n M id : ℕ) where
-  pub accepted-facts : is_accepted (refine_says t n M id) ≡ true → Refinable t n M id
-  unfolding refine_says
-  accepted-facts e = by (well_formed t n M) (ltb id n) (leaf_at t id) (ltb (cell_at t id).level M) (leb 4 (length t / 8 - n)) refl refl refl refl refl e
+-- the head with four cells more
+abbrev pub grown : Head → Head
+grown head = record { count = head.count + 4; max_level = head.max_level }
+
+module _ (row : List ℤ) (head : Head) (id : ℕ) where
+  abbrev level : ℕ
+  level = (at (cells_in row head) id).level
+
+  pub accepted-facts : is_accepted (refine_says row head id) ≡ true → Refinable row head id
+  accepted-facts e =
+      by (well_formed row head.count head.max_level) (ltb id head.count) (is_leaf (cells_in row head) id) (ltb level head.max_level)
+      (leb (head.count + 4) (length row / 8)) refl refl refl refl refl e
     where
-      by : (a b c d f : Bool) → well_formed t n M ≡ a → ltb id n ≡ b → leaf_at t id ≡ c → ltb (cell_at t id).level M ≡ d → leb 4 (length t / 8 - n) ≡ f
-          → is_accepted (cond a (cond b (cond c (cond d (cond f (accepted ((n + 4) ∷ M ∷ [])) (refusal NoRoom)) (refusal (FinestLevel id))) (refusal (AlreadySplit id))) (refusal (NoSuchCell id))) (refusal BadTable)) ≡ true
-          → Refinable t n M id
+      by : (a b c d f : Bool) → well_formed row head.count head.max_level ≡ a → ltb id head.count ≡ b → is_leaf (cells_in row head) id ≡ c
+          → ltb level head.max_level ≡ d → leb (head.count + 4) (length row / 8) ≡ f
+          → is_accepted (cond a (cond b (cond c (cond d (cond f (accepted ((head.count + 4) ∷ head.max_level ∷ [])) (refusal NoRoom)) (refusal (FinestLevel id)))
+          (refusal (AlreadySplit id))) (refusal (NoSuchCell id))) (refusal BadTable)) ≡ true
+          → Refinable row head id
       by true true true true true a b c d f e =
-          record { formed = a; inside = ltb-true id n b; leaf = c; finer = ltb-true (cell_at t id).level M d; room = (let h = leb-true 4 (length t / 8 - n) f in omega arith) }
+          record { formed = a; inside = ltb-true id head.count b; leaf = c; finer = ltb-true level head.max_level d; room = leb-true (head.count + 4) (length row / 8) f }
       by true true true true false a b c d f e = absurd (false≢true e)
       by true true true false f a b c d f' e = absurd (false≢true e)
       by true true false d f a b c d' f' e = absurd (false≢true e)
       by true false c d f a b c' d' f' e = absurd (false≢true e)
       by false b c d f a b' c' d' f' e = absurd (false≢true e)
 
-  module _ (ok : is_accepted (refine_says t n M id) ≡ true) where
-    row-split : refine_row t n M id ≡ split_row t n id
-    unfolding refine_row
-    row-split = ap (λ (b : Bool). cond b (split_row t n id) t) ok
+  -- an accepted split adds four cells
+  pub facts-accepted : Refinable row head id → refine_says row head id ≡ accepted ((head.count + 4) ∷ head.max_level ∷ [])
+  facts-accepted r = rw (r.formed, lt-ltb _ _ r.inside, r.leaf, lt-ltb _ _ r.finer, le-leb _ _ r.room) refl
 
-    pub accepted-formed : well_formed (refine_row t n M id) (n + 4) M ≡ true
+  module _ (ok : is_accepted (refine_says row head id) ≡ true) where
+    pub refine-values : refine_says row head id ≡ accepted ((head.count + 4) ∷ head.max_level ∷ [])
+    refine-values = facts-accepted (accepted-facts ok)
+
+    row-split : refined_row row head id ≡ split_row row head.count id
+    row-split = ap (λ (b : Bool). cond b (split_row row head.count id) row) ok
+
+    leaf-there : leaf_at row id ≡ true
+    leaf-there = let r = accepted-facts ok in leaf_read row head.count id r.inside ∙ r.leaf
+
+    finer-there : (cell_at row id).level < head.max_level
+    finer-there = let r = accepted-facts ok in rw (level_read row head.count id r.inside) r.finer
+
+    pub accepted-formed : IsTable (refined_row row head id) (grown head)
     accepted-formed =
         let r = accepted-facts ok in
-        rw row-split (refine-formed t n M id r.formed r.inside r.leaf r.finer r.room)
+        rw row-split (refine-formed row head.count head.max_level id r.formed r.inside leaf-there finer-there r.room)
 
-    pub accepted-table : table (refine_row t n M id) (n + 4) ≡ split (table t n) id
+    pub accepted-table : cells_in (refined_row row head id) (grown head) ≡ split (cells_in row head) id
     accepted-table =
         let r = accepted-facts ok in
-        rw row-split (split-table t n M id (formed-facts t n M r.formed) r.inside r.leaf r.finer r.room)
+        rw row-split (split-table row head.count head.max_level id (formed-facts row head.count head.max_level r.formed) r.inside leaf-there finer-there r.room)

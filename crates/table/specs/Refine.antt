@@ -1,6 +1,6 @@
 -- Splitting one leaf: what the call says, and what the row then holds.
-use Rattle.std.specs.Prelude.{ℕ, ◌+◌, ◌-◌, ◌/◌, Bool, true, false, cond, List, [], ◌∷◌, ltb, leb, ℤ, length, Result}
-use Rattle.refusals.specs.Said.{Said, accepted, refusal, said}
+use Rattle.std.specs.Prelude.{ℕ, ◌+◌, ◌/◌, if◌then◌else◌, nat_lt, nat_le, List, [], ◌∷◌, ℤ, length, Result}
+use Rattle.refusals.specs.Said.{Said, accepted, refusal, said, is_accepted}
 use Rattle.refusals.specs.declared.Refusal.{Refusal}
 use Rattle.refusals.specs.declared.Refusal.TheVariants.{BadTable, NoSuchCell, AlreadySplit, FinestLevel, NoRoom}
 use Rattle.cell.specs.declared.Cell as Held
@@ -9,7 +9,8 @@ use Rattle.cell.specs.Cells.{child_of}
 use Rattle.table.specs.declared.Head.{Head}
 use Rattle.table.specs.Slots.{cell_at, put_cell, put_first}
 use Rattle.table.specs.Formed.{well_formed}
-use Rattle.table.specs.Leaves.{leaf_at}
+use Rattle.table.specs.Mesh.{at, is_leaf}
+use Rattle.table.specs.Rows.{cells_in}
 
 -- child k of cell i in slot n + k
 unfoldable pub put_kid : List ℤ → ℕ → ℕ → Held.Cell → ℕ → List ℤ
@@ -26,22 +27,18 @@ abbrev pub refined_said : Result Head Refusal → Said
 refined_said = said (λ h. h.count ∷ h.max_level ∷ [])
 
 -- 7, 8, 9, 10, 6, in that order
-unfoldable pub refine_says : List ℤ → ℕ → ℕ → ℕ → Said
-refine_says t n M id =
-    cond (well_formed t n M)
-    (cond (ltb id n)
-    (cond (leaf_at t id)
-    (cond (ltb (cell_at t id).level M)
-    (cond (leb 4 (length t / 8 - n)) (accepted ((n + 4) ∷ M ∷ [])) (refusal NoRoom))
-    (refusal (FinestLevel id)))
-    (refusal (AlreadySplit id)))
-    (refusal (NoSuchCell id)))
-    (refusal BadTable)
+abbrev pub refine_says : List ℤ → Head → ℕ → Said
+refine_says row head id =
+    if well_formed row head.count head.max_level then
+    (if nat_lt id head.count then
+    (if is_leaf (cells_in row head) id then
+    (if nat_lt (at (cells_in row head) id).level head.max_level then
+    (if nat_le (head.count + 4) (length row / 8) then accepted ((head.count + 4) ∷ head.max_level ∷ []) else refusal NoRoom)
+    else refusal (FinestLevel id))
+    else refusal (AlreadySplit id))
+    else refusal (NoSuchCell id))
+    else refusal BadTable
 
 -- a refused call changes nothing
-abbrev pub is_accepted : Said → Bool
-is_accepted (accepted vs) = true
-is_accepted (Rattle.refusals.specs.Said.refused a b) = false
-
-unfoldable pub refine_row : List ℤ → ℕ → ℕ → ℕ → List ℤ
-refine_row t n M id = cond (is_accepted (refine_says t n M id)) (split_row t n id) t
+abbrev pub refined_row : List ℤ → Head → ℕ → List ℤ
+refined_row row head id = if is_accepted (refine_says row head id) then split_row row head.count id else row

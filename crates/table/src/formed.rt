@@ -41,7 +41,9 @@ fn root_ok(step: u64, c: Cell) -> bool
 // no test of their own.
 #[tactic(auto, unfolding(crate::specs::Walk::kid_at))]
 fn kid_ok(t: &[i64], p: usize, c: Cell, j: usize, k: u64) -> bool
-    requires { (p * 8 + 8 ≤ length t.now) × (j * 8 + 8 ≤ length t.now) × (c.level < widest_level) }
+    requires parent { p * 8 + 8 ≤ length t.now }
+    requires child { j * 8 + 8 ≤ length t.now }
+    requires finer { c.level < widest_level }
     ensures { result ≡ kid_at t.now p c j k }
 {
     let kid = c.child(p as u64, k);
@@ -59,7 +61,9 @@ fn kid_ok(t: &[i64], p: usize, c: Cell, j: usize, k: u64) -> bool
 // Whether the four slots from f on hold the children of cell p.
 #[tactic(auto, unfolding(crate::specs::Walk::kids_at))]
 fn kids_ok(t: &[i64], m: u64, p: usize, f: usize) -> bool
-    requires { (p < f) × ((f + 4) * 8 ≤ length t.now) × (m ≤ widest_level) }
+    requires behind { p < f }
+    requires slots { (f + 4) * 8 ≤ length t.now }
+    requires range { m ≤ widest_level }
     ensures { result ≡ kids_at t.now m p f }
 {
     let c = cell_at(t, p);
@@ -82,7 +86,8 @@ fn slot_or(f: u64, n: usize, i: usize) -> usize
 // foretold.
 #[tactic(auto, unfolding(crate::specs::Walk::led_at))]
 fn led(t: &[i64], n: usize, i: usize) -> bool
-    requires { (n * 8 ≤ length t.now) × (i < n) }
+    requires slots { n * 8 ≤ length t.now }
+    requires inside { i < n }
     ensures { result ≡ led_at t.now n i }
 {
     let f = first_at(t, i);
@@ -93,7 +98,8 @@ fn led(t: &[i64], n: usize, i: usize) -> bool
 // Whether a root stands in slot i.
 #[tactic(auto, unfolding(crate::specs::Walk::root_at, crate::specs::Walk::led_at))]
 fn root_here(t: &[i64], n: usize, step: u64, i: usize) -> bool
-    requires n_in_bounds { (n * 8 ≤ length t.now) × (i < n) }
+    requires slots { n * 8 ≤ length t.now }
+    requires inside { i < n }
     requires power { Power step }
     ensures { result ≡ root_at t.now n step i }
 {
@@ -108,7 +114,9 @@ fn root_here(t: &[i64], n: usize, step: u64, i: usize) -> bool
 // Whether the four children of cell p stand in the slots from i on.
 #[tactic(auto, unfolding(crate::specs::Walk::four_at))]
 fn four_here(t: &[i64], n: usize, m: u64, i: usize, p: u64) -> bool
-    requires { (n * 8 ≤ length t.now) × (i < n) × (m ≤ widest_level) }
+    requires slots { n * 8 ≤ length t.now }
+    requires inside { i < n }
+    requires range { m ≤ widest_level }
     ensures { result ≡ four_at t.now n m i p }
 {
     if n - i < 4 || i as u64 <= p {
@@ -122,7 +130,9 @@ fn four_here(t: &[i64], n: usize, m: u64, i: usize, p: u64) -> bool
 // The slot past the root or the four children that stand from slot i on; 0 where neither does.
 #[tactic(auto, unfolding(crate::specs::Walk::past_at))]
 fn past(t: &[i64], n: usize, m: u64, step: u64, i: usize) -> usize
-    requires n_in_bounds { (n * 8 ≤ length t.now) × (i < n) × (m ≤ widest_level) }
+    requires slots { n * 8 ≤ length t.now }
+    requires inside { i < n }
+    requires range { m ≤ widest_level }
     requires power { Power step }
     ensures { result ≡ past_at t.now n m step i }
 {
@@ -137,7 +147,9 @@ fn past(t: &[i64], n: usize, m: u64, step: u64, i: usize) -> usize
 }
 
 fn cells_ok(t: &[i64], n: usize, m: u64) -> bool
-    requires { (n * 8 ≤ length t.now) × (n ≤ max_slots) × (m ≤ widest_level) }
+    requires slots { n * 8 ≤ length t.now }
+    requires few { n ≤ max_slots }
+    requires range { m ≤ widest_level }
     ensures { result ≡ all_to (cell_ok t.now n m) n }
 {
     let step = step_of(m);
@@ -171,7 +183,8 @@ fn slot_zero(t: &[i64], j: usize) -> bool
 // All slots at or past the count are zero.
 #[tactic(auto, unfolding(crate::specs::Formed::rest_zero))]
 fn rest_zero(t: &[i64], n: usize) -> bool
-    requires { (n * 8 ≤ length t.now) × (length t.now % 8 ≡ 0) }
+    requires slots { n * 8 ≤ length t.now }
+    requires whole { length t.now % 8 ≡ 0 }
     ensures { result ≡ rest_zero t.now n }
 {
     let slots = t.len() / 8;
@@ -190,7 +203,7 @@ fn shape_ok(size: usize, n: usize, m: u64) -> bool
     (m <= Cell::WIDEST_LEVEL) & (size % 8 == 0) & (size / 8 <= limits::SLOTS) & (n <= size / 8)
 }
 
-// Whether the row holds a well-formed table.
+/// Whether the row holds a well-formed table: `laws::test_is_definition`. `Table::new` asks it once for all.
 #[tactic(auto, using(crate::proofs::Shape::shape_bounds), unfolding(crate::specs::Formed::well_formed))]
 pub fn well_formed(t: &[i64], head: Head) -> bool
     ensures { result ≡ well_formed t.now head.count head.max_level }

@@ -1,10 +1,13 @@
 // Splitting one leaf into its four quadrants.
-ghost use Rattle.std.specs.Prelude.{◌≡◌, ◌+◌, ◌*◌, ◌<◌, ◌≤◌, length};
+ghost use Rattle.std.specs.Prelude.{◌≡◌, ◌+◌, ◌*◌, ◌<◌, ◌≤◌, length, IfOk};
 ghost use Rattle.refusals.specs.Limits.{widest_level};
 ghost use Rattle.table.specs.Slots.{cell_at};
-ghost use Rattle.table.specs.Refine.{put_kid, split_row, refined_said, refine_says, refine_row};
+ghost use Rattle.table.specs.Mesh.{split};
+ghost use Rattle.table.specs.Rows.{IsTable, cells_in};
+ghost use Rattle.table.specs.Refine.{put_kid, split_row, refined_said, refine_says, refined_row};
 
 use crate::Head;
+use crate::edit::TableMut;
 use crate::formed::well_formed;
 use crate::slots::{cell_at, put_cell, put_first};
 use cell::Cell;
@@ -13,17 +16,20 @@ use refusals::Refusal;
 // Child k of cell i goes to slot n + k.
 #[tactic(auto, unfolding(crate::specs::Refine::put_kid))]
 fn put_kid(t: &mut [i64], n: usize, i: usize, c: Cell, k: u64)
-    requires { (k < 4) × ((n + 4) * 8 ≤ length t.old) × (c.level < widest_level) }
+    requires quadrant { k < 4 }
+    requires room { (n + 4) * 8 ≤ length t.old }
+    requires finer { c.level < widest_level }
     ensures { t.new ≡ put_kid t.old n i c k }
 {
     put_cell(t, n + k as usize, c.child(i as u64, k));
 }
 
-// Cell i gets four children in the slots from n on. Internal: the slots are in the row and the cell is above the widest
-// level.
+/// Cell i gets four children in the slots from n on.
 #[tactic(auto, unfolding(crate::specs::Refine::split_row))]
 pub fn split_cell(t: &mut [i64], n: usize, i: usize)
-    requires { (i < n) × ((n + 4) * 8 ≤ length t.old) × ((cell_at t.old i).level < widest_level) }
+    requires inside { i < n }
+    requires room { (n + 4) * 8 ≤ length t.old }
+    requires finer { (cell_at t.old i).level < widest_level }
     ensures { t.new ≡ split_row t.old n i }
 {
     let c = cell_at(t, i);
@@ -34,32 +40,31 @@ pub fn split_cell(t: &mut [i64], n: usize, i: usize)
     put_first(t, i, n as u64);
 }
 
-// Splits the leaf with this id; the head has the new count.
-#[tactic(auto, using(crate::proofs::Shape::formed_bounds), unfolding(crate::specs::Refine::refine_says, crate::specs::Refine::refine_row, crate::specs::Leaves::leaf_at))]
-pub fn refine(t: &mut [i64], head: Head, id: usize) -> Result<Head, Refusal>
-    ensures result_value { refined_said result ≡ refine_says t.old head.count head.max_level id }
-    ensures t_after { t.new ≡ refine_row t.old head.count head.max_level id }
+/// Splits the leaf with this id; the head answered has the new count.
+#[tactic(auto, using(crate::proofs::Tables::table_bounds))]
+pub fn refine(row: &mut [i64], head: Head, id: usize) -> Result<Head, Refusal>
+    ensures answer { refined_said result ≡ refine_says row.old head id }
+    ensures row_after { row.new ≡ refined_row row.old head id }
+    ensures table_after { IfOk result (λ h. IsTable row.new h) }
+    ensures cells_after { IfOk result (λ h. cells_in row.new h ≡ split (cells_in row.old head) id) }
 {
-    if !well_formed(t, head) {
+    if !well_formed(row, head) {
         return Err(Refusal::BadTable);
     }
-    let n = head.count;
-    if n <= id {
+    let mut table = TableMut::new(row, head);
+    if head.count <= id {
         return Err(Refusal::NoSuchCell(id));
     }
-    let c = cell_at(t, id);
-    if c.first != Cell::NO_CELL {
+    let cells = table.view();
+    if !cells.is_leaf(id) {
         return Err(Refusal::AlreadySplit(id));
     }
-    if head.max_level <= c.level {
+    if head.max_level <= cells.level(id) {
         return Err(Refusal::FinestLevel(id));
     }
-    if t.len() / 8 - n < 4 {
+    if !table.has_room() {
         return Err(Refusal::NoRoom);
     }
-    split_cell(t, n, id);
-    Ok(Head {
-        count: n + 4,
-        ..head
-    })
+    table.split(id);
+    Ok(table.head)
 }

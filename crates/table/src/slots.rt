@@ -39,7 +39,7 @@ fn put_number(t: &mut [i64], j: usize, n: u64)
     t[j] = n.min(i64::MAX as u64) as i64;
 }
 
-// The cell in slot i. Internal: the slot is in the row.
+/// The cell in slot i.
 #[tactic(auto, unfolding(crate::specs::Slots::cell_at))]
 pub fn cell_at(t: &[i64], i: usize) -> Cell
     requires { i * 8 + 8 ≤ length t.now }
@@ -58,7 +58,7 @@ pub fn cell_at(t: &[i64], i: usize) -> Cell
     }
 }
 
-// One number of the cell in slot i, where the rest is not wanted. Internal: the slot is in the row.
+/// One number of the cell in slot i, where the rest is not wanted.
 #[tactic(auto, unfolding(crate::specs::Slots::cell_at))]
 pub fn level_at(t: &[i64], i: usize) -> u64
     requires { i * 8 + 8 ≤ length t.now }
@@ -91,7 +91,7 @@ pub fn poly_at(t: &[i64], i: usize) -> u64
     number_at(t, i * 8 + 7)
 }
 
-// Whether number j is z, whatever the two are. Internal: the number is in the row.
+/// Whether number j of the row is z, whatever the two are.
 pub fn is_at(t: &[i64], j: usize, z: i64) -> bool
     requires { j < length t.now }
     ensures { result ≡ same_z (get_or t.now j (pos 0)) z }
@@ -99,7 +99,7 @@ pub fn is_at(t: &[i64], j: usize, z: i64) -> bool
     t[j] == z
 }
 
-// Internal: the slot is in the row.
+/// Writes the cell to slot i.
 #[tactic(auto, unfolding(crate::specs::Slots::put_cell))]
 pub fn put_cell(t: &mut [i64], i: usize, c: Cell)
     requires { i * 8 + 8 ≤ length t.old }
@@ -116,7 +116,7 @@ pub fn put_cell(t: &mut [i64], i: usize, c: Cell)
     put_number(t, b + 7, c.poly);
 }
 
-// Names the first child of the cell in slot i. Internal: the slot is in the row.
+/// Names the first child of the cell in slot i.
 #[tactic(auto, unfolding(crate::specs::Slots::put_first))]
 pub fn put_first(t: &mut [i64], i: usize, first: u64)
     requires { i * 8 + 8 ≤ length t.old }
@@ -140,7 +140,7 @@ fn natural_at(t: &[i64], j: usize) -> bool
     0 <= t[j]
 }
 
-// Whether slot i holds the numbers of a cell. Internal: the slot is in the row.
+/// Whether slot i holds the numbers of a cell.
 #[tactic(auto, unfolding(crate::specs::Slots::in_slot))]
 pub fn in_slot(t: &[i64], i: usize) -> bool
     requires { i * 8 + 8 ≤ length t.now }

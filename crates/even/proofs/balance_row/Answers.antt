@@ -60,11 +60,12 @@ split_cell-requires c =
     let o = l.invariant.1 in
     let finer = row-finer c.args.k c.args.m (table c.args.t.now c.args.n) c.args.t.now l.t c.args.n l.count c.args.a
     l.b c.args.stop c.least_due-c.result o l.invariant.0 (omega (arith, o.more, c.requires.stop_le_n))
-    c.least_due-c.ensures c.if-stop-c.false c.requires.stop_le_n.1 in (
-      omega (arith, o.more, c.requires.stop_le_n, c.if-stop-c.false),
-      omega (arith, o.size, c.if-slots-count-lt4.false, o.formed.count),
-      omega (arith, o.formed.range, finer),
-    )
+    c.least_due-c.ensures c.if-stop-c.false c.requires.stop_le_n.1 in
+    record {
+      inside = omega (arith, o.more, c.requires.stop_le_n, c.if-stop-c.false);
+      room = omega (arith, o.size, c.if-slots-count-lt4.false, o.formed.count);
+      finer = omega (arith, o.formed.range, finer);
+    }
 
 pub loop-b-preserved : goal.loop-b-preserved
 loop-b-preserved c =

@@ -1,7 +1,7 @@
 -- Too long, refused by the reader or by the table step, or made.
 use Rattle.std.proofs.Common.{rules, List, Float, ◌≡◌, length, replicate, pos, sym, ap, ◌∙◌}
 use lib.ListN.{length-replicate}
-use Rattle.table.specs.Refine.{is_accepted}
+use Rattle.refusals.specs.Said.{is_accepted}
 use Rattle.refusals.specs.Said.{refusal}
 use Rattle.board.specs.Rows.{Rows, rows_of}
 use Rattle.mesh.specs.Says.{meshed_said, layer_room, polygon_room, point_room, split_room}

@@ -10,10 +10,10 @@ returns-in_err-leaves-clause-result_value c =
     let x = c.in_err-leaves in
     let said : meshed_said c.from_residual.result ≡ refusal x.field-0.0 = search rules in
     said ∙ totals-refused a.table.now a.head.count a.head.max_level a.polygons a.splits a.order.now x.field-0.0
-    x.ensures.result_value
+    x.ensures.answer
 
 pub returns-clause-result_value : goal.returns-clause-result_value
 returns-clause-result_value c =
     let a = c.args in
     let e = c.in_ok-leaves in
-    totals-done a.table.now a.head.count a.head.max_level a.polygons a.splits a.order.now e.leaves e.ensures.result_value
+    totals-done a.table.now a.head.count a.head.max_level a.polygons a.splits a.order.now e.leaves e.ensures.answer

@@ -1,5 +1,5 @@
 -- Below the range, above it, and within.
-use Rattle.std.proofs.Common.{◌≡◌, sym, ap, ℤ, pos, nat_abs, ◌+ℤ◌, w64, to_z, of_z, to_z-of_z}
+use Rattle.std.proofs.Common.{◌≡◌, sym, ap, pos, nat_abs, ◌+ℤ◌, w64, to_z, of_z, to_z-of_z}
 use Rattle.refusals.specs.Limits.{coordinate}
 use Rattle.cell.specs.Ticks.{off}
 use Rattle.cell.proofs.Offsets.{off-low, off-high, off-fits, shifted}

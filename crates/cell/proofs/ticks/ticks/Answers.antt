@@ -3,11 +3,11 @@ use mir.Facts.{to_z_pos}
 use Rattle.cell.proofs.Offsets.{on-is, on-top, on_fits}
 use Rattle.cell.proofs.ticks.ticks.Goals as goal
 
-pub returns-then-n-gt137438953472 : goal.returns-then-n-gt137438953472
-returns-then-n-gt137438953472 c = sym (on-top c.args.n c.if-n-gt137438953472.true)
+pub returns-then-n-gt-TOP : goal.returns-then-n-gt-TOP
+returns-then-n-gt-TOP c = sym (on-top c.args.n c.if-n-gt-TOP.true)
 
 pub returns : goal.returns
 returns c =
     let n = c.args.n in
     let h : n < 2 ^ 63 = omega arith in
-    rw (to_z_pos w64 h, on-is n c.if-n-gt137438953472.false, to_z-of_z (on_fits n))
+    rw (to_z_pos w64 h, on-is n c.if-n-gt-TOP.false, to_z-of_z (on_fits n))

@@ -1,6 +1,6 @@
 use Rattle.std.proofs.Common.{ℕ, List, ◌∷◌, ◌≡◌, ◌+◌, ◌<◌, length, drop, get_or, add-one, drop-cons, drop_of_length-le, rules, sym, ap, ◌∙◌}
-use Rattle.refusals.specs.Said.{refusal}
-use Rattle.table.specs.Refine.{is_accepted, refined_said}
+use Rattle.refusals.specs.Said.{refusal, is_accepted}
+use Rattle.table.specs.Refine.{refined_said}
 use Rattle.mesh.specs.Refining.{refine_all_says, refine_all_row}
 use Rattle.mesh.proofs.Refining.{not-accepted, refined-on, all-stop, all-stop-row, all_none, all-none-row}
 use Rattle.mesh.proofs.steps.refine_all.Goals as goal
@@ -16,13 +16,13 @@ returns-in_err-latest c =
     let ids = c.args.splits.now in
     let k = s.id-index in
     let said : refined_said c.from_residual.result ≡ refusal x.field-0.0 = search rules in
-    let e = ap is_accepted (sym x.ensures.result_value) ∙ not-accepted x.field-0.0 in
+    let e = ap is_accepted (sym x.ensures.answer) ∙ not-accepted x.field-0.0 in
     let left = next ids k c.loop-id-test.true in
     record {
-      result_value = said ∙ x.ensures.result_value
+      result_value = said ∙ x.ensures.answer
           ∙ sym (all-stop s.table s.latest.count s.latest.max_level (get_or ids k 0) (drop (k + 1) ids) e)
           ∙ ap (refine_all_says s.table s.latest.count s.latest.max_level) (sym left) ∙ s.invariant.says;
-      table_after = x.ensures.t_after
+      table_after = x.ensures.row_after
           ∙ sym (all-stop-row s.table s.latest.count s.latest.max_level (get_or ids k 0) (drop (k + 1) ids) e)
           ∙ ap (refine_all_row s.table s.latest.count s.latest.max_level) (sym left) ∙ s.invariant.row;
     }
@@ -35,7 +35,7 @@ loop-id-preserved c =
     let n = r.latest in
     let left = next ids s.id-index c.loop-id-test.true in
     let k = refined-on s.table s.latest.count s.latest.max_level (get_or ids s.id-index 0) (drop (s.id-index + 1) ids)
-    c.refine.new.t n.count n.max_level r.ensures.result_value r.ensures.t_after in
+    c.refine.new.row n.count n.max_level r.ensures.answer r.ensures.row_after in
     record {
       says = k.0 ∙ ap (refine_all_says s.table s.latest.count s.latest.max_level) (sym left) ∙ s.invariant.says;
       row = k.1 ∙ ap (refine_all_row s.table s.latest.count s.latest.max_level) (sym left) ∙ s.invariant.row;

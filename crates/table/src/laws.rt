@@ -1,0 +1,32 @@
+// What the calls on a lent table come to.
+ghost use Rattle.table.specs.Laws.{TestIsDefinition, EachLeafOnce, OrderHasTheLeaves, OrderIsAsLong, OneList, OneRefined};
+
+/// The one walk over a row says yes exactly if the rules' definition holds, clause by clause.
+pub fn test_is_definition()
+    ensures { TestIsDefinition }
+{}
+
+/// A list of leaves holds every leaf once and nothing else.
+pub fn each_leaf_once()
+    ensures { EachLeafOnce }
+{}
+
+/// The order by polygon holds the same leaves as the list by id.
+pub fn order_has_the_leaves()
+    ensures { OrderHasTheLeaves }
+{}
+
+/// So it is as long.
+pub fn order_is_as_long()
+    ensures { OrderIsAsLong }
+{}
+
+/// The contracts of `leaf_count`, `leaves` and `leaf_order` permit one answer each.
+pub fn one_list()
+    ensures { OneList }
+{}
+
+/// So does that of `refine`.
+pub fn one_refined()
+    ensures { OneRefined }
+{}
