@@ -18,3 +18,4 @@ pub mod Splits
 pub mod Refining
 pub mod Counting
 pub mod Times
+pub mod Tables

@@ -295,9 +295,9 @@ module _ (t : List ℤ) (n M : ℕ) (small : n ≤ max_slots) (all : (i : ℕ) �
             (kid-read t i ((cell_at t i).first + num q) (num q) (four.kids (num q) m))));
       })
 
-  place_ok : (i : ℕ) → i < n → place_ok t n (2 ^ (M + 1)) i (cell_at t i) ≡ true
+  place-ok : (i : ℕ) → i < n → place_ok t n (2 ^ (M + 1)) i (cell_at t i) ≡ true
   unfolding place_ok born_ok cell_at counted
-  place_ok i h =
+  place-ok i h =
       ⊎_elim
       (λ (r : RootAt t M i). rw (eq-eqb (cell_at t i).parent no_cell (ap counted r.parent)) r.sides)
       (λ (c : ChildAt t M n i).
@@ -352,7 +352,7 @@ module _ (t : List ℤ) (n M : ℕ) (small : n ≤ max_slots) (all : (i : ℕ) �
   found-cells =
       all_of (cell_ok t n M) n (λ i h.
       let w = own (suc i) i (omega arith) h in
-      facts-cell t n M i (record { held = w.held; level = w.level; polygon = w.polygon; place = place_ok i h; kids = kids-ok i h }))
+      facts-cell t n M i (record { held = w.held; level = w.level; polygon = w.polygon; place = place-ok i h; kids = kids-ok i h }))
 
 -- ---- where every cell passes its test the walk goes on
 

@@ -5,3 +5,6 @@ pub mod Formed
 pub mod Walk
 pub mod Leaves
 pub mod Refine
+pub mod Rows
+pub mod Tables
+pub mod TablesMut

@@ -3,10 +3,15 @@
 // A slot has eight numbers: x0, y0, x1, y1, level, parent, first child, polygon.
 #![tactic(auto)]
 
+pub mod edit;
 pub mod formed;
 pub mod leaves;
 pub mod refine;
 pub mod slots;
+pub mod view;
+
+pub use edit::TableMut;
+pub use view::Table;
 
 // What a table has beside its row. A call that changes the count answers the head anew.
 #[derive(Clone, Copy)]

@@ -1,0 +1,24 @@
+-- When a lent row is a table, and what it holds. Ghost fields cite this file, so it names no struct but the head.
+use Rattle.std.specs.Prelude.{ℕ, ◌==◌, IsTrue, List, ℤ, filter}
+use Rattle.std.specs.List.{range_with_len, flat_map}
+use Rattle.refusals.specs.Limits.{max_polygons}
+use Rattle.table.specs.declared.Head.{Head}
+use Rattle.table.specs.Mesh.{Cell, at, table, is_leaf}
+use Rattle.table.specs.Formed.{well_formed}
+
+-- the row is well formed under this head (exactly if `WellFormed` holds: `formed::well_formed` says so)
+abbrev pub IsTable : List ℤ → Head → Type 0
+IsTable row head = IsTrue (well_formed row head.count head.max_level)
+
+-- the cells, by id
+abbrev pub cells_in : List ℤ → Head → List Cell
+cells_in row head = table row head.count
+
+-- the leaves by id
+abbrev pub leaves_in : List ℤ → Head → List ℕ
+leaves_in row head = filter (is_leaf (cells_in row head)) (range_with_len 0 head.count)
+
+-- the leaves by polygon, then id
+abbrev pub order_in : List ℤ → Head → List ℕ
+order_in row head =
+    flat_map (λ p. filter (λ i. (at (cells_in row head) i).polygon == p) (leaves_in row head)) (range_with_len 0 max_polygons)
