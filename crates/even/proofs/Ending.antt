@@ -5,10 +5,11 @@ use Rattle.refusals.specs.Said.{accepted, refused}
 use Rattle.table.specs.Mesh.{table}
 use Rattle.table.specs.Formed.{WellFormed}
 use Rattle.table.proofs.Cells.{length-table}
-use Rattle.coarsest.specs.Passes.{Engine, evened}
+use Rattle.coarsest.specs.declared.Engine.{Engine}
+use Rattle.coarsest.specs.Passes.{evened}
 use Rattle.coarsest.specs.Names.{Evens}
 use Rattle.coarsest.proofs.Kept.{evened-quarter}
-use Rattle.coarsest.proofs.Laws.{evened-evens, evened-needs, needs-one}
+use Rattle.coarsest.proofs.Ends.{evened-evens, evened-needs, needs-one}
 use Rattle.coarsest.proofs.Room.{over-needs, needs-over}
 use Rattle.even.specs.Even.{EndsCoarsest}
 

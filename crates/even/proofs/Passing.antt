@@ -3,7 +3,8 @@ use Rattle.std.proofs.Common.{ℕ, suc, ◌+◌, ◌-◌, ◌/◌, ◌<◌, ◌�
 use Rattle.table.specs.Mesh.{Cell, table}
 use Rattle.table.specs.Formed.{Formed}
 use Rattle.table.proofs.Cells.{length-table}
-use Rattle.coarsest.specs.Passes.{Engine, pass, evened, splits_left}
+use Rattle.coarsest.specs.declared.Engine.{Engine}
+use Rattle.coarsest.specs.Passes.{pass, evened, splits_left}
 use Rattle.coarsest.specs.Sweep.{row, rows, sweep}
 use Rattle.coarsest.proofs.Loops.{row-most, rows-most}
 use Rattle.coarsest.proofs.Passes.{sweep-pass, pass-grown, pass_same}

@@ -8,12 +8,12 @@ use Rattle.table.specs.Leaves.{leaf_at}
 use Rattle.table.specs.Refine.{split_row}
 use Rattle.table.proofs.Cells.{length-table, at_table}
 use Rattle.table.proofs.Splits.{split-table, refine-keeps, length-split_row}
-use Rattle.coarsest.specs.Passes.{Engine, due}
+use Rattle.coarsest.specs.declared.Engine.{Engine}
+use Rattle.coarsest.specs.Passes.{is_due, due}
 use Rattle.coarsest.specs.Sweep.{row}
 use Rattle.coarsest.proofs.Pair.{leaf-is}
 use Rattle.coarsest.proofs.Least.{due-of}
 use Rattle.table.proofs.Meshes.{length-split}
-use Rattle.coarsest.proofs.Sweep.{due_of}
 use Rattle.coarsest.proofs.Loops.{coarser, row-due, row-most}
 use Rattle.even.specs.Undo.{undone}
 use Rattle.even.specs.Parts.{Grew, Rowed}
@@ -97,8 +97,8 @@ module _ (e : Engine) (k M : ℕ) (T : List Cell) (t u : List ℤ) (n r a b : �
   both = by e
     where
       by : (d : Engine) → coarser d a b < r
-      by Rattle.coarsest.specs.Passes.balancing = hb
-      by Rattle.coarsest.specs.Passes.conforming = ha
+      by Balancing = hb
+      by Conforming = ha
 
   finer-of : (f c : ℕ) → f < r → due k (row e k T a b) f c ≡ true → (at (row e k T a b) c).level < M
   finer-of f c h d =
@@ -111,21 +111,21 @@ module _ (e : Engine) (k M : ℕ) (T : List Cell) (t u : List ℤ) (n r a b : �
   abbrev Ready : Type 0
   Ready = ((at (row e k T a b) (coarser e a b)).kids ≡ None) × ((at (row e k T a b) (coarser e a b)).level < M)
 
-  pub ready : due_of e k (row e k T a b) a b ≡ true → Ready
+  pub ready : is_due e k (row e k T a b) a b ≡ true → Ready
   ready = by e refl
     where
-      by : (d : Engine) → d ≡ e → due_of d k (row e k T a b) a b ≡ true → ((at (row e k T a b) (coarser d a b)).kids ≡ None) × ((at (row e k T a b) (coarser d a b)).level < M)
-      by Rattle.coarsest.specs.Passes.balancing q d = ((due-of k (row e k T a b) a b d).coarse, finer-of a b ha d)
-      by Rattle.coarsest.specs.Passes.conforming q d = ((due-of k (row e k T a b) b a d).coarse, finer-of b a hb d)
+      by : (d : Engine) → d ≡ e → is_due d k (row e k T a b) a b ≡ true → ((at (row e k T a b) (coarser d a b)).kids ≡ None) × ((at (row e k T a b) (coarser d a b)).level < M)
+      by Balancing q d = ((due-of k (row e k T a b) a b d).coarse, finer-of a b ha d)
+      by Conforming q d = ((due-of k (row e k T a b) b a d).coarse, finer-of b a hb d)
 
-  pub turn-split : due_of e k (row e k T a b) a b ≡ true → r + 4 ≤ length t / 8 → On M (row e k T a (b + 1)) t (split_row u r (coarser e a b)) n (r + 4)
+  pub turn-split : is_due e k (row e k T a b) a b ≡ true → r + 4 ≤ length t / 8 → On M (row e k T a (b + 1)) t (split_row u r (coarser e a b)) n (r + 4)
   turn-split d room =
       let w = ready d in
       on-as M (split (row e k T a b) (coarser e a b)) (row e k T a (b + 1)) t (split_row u r (coarser e a b)) n (r + 4)
       (sym (ap (row e k T a) (add-one b) ∙ row-due e k T a b d))
       (on-split M (row e k T a b) t u n r o (coarser e a b) both w.0 w.1 room)
 
-  pub turn-full : (stop : ℕ) → a < stop → b < stop → stop ≤ length T → due_of e k (row e k T a b) a b ≡ true → length t / 8 < r + 4
+  pub turn-full : (stop : ℕ) → a < stop → b < stop → stop ≤ length T → is_due e k (row e k T a b) a b ≡ true → length t / 8 < r + 4
       → Grew M (row e k T a stop) t u n None
   turn-full stop la lb ls d full =
       let s : length (row e k T a (suc b)) ≡ r + 4 =

@@ -11,10 +11,12 @@ use Rattle.table.specs.Formed.{Formed, WellFormed}
 use Rattle.table.proofs.Cells.{length-table, at_table}
 use Rattle.table.proofs.Meshes.{not_some, some_is, num-below, kids-in}
 use Rattle.table.proofs.Wellformed.{num-quad}
-use Rattle.coarsest.specs.Passes.{Engine, balancing, conforming, pass}
+use Rattle.coarsest.specs.declared.Engine.{Engine}
+use Rattle.coarsest.specs.declared.Engine.TheVariants.{Balancing, Conforming}
+use Rattle.coarsest.specs.Passes.{is_due, pass}
 use Rattle.coarsest.specs.Sweep.{rows}
 use Rattle.coarsest.proofs.Least.{due-of, level-most}
-use Rattle.coarsest.proofs.Sweep.{due_of, rows-keeps}
+use Rattle.coarsest.proofs.Sweep.{rows-keeps}
 use Rattle.coarsest.proofs.Rows.{row-none}
 use Rattle.coarsest.proofs.Settled.{Calm, calm-keeps, settled}
 use Rattle.descent.specs.Search.{Indexed}
@@ -29,7 +31,7 @@ use Rattle.even.specs.Watch.{Watched, Settled, Unmarked, Reaches, Kept, Met}
 
 module _ (e : Engine) (k n : ℕ) (marks : List Bool) (T : List Cell) (long : n ≤ length T) (watched : Watched e k marks T n) where
   calm : (a : ℕ) → a < n → mark_at marks a ≡ false → Calm e k n a n T
-  calm a h u = record { long = long; calm = λ b l. no_true (due_of e k T a b) (λ d. true≢false (sym (watched a b h l d) ∙ u)) }
+  calm a h u = record { long = long; calm = λ b l. no_true (is_due e k T a b) (λ d. true≢false (sym (watched a b h l d) ∙ u)) }
 
   -- from a on, d rows without a mark
   pub rows_on : (a d : ℕ) → a + d ≤ n → Unmarked marks a (a + d) → rows e k n T (a + d) ≡ rows e k n T a
@@ -60,15 +62,15 @@ watched-all e k t n m h a b ha hb d = go m (a / 8) (omega arith)
 module _ (e : Engine) (k M : ℕ) (t : List Cell) (formed : Formed M t) (p f low high : ℕ) (kids : (at t p).kids ≡ Some f)
     (spans : (x : ℕ) → Reaches e k M ((at t p).level + 1) x → (low ≤ x) × (x ≤ high)) where
   wanted_by : (d : Engine) → ((x : ℕ) → Reaches d k M ((at t p).level + 1) x → (low ≤ x) × (x ≤ high)) → (q : Quad) (y a : ℕ) → y ≡ f + num q → a < length t
-      → due_of d k t a y ≡ true → Wanted t p low high a
-  wanted_by balancing sp q y a z ha due =
+      → is_due d k t a y ≡ true → Wanted t p low high a
+  wanted_by Balancing sp q y a z ha due =
       let w = due-of k t a y due in
       let l = ap (λ (x : ℕ). (at t x).level) z ∙ ((formed.split p f kids).kid q).level in
       let g = w.apart in
       let m = level-most M t formed a ha in
       let s = sp (at t a).level (omega arith, m) in
       record { leaf = w.fine; fine = s.0; coarse = s.1; meets = kid-meets M t formed p f y a q kids z ha w.shares }
-  wanted_by conforming sp q y a z ha due =
+  wanted_by Conforming sp q y a z ha due =
       let w = due-of k t y a due in
       let l = ap (λ (x : ℕ). (at t x).level) z ∙ ((formed.split p f kids).kid q).level in
       let g = w.apart in
@@ -100,7 +102,7 @@ watched-new e k marks t stop n settled met a b ha hb d =
 
 -- after a pass no pair of the cells of its start is due
 pub settled-pass : (e : Engine) (k M : ℕ) (T : List Cell) (t u : List ℤ) (n r stop : ℕ) → On M (pass e k T) t u n r → stop ≤ length T → Settled e k (table u r) stop
-settled-pass e k M T t u n r stop o h a b ha hb = ap (λ (x : List Cell). due_of e k x a b) o.cells ∙ settled e k T a b (omega arith) (omega arith)
+settled-pass e k M T t u n r stop o h a b ha hb = ap (λ (x : List Cell). is_due e k x a b) o.cells ∙ settled e k T a b (omega arith) (omega arith)
 
 -- ---- the group that a new cell stands in
 

@@ -6,7 +6,8 @@ use Rattle.refusals.specs.declared.Refusal.TheVariants.{BadTable, NoRoom}
 use Rattle.table.specs.Mesh.{Cell, table}
 use Rattle.table.specs.Formed.{WellFormed, well_formed}
 use Rattle.table.specs.Refine.{is_accepted}
-use Rattle.coarsest.specs.Passes.{Engine, evened}
+use Rattle.coarsest.specs.declared.Engine.{Engine}
+use Rattle.coarsest.specs.Passes.{evened}
 use Rattle.coarsest.specs.Names.{Evens, Needs}
 use Rattle.even.specs.declared.Evening.{Evening}
 use Rattle.even.specs.Rows.{row_of}

@@ -3,13 +3,15 @@
 use Rattle.std.specs.Prelude.{ℕ, ◌/◌, ◌<◌, ◌≤◌, ◌≡◌, Bool, true, false, List, ℤ, length, Option, Some, None}
 use Rattle.table.specs.Mesh.{Cell, table}
 use Rattle.table.specs.Formed.{WellFormed}
-use Rattle.coarsest.specs.Passes.{Engine, balancing, conforming, pass, evened}
+use Rattle.coarsest.specs.declared.Engine.{Engine}
+use Rattle.coarsest.specs.declared.Engine.TheVariants.{Balancing, Conforming}
+use Rattle.coarsest.specs.Passes.{pass, evened}
 use Rattle.coarsest.specs.Sweep.{row}
 use Rattle.even.specs.Undo.{undone}
 
 abbrev pub engine_of : Bool → Engine
-engine_of false = balancing
-engine_of true = conforming
+engine_of false = Balancing
+engine_of true = Conforming
 
 -- from the row t of n cells to the row u, with its count or none: u holds the cells `what`, or they don't fit the slots;
 -- the splits can be taken back

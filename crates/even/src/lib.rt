@@ -6,7 +6,7 @@ ghost use Rattle.std.specs.Prelude.{◌≡◌, ℕ, ◌+◌, ◌*◌, ◌<◌, �
 ghost use Rattle.std.specs.Prelude.{Some};
 ghost use Rattle.table.specs.Mesh.{at, table};
 ghost use Rattle.table.specs.Formed.{WellFormed};
-ghost use Rattle.coarsest.specs.Passes.{balancing, conforming};
+ghost use Rattle.coarsest.specs.declared.Engine.TheVariants.{Balancing, Conforming};
 ghost use Rattle.descent.specs.Search.{Indexed};
 ghost use Rattle.even.specs.Undo.{undone_at, undone};
 ghost use Rattle.even.specs.Parts.{engine_of, Rowed, Passed, Evened};
@@ -45,7 +45,7 @@ fn balance_row(
     requires well_formed { WellFormed t.old n m }
     requires stop_le_n { (stop ≤ n) × (a < stop) }
     requires top_le_n { ((top ≤ n) × (length boxes.now ≡ 256)) × Indexed top boxes.now (table t.old n) }
-    ensures { Rowed balancing k m t.old t.new n a stop result }
+    ensures { Rowed Balancing k m t.old t.new n a stop result }
 {
     if level_at(t, a) <= k {
         return Some(n);
@@ -85,7 +85,7 @@ fn conform_row(
     requires well_formed { WellFormed t.old n m }
     requires stop_le_n { (stop ≤ n) × (a < stop) }
     requires top_le_n { ((top ≤ n) × (length boxes.now ≡ 256)) × Indexed top boxes.now (table t.old n) }
-    ensures { Rowed conforming k m t.old t.new n a stop result }
+    ensures { Rowed Conforming k m t.old t.new n a stop result }
 {
     if first_at(t, a) != Cell::NO_CELL {
         return Some(n);
@@ -333,8 +333,8 @@ fn even_table(t: &mut [i64], head: Head, conforms: bool, k: u64) -> Result<Eveni
 
 // No two leaves that share an edge differ by more than one level.
 pub fn balance(t: &mut [i64], head: Head) -> Result<Evening, Refusal>
-    ensures result_value { evening_said result ≡ even_says balancing 1 t.old head.count head.max_level }
-    ensures t_after { t.new ≡ even_row balancing 1 t.old head.count head.max_level }
+    ensures result_value { evening_said result ≡ even_says Balancing 1 t.old head.count head.max_level }
+    ensures t_after { t.new ≡ even_row Balancing 1 t.old head.count head.max_level }
     ensures coarsest { EndsCoarsest 1 head.max_level t.old t.new head.count (evening_said result) }
 {
     even_table(t, head, false, 1)
@@ -342,8 +342,8 @@ pub fn balance(t: &mut [i64], head: Head) -> Result<Evening, Refusal>
 
 // No two leaves that share an edge differ in level.
 pub fn conform(t: &mut [i64], head: Head) -> Result<Evening, Refusal>
-    ensures result_value { evening_said result ≡ even_says conforming 0 t.old head.count head.max_level }
-    ensures t_after { t.new ≡ even_row conforming 0 t.old head.count head.max_level }
+    ensures result_value { evening_said result ≡ even_says Conforming 0 t.old head.count head.max_level }
+    ensures t_after { t.new ≡ even_row Conforming 0 t.old head.count head.max_level }
     ensures coarsest { EndsCoarsest 0 head.max_level t.old t.new head.count (evening_said result) }
 {
     even_table(t, head, true, 0)

@@ -10,7 +10,7 @@ use Rattle.strips.specs.Said.{if_accepted}
 use Rattle.build.specs.declared.Settings.{Settings}
 use Rattle.build.specs.Says.{build_says, build_leaves}
 use Rattle.build.proofs.Fitting.{refusal-keeps, refused-accepted}
-use Rattle.coarsest.specs.Passes.{balancing}
+use Rattle.coarsest.specs.declared.Engine.TheVariants.{Balancing}
 use Rattle.table.specs.Formed.{well_formed}
 use Rattle.table.specs.Refine.{is_accepted}
 use Rattle.even.specs.Even.{even_says, even_row, even_cells}
@@ -77,19 +77,19 @@ module _ (g : Given) (t : List ℤ) (whole : length t ≡ g.size) where
       same-level : m ≡ level_of g
       same-level = all-level g.splits u n (level_of g) k m (sym f)
 
-      even-said : even_says balancing 1 v k m ≡ balance_say g
+      even-said : even_says Balancing 1 v k m ≡ balance_say g
       unfolding balance_say
       even-said = rw (q, split-row, same-level, ← split_done) refl
 
-      even-left : even_row balancing 1 v k m ≡ balanced_row g
+      even-left : even_row Balancing 1 v k m ≡ balanced_row g
       unfolding balanced_row
       even-left = rw (q, split-row, same-level, ← split_done) refl
 
-      pub grown : even_says balancing 1 v k m ≡ grow_says g
+      pub grown : even_says Balancing 1 v k m ≡ grow_says g
       unfolding grow_says
       grown = even-said ∙ rw (← rooted, ← split_done) refl
 
-      pub grown-row : even_row balancing 1 v k m ≡ grow_leaves g t
+      pub grown-row : even_row Balancing 1 v k m ≡ grow_leaves g t
       unfolding grow_leaves
       grown-row = even-left ∙ rw (← rooted, ← split_done) refl
 
@@ -110,14 +110,14 @@ if-accepted (accepted vs) new old e = refl
 if-accepted (refused n p) new old e = absurd (false≢true e)
 
 -- balance keeps max_level
-even-level : (t : List ℤ) (n M : ℕ) {a b m : ℕ} → accepted (a ∷ b ∷ m ∷ []) ≡ even_says balancing 1 t n M → m ≡ M
+even-level : (t : List ℤ) (n M : ℕ) {a b m : ℕ} → accepted (a ∷ b ∷ m ∷ []) ≡ even_says Balancing 1 t n M → m ≡ M
 unfolding even_says
-even-level t n M {a} {b} {m} e = by (well_formed t n M) (leb (length (even_cells balancing 1 t n M)) (length t / 8)) e
+even-level t n M {a} {b} {m} e = by (well_formed t n M) (leb (length (even_cells Balancing 1 t n M)) (length t / 8)) e
   where
     by : (p q : Bool)
-        → accepted (a ∷ b ∷ m ∷ []) ≡ cond p (cond q (accepted ((length (even_cells balancing 1 t n M) - n) / 4 ∷ length (even_cells balancing 1 t n M) ∷ M ∷ [])) (refusal NoRoom)) (refusal BadTable)
+        → accepted (a ∷ b ∷ m ∷ []) ≡ cond p (cond q (accepted ((length (even_cells Balancing 1 t n M) - n) / 4 ∷ length (even_cells Balancing 1 t n M) ∷ M ∷ [])) (refusal NoRoom)) (refusal BadTable)
         → m ≡ M
-    by true true e = let v : accepted (a ∷ b ∷ m ∷ []) ≡ accepted ((length (even_cells balancing 1 t n M) - n) / 4 ∷ length (even_cells balancing 1 t n M) ∷ M ∷ []) = e in cc
+    by true true e = let v : accepted (a ∷ b ∷ m ∷ []) ≡ accepted ((length (even_cells Balancing 1 t n M) - n) / 4 ∷ length (even_cells Balancing 1 t n M) ∷ M ∷ []) = e in cc
     by true false e = absurd (refused-accepted 6 0 (a ∷ b ∷ m ∷ []) (sym e))
     by false q e = absurd (refused-accepted 7 0 (a ∷ b ∷ m ∷ []) (sym e))
 

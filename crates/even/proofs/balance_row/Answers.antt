@@ -3,7 +3,7 @@ use Rattle.cell.specs.Cells.{no_cell}
 use Rattle.table.specs.Slots.{cell_at}
 use Rattle.table.specs.Mesh.{Cell, table}
 use Rattle.table.proofs.Cells.{length-table, at_table}
-use Rattle.coarsest.specs.Passes.{balancing}
+use Rattle.coarsest.specs.declared.Engine.TheVariants.{Balancing}
 use Rattle.coarsest.specs.Sweep.{row}
 use Rattle.coarsest.proofs.Loops.{no-leaf}
 use Rattle.coarsest.proofs.Rows.{row-none, row-shallow}
@@ -14,7 +14,7 @@ use Rattle.even.proofs.balance_row.Goals as goal
 pub returns-then-level_at-k : goal.returns-then-level_at-k
 returns-then-level_at-k c =
     let l = at_table c.args.t.now c.args.n c.args.a (omega (arith, c.requires.stop_le_n)) in
-    still balancing c.args.k c.args.m c.args.t.now c.args.n c.args.a c.args.stop c.requires.well_formed
+    still Balancing c.args.k c.args.m c.args.t.now c.args.n c.args.a c.args.stop c.requires.well_formed
     (row-shallow c.args.k (table c.args.t.now c.args.n) c.args.a c.args.stop
     (omega (arith, ap (λ (x : Cell). x.level) l, c.level_at.ensures, c.if-level_at-k.true)))
 
@@ -22,9 +22,9 @@ pub returns-then-first_at-ne-NO_CELL : goal.returns-then-first_at-ne-NO_CELL
 returns-then-first_at-ne-NO_CELL c =
     let T = table c.args.t.now c.args.n in
     let e = kids-of c.args.t.now c.args.n c.args.a (omega (arith, c.requires.stop_le_n)) in
-    still balancing c.args.k c.args.m c.args.t.now c.args.n c.args.a c.args.stop c.requires.well_formed
-    (row-none balancing c.args.k T c.args.a c.args.stop
-    (λ b h. no-leaf balancing c.args.k T c.args.a b (e ∙ ne_eqb (cell_at c.args.t.now c.args.a).first no_cell
+    still Balancing c.args.k c.args.m c.args.t.now c.args.n c.args.a c.args.stop c.requires.well_formed
+    (row-none Balancing c.args.k T c.args.a c.args.stop
+    (λ b h. no-leaf Balancing c.args.k T c.args.a b (e ∙ ne_eqb (cell_at c.args.t.now c.args.a).first no_cell
     (λ q. c.if-first_at-ne-NO_CELL.true (c.first_at.ensures ∙ q)))))
 
 pub loop-b-init : goal.loop-b-init
@@ -33,7 +33,7 @@ loop-b-init c = (omega arith, on-start _ _ _ c.requires.well_formed)
 
 pub least_due-c-requires-clause-indexed : goal.least_due-c-requires-clause-indexed
 least_due-c-requires-clause-indexed c =
-    indexed-row balancing c.args.k c.args.m c.args.top c.args.stop c.args.boxes.now (table c.args.t.now c.args.n)
+    indexed-row Balancing c.args.k c.args.m c.args.top c.args.stop c.args.boxes.now (table c.args.t.now c.args.n)
     c.args.t.now c.loop-b.t c.args.n c.loop-b.count c.args.a
     (rw (length-table c.args.t.now c.args.n) c.requires.stop_le_n.0) c.requires.top_le_n.1 c.loop-b.b
     c.loop-b.invariant.1 c.requires.stop_le_n.1 c.loop-b.invariant.0
@@ -79,7 +79,7 @@ loop-b-preserved c =
     c.least_due-c.ensures c.if-stop-c.false c.requires.stop_le_n.1 room in (
       omega (arith, c.if-stop-c.false),
       subst
-          (λ (u : List ℤ). On c.args.m (row balancing c.args.k T c.args.a (b + 1)) c.args.t.now u c.args.n
+          (λ (u : List ℤ). On c.args.m (row Balancing c.args.k T c.args.a (b + 1)) c.args.t.now u c.args.n
           (l.count + 4))
           (sym c.split_cell.ensures) next,
     )

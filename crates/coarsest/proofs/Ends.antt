@@ -3,17 +3,18 @@
 use Rattle.std.proofs.Common.{◌≡◌, sym, subst, ◌∙◌, ◌||◌, ⊎_elim, List, ℕ, ◌≤◌, le_antisymm, length}
 use mathlib.Core.Path.{fun_ext}
 use Rattle.table.specs.Mesh.{Cell}
-use Rattle.coarsest.specs.Passes.{Engine, balancing, conforming, evened, balance, conform}
+use Rattle.coarsest.specs.declared.Engine.{Engine}
+use Rattle.coarsest.specs.declared.Engine.TheVariants.{Balancing, Conforming}
+use Rattle.coarsest.specs.Passes.{pass, evened, balance, conform}
+use Rattle.coarsest.proofs.Passes.{pass_same}
 use Rattle.coarsest.specs.Names.{Route, Splitting, Roots, Admissible, Coarsest, HasCells, roots_of, splitting, ◌⊆◌, Evens, Needs}
+use Rattle.coarsest.specs.Laws.{SameRoots}
 use Rattle.table.specs.Formed.{Formed}
 use Rattle.cell.proofs.Contact.{or_cases, or_right}
 use Rattle.coarsest.proofs.Forced.{bool-ext, coarsest-grows, coarsest-one, coarsest-parts}
 use Rattle.coarsest.proofs.Evened.{evened-stop, evened-calm, evened-coarsest, evened-formed, evened-roots}
 use Rattle.coarsest.proofs.Count.{cells-fewer}
 use Rattle.coarsest.proofs.Numbered.{formed-cells}
-
-abbrev pub SameRoots : List Cell → List Cell → Type 0
-SameRoots t u = (r : ℕ) → roots_of t r ≡ roots_of u r
 
 module _ (k M : ℕ) where
   -- the coarsest splitting, of the roots of another table that has the same
@@ -48,6 +49,10 @@ module _ (k M : ℕ) where
   -- evened out, a table stays as it is
   pub evened-twice : (e : Engine) (t : List Cell) → Formed M t → evened e k M (evened e k M t) ≡ evened e k M t
   evened-twice e t ft = evened-stop e k M (evened e k M t) (evened-formed e k M t ft) (evened-calm e k M t ft)
+
+-- one pass more changes nothing
+pub evened-passed : (e : Engine) (k M : ℕ) (t : List Cell) → Formed M t → pass e k (evened e k M t) ≡ evened e k M t
+evened-passed e k M t ft = pass_same e k (evened e k M t) (evened-calm e k M t ft)
 
 -- ---- what the passes end in, by names
 
@@ -93,16 +98,16 @@ module _ (e : Engine) (k M : ℕ) (t : List Cell) (formed : Formed M t) where
 module _ (M : ℕ) (t : List Cell) (formed : Formed M t) where
   pub balance-evens : Evens 1 M t (balance M t)
   unfolding balance
-  balance-evens = evened-evens balancing 1 M t formed
+  balance-evens = evened-evens Balancing 1 M t formed
 
   pub balance-needs : Needs 1 M t (length (balance M t))
   unfolding balance
-  balance-needs = evened-needs balancing 1 M t formed
+  balance-needs = evened-needs Balancing 1 M t formed
 
   pub conform-evens : Evens 0 M t (conform M t)
   unfolding conform
-  conform-evens = evened-evens conforming 0 M t formed
+  conform-evens = evened-evens Conforming 0 M t formed
 
   pub conform-needs : Needs 0 M t (length (conform M t))
   unfolding conform
-  conform-needs = evened-needs conforming 0 M t formed
+  conform-needs = evened-needs Conforming 0 M t formed
