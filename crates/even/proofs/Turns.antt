@@ -9,6 +9,7 @@ use Rattle.table.specs.Refine.{split_row}
 use Rattle.table.proofs.Cells.{length-table, at_table}
 use Rattle.table.proofs.Splits.{split-table, refine-keeps, length-split_row}
 use Rattle.coarsest.specs.declared.Engine.{Engine}
+use Rattle.coarsest.specs.declared.Engine.TheVariants.{Balancing, Conforming}
 use Rattle.coarsest.specs.Passes.{is_due, due}
 use Rattle.coarsest.specs.Sweep.{row}
 use Rattle.coarsest.proofs.Pair.{leaf-is}
