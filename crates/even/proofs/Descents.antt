@@ -10,8 +10,8 @@ use Rattle.coarsest.specs.Sweep.{row, rows}
 use Rattle.coarsest.proofs.Sweep.{row_keeps, rows-keeps}
 use Rattle.coarsest.proofs.Loops.{row-skip}
 use Rattle.coarsest.proofs.Passes.{pass-keeps}
-use Rattle.descent.specs.Search.{Least, Indexed}
-use Rattle.descent.proofs.Boxes.{indexed-keeps}
+use Rattle.search.specs.Search.{Least, Indexed}
+use Rattle.search.proofs.Boxes.{indexed-keeps}
 use Rattle.even.proofs.Pairs.{no_true}
 use Rattle.table.specs.Slots.{cell_at}
 use Rattle.table.specs.Refine.{split_row}

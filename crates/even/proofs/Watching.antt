@@ -19,10 +19,10 @@ use Rattle.coarsest.proofs.Least.{due-of, level-most}
 use Rattle.coarsest.proofs.Sweep.{rows-keeps}
 use Rattle.coarsest.proofs.Rows.{row-none}
 use Rattle.coarsest.proofs.Settled.{Calm, calm-keeps, settled}
-use Rattle.descent.specs.Search.{Indexed}
-use Rattle.descent.specs.Marks.{mark_at, Wanted, Marked}
-use Rattle.descent.proofs.Marking.{kid-meets}
-use Rattle.descent.proofs.Slots.{leaf-slot, split-slot}
+use Rattle.search.specs.Search.{Indexed}
+use Rattle.search.specs.Marks.{mark_at, Wanted, Marked}
+use Rattle.search.proofs.Marking.{kid-meets}
+use Rattle.search.proofs.Slots.{leaf-slot, split-slot}
 use Rattle.even.proofs.Pairs.{no_true}
 use Rattle.even.proofs.Turns.{On}
 use Rattle.even.specs.Watch.{Watched, Settled, Unmarked, Reaches, Kept, Met}

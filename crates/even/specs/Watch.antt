@@ -4,7 +4,7 @@ use Rattle.std.specs.Prelude.{ℕ, ◌+◌, ◌<◌, ◌≤◌, ◌≡◌, Bool,
 use Rattle.table.specs.Mesh.{Cell}
 use Rattle.coarsest.specs.declared.Engine.{Engine}
 use Rattle.coarsest.specs.declared.Engine.TheVariants.{Balancing, Conforming}
-use Rattle.descent.specs.Marks.{mark_at}
+use Rattle.search.specs.Marks.{mark_at}
 
 -- each row with a pair that is due has a mark
 abbrev pub Watched : Engine → ℕ → List Bool → List Cell → ℕ → Type 0

@@ -9,7 +9,7 @@ use Rattle.coarsest.specs.Passes.{due, split_if}
 use Rattle.coarsest.specs.Sweep.{row}
 use Rattle.coarsest.proofs.Loops.{no-leaf}
 use Rattle.coarsest.proofs.Rows.{row-none, row-finest, conform-row}
-use Rattle.descent.specs.Search.{Found}
+use Rattle.search.specs.Search.{Found}
 use Rattle.even.specs.Parts.{Rowed}
 use Rattle.even.proofs.Pairs.{found-any}
 use Rattle.even.proofs.Turns.{still, on-start, on_grew, on-as, on-full, on-split, kids-of, none_of}

@@ -4,7 +4,7 @@ use native.Mathlib.Decide.{dec_lt}
 use Rattle.table.specs.Slots.{cell_at}
 use Rattle.table.specs.Mesh.{table}
 use Rattle.table.specs.Formed.{WellFormed}
-use Rattle.descent.specs.Search.{Indexed}
+use Rattle.search.specs.Search.{Indexed}
 use Rattle.even.specs.Parts.{engine_of}
 use Rattle.even.proofs.Watching.{Group, group_of, met-kept, watched-new}
 use Rattle.even.proofs.mark_new.Goals as goal

@@ -3,7 +3,7 @@
 use Rattle.std.proofs.Common.{◌≡◌}
 use Rattle.table.specs.Mesh.{table}
 use Rattle.coarsest.specs.Passes.{evened, splits_left}
-use Rattle.descent.specs.Search.{Indexed}
+use Rattle.search.specs.Search.{Indexed}
 use Rattle.even.specs.Parts.{engine_of}
 use Rattle.even.specs.Watch.{Watched}
 use Rattle.even.proofs.Turns.{On}
