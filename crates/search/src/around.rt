@@ -96,7 +96,12 @@ impl<'a> Around<'a> {
         ensures { result ≡ false
             → near_cells difference (at (cells self.now.table) self.now.cell) (at (cells self.now.table) c) ≡ false }
     {
-        self.meets(c) && difference < self.table.level(self.cell).saturating_sub(self.table.level(c))
+        self.meets(c)
+            && difference
+                < self
+                    .table
+                    .level(self.cell)
+                    .saturating_sub(self.table.level(c))
     }
 
     // The first root from `from` on that meets the cell; an id from the roots' end on, where there is none.
@@ -124,7 +129,10 @@ impl<'a> Around<'a> {
         ensures { Least (owes self.now difference) (λ b. c ≡ b) from best result }
     {
         let row = self.table.row;
-        if from <= c && c < best && coarsest::due(cell_at(row, self.cell), cell_at(row, c), difference) {
+        if from <= c
+            && c < best
+            && coarsest::due(cell_at(row, self.cell), cell_at(row, c), difference)
+        {
             c
         } else {
             best
