@@ -74,3 +74,6 @@ pub least-kids : (t : List Cell) (f k a from best c j r : ℕ) → (at t c).kids
 least-kids t f k a from best c j r kids h x =
     least-as (due k t a) from (Among t f j) (Under t c) best r x
     (λ b u d. among_kids t c f j kids h b u (due-of k t a b d).coarse)
+
+-- what the test of one leaf needs
+pub ruleset own_least = (least-none, least-own)

@@ -6,7 +6,6 @@ use Rattle.table.specs.Mesh.{Cell, at, table, mesh_cell}
 use Rattle.table.proofs.Cells.{at_table}
 use Rattle.coarsest.specs.Passes.{due_cells, due}
 use Rattle.search.specs.Search.{meet}
-use Rattle.search.proofs.Least.{least-none, least-own}
 
 module _ (t : List ℤ) (n : ℕ) where
   pub due-slots : (k f c : ℕ) → f < n → c < n → due k (table t n) f c ≡ due_cells k (mesh_cell (cell_at t f)) (mesh_cell (cell_at t c))
@@ -15,6 +14,3 @@ module _ (t : List ℤ) (n : ℕ) where
 
   pub meet-slots : (a c : ℕ) → a < n → c < n → meet (at (table t n) a).box (at (table t n) c).box ≡ meet (box_of (cell_at t a)) (box_of (cell_at t c))
   meet-slots a c ha hc = ap₂ (λ (x y : Cell). meet x.box y.box) (at_table t n a ha) (at_table t n c hc)
-
--- what the test of one leaf needs
-pub ruleset own_least = (due-slots, least-none, least-own)

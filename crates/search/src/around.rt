@@ -5,6 +5,7 @@ ghost use Rattle.cell.specs.Cells.{box_of};
 ghost use Rattle.table.specs.Slots.{cell_at, in_slot};
 ghost use Rattle.table.specs.Mesh.{at};
 ghost use Rattle.table.specs.Rows.{cells_in};
+ghost use Rattle.coarsest.specs.Passes.{due};
 ghost use Rattle.search.specs.Search.{meet, near_cells, Under, Least, Found, Passed};
 ghost use Rattle.search.specs.Roots.{Indexes, bounds_box};
 
@@ -74,7 +75,8 @@ impl<'a> Around<'a> {
     // False only if the closed boxes of the two cells have no point in common.
     fn meets(&self, c: usize) -> bool
         requires { c < self.now.table.head.count }
-        ensures { result ≡ false → meet (at (cells self.now.table) self.now.cell).box (at (cells self.now.table) c).box ≡ false }
+        ensures { result ≡ false
+            → meet (at (cells self.now.table) self.now.cell).box (at (cells self.now.table) c).box ≡ false }
     {
         slots_meet(self.table.row, self.cell, c)
     }
@@ -88,8 +90,8 @@ impl<'a> Around<'a> {
         self.table.level(c) == 0 && self.meets(c)
     }
 
-    // False only if c is not, and does not hold, a leaf to be split for the cell: it does not meet it, or is not coarser
-    // by more than the difference.
+    // False only if c is not, and does not hold, a leaf to be split for the cell: it does not meet it, or is not
+    // coarser by more than the difference.
     #[tactic(auto, using(crate::proofs::Meeting::nearing))]
     fn is_near(&self, difference: u64, c: usize) -> bool
         requires { c < self.now.table.head.count }
@@ -122,25 +124,33 @@ impl<'a> Around<'a> {
         id
     }
 
+    // Whether the leaf c is to be split for the leaf f. A descent comes to few leaves: their rectangles stay out of its
+    // way.
+    #[inline(never)]
+    fn is_due(&self, difference: u64, f: usize, c: usize) -> bool
+        requires fine { f < self.now.table.head.count }
+        requires coarse { c < self.now.table.head.count }
+        ensures { result ≡ due difference (cells self.now.table) f c }
+    {
+        let row = self.table.row;
+        coarsest::due(cell_at(row, f), cell_at(row, c), difference)
+    }
+
     // c itself, if it is to be split for the cell and lies from `from` below `best`.
-    #[tactic(auto, using(crate::proofs::Slots::own_least))]
+    #[tactic(auto, using(crate::proofs::Least::own_least))]
     fn least_own(&self, difference: u64, c: usize, from: usize, best: usize) -> usize
         requires { c < self.now.table.head.count }
         ensures { Least (owes self.now difference) (λ b. c ≡ b) from best result }
     {
-        let row = self.table.row;
-        if from <= c
-            && c < best
-            && coarsest::due(cell_at(row, self.cell), cell_at(row, c), difference)
-        {
+        if from <= c && c < best && self.is_due(difference, self.cell, c) {
             c
         } else {
             best
         }
     }
 
-    // The least id from `from` below `best` of a leaf in the subtree of c that is to be split for the cell; best, where
-    // there is none.
+    // The least id from `from` below `best` of a leaf in the subtree of c that is to be split for the cell; best,
+    // where there is none.
     fn least_under(&self, difference: u64, c: usize, from: usize, best: usize) -> usize
         requires { c < self.now.table.head.count }
         ensures { Least (owes self.now difference) (Under (cells self.now.table) c) from best result }
@@ -158,8 +168,8 @@ impl<'a> Around<'a> {
         least
     }
 
-    /// The least id from `from` below `stop` of a leaf that is to be split for the cell, since that is finer by more than
-    /// the difference; `stop`, where there is none.
+    /// The least id from `from` below `stop` of a leaf that is to be split for the cell, since that is finer by more
+    /// than the difference; `stop`, where there is none.
     pub fn least_due(&self, difference: u64, from: usize, stop: usize) -> usize
         ensures { Least (owes self.now difference) (λ b. b < self.now.table.head.count) from stop result }
     {
@@ -177,8 +187,7 @@ impl<'a> Around<'a> {
         requires { c < self.now.table.head.count }
         ensures { Found (asks self.now difference) (λ b. c ≡ b) stop result }
     {
-        let row = self.table.row;
-        c < stop && coarsest::due(cell_at(row, c), cell_at(row, self.cell), difference)
+        c < stop && self.is_due(difference, c, self.cell)
     }
 
     // Whether a leaf in the subtree of c, of an id below `stop`, asks for the cell to be split.
@@ -200,7 +209,8 @@ impl<'a> Around<'a> {
         false
     }
 
-    /// Whether a leaf of an id below `stop` asks for the cell to be split, since it is finer by more than the difference.
+    /// Whether a leaf of an id below `stop` asks for the cell to be split, since it is finer by more than the
+    /// difference.
     pub fn is_asked(&self, difference: u64, stop: usize) -> bool
         ensures { Found (asks self.now difference) (λ b. b < self.now.table.head.count) stop result }
     {
@@ -217,7 +227,8 @@ impl<'a> Around<'a> {
     // Marks each leaf in the subtree of c that meets the cell and has one of the levels.
     fn mark_under(&self, levels: Levels, c: usize, marks: &mut Marks)
         requires { c < self.now.table.head.count }
-        ensures { Marked (Under (cells self.now.table) c) (Wanted (cells self.now.table) self.now.cell levels) marks.old marks.new }
+        ensures { Marked (Under (cells self.now.table) c) (Wanted (cells self.now.table) self.now.cell levels)
+            marks.old marks.new }
     {
         if !self.meets(c) {
             return;
@@ -239,7 +250,8 @@ impl<'a> Around<'a> {
 
     /// Marks each leaf that meets the cell and has one of the levels.
     pub fn mark(&self, levels: Levels, marks: &mut Marks)
-        ensures { Marked (λ a. a < self.now.table.head.count) (Wanted (cells self.now.table) self.now.cell levels) marks.old marks.new }
+        ensures { Marked (λ a. a < self.now.table.head.count) (Wanted (cells self.now.table) self.now.cell levels)
+            marks.old marks.new }
     {
         let mut root = self.next_root(0);
         while root < self.roots.end {

@@ -1,5 +1,5 @@
-//! An index of a table's roots: a box for each 64 ids that holds the roots among them, so that a search passes over most
-//! of them at once.
+//! An index of a table's roots: a box for each 64 ids that holds the roots among them, so that a search passes over
+//! most of them at once.
 ghost use Rattle.std.specs.Prelude.{◌≡◌, ℕ, ◌+◌, ◌*◌, ◌/◌, ◌%◌, ◌<◌, ◌≤◌, IsTrue};
 ghost use Rattle.table.specs.Mesh.{at};
 ghost use Rattle.table.specs.Tables.{cells};
