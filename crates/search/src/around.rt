@@ -46,9 +46,11 @@ pub struct Around<'a> {
     pub roots: &'a Roots,
     pub cell: usize,
     pub bounds: Bounds,
+    pub level: u64,
     ghost inside: { cell < table.head.count },
     ghost indexed: { Indexes roots.now (cells_in table.row.now table.head) },
     ghost bounded: { bounds_box bounds ≡ (at (cells_in table.row.now table.head) cell).box },
+    ghost levelled: { level ≡ (at (cells_in table.row.now table.head) cell).level },
 }
 
 impl<'a> Around<'a> {
@@ -64,11 +66,13 @@ impl<'a> Around<'a> {
         ensures cell { result.cell ≡ cell }
     {
         let bounds = Bounds::of(&table, cell);
+        let level = table.level(cell);
         Around {
             table,
             roots,
             cell,
             bounds,
+            level,
         }
     }
 
