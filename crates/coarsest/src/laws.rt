@@ -1,5 +1,6 @@
 //! The laws of the passes: each function ensures one of them, for every table, and does nothing.
-ghost use Rattle.coarsest.specs.Laws.{CoarsestIsReached, CoarsestIsOne, PassesEnd, StaysFormed, KeepsRoots, MoreSplitsEndFiner, PartsEndTheSame, NeedsTheCellsReached, PassSettles};
+ghost use Rattle.coarsest.specs.Laws.{CoarsestIsReached, CoarsestIsOne, PassesEnd, StaysFormed, KeepsRoots};
+ghost use Rattle.coarsest.specs.Laws.{MoreSplitsEndFiner, PartsEndTheSame, NeedsTheCellsReached, PassSettles};
 
 /// What the passes end in is the coarsest splitting that they may end in.
 pub fn coarsest_is_reached()

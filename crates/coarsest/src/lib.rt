@@ -1,4 +1,5 @@
-//! Balance and conform: what they end in, as definitions and laws; and the test of one pair of cells that the engines make.
+//! Balance and conform: what they end in, as definitions and laws; and the test of one pair of cells that the engines
+//! make.
 #![tactic(auto)]
 
 ghost use Rattle.std.specs.Prelude.{◌≡◌};
@@ -17,11 +18,12 @@ pub enum Engine {
     Conforming,
 }
 
-// Most pairs are told by their levels, so the rectangles come last; a difference of levels cannot wrap where a sum could.
 /// Whether the leaf b has to be split for the leaf a: a is finer by more than k levels, and they share an edge.
 pub fn due(a: Cell, b: Cell, k: u64) -> bool
     ensures { result ≡ due_cells k (mesh_cell a) (mesh_cell b) }
 {
+    // Most pairs are told by their levels, so the rectangles come last; a difference of levels cannot wrap where a sum
+    // could.
     if (a.first != Cell::NO_CELL) | (b.first != Cell::NO_CELL) {
         return false;
     }

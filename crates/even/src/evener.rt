@@ -42,8 +42,8 @@ pub struct Evener<'a> {
 impl Evener<'_> {
     ghost use Rattle.even.specs.Watch.{Reaches, Watched, Settled, Met};
 
-    // Splits each of the first `stop` cells that a is too fine for, in the order of their ids. Most leaves are too coarse
-    // to ask anybody.
+    // Splits each of the first `stop` cells that a is too fine for, in the order of their ids. Most leaves are too
+    // coarse to ask anybody.
     fn balance_row(&self, table: &mut TableMut<'_>, a: usize, stop: usize) -> Result<(), Refusal>
         requires indexed { Indexes self.now.roots.now (cells_mut table.old) }
         requires stop { stop ≤ table.old.head.count }
@@ -94,7 +94,8 @@ impl Evener<'_> {
         requires indexed { Indexes self.now.roots.now (cells_mut table.old) }
         requires stop { stop ≤ table.old.head.count }
         requires own { a < stop }
-        ensures { Makes (row self.now.engine self.now.difference (cells_mut table.old) a stop) table.old table.new result }
+        ensures { Makes (row self.now.engine self.now.difference (cells_mut table.old) a stop)
+            table.old table.new result }
     {
         match self.engine {
             Engine::Balancing => self.balance_row(table, a, stop),
@@ -170,8 +171,8 @@ impl Evener<'_> {
     pub fn passes(&self, table: &mut TableMut<'_>, marks: &mut Marks) -> Result<(), Refusal>
         requires indexed { Indexes self.now.roots.now (cells_mut table.old) }
         requires watched { Watched self.now (cells_mut table.old) marks.old }
-        ensures { Makes (evened self.now.engine self.now.difference table.old.head.max_level (cells_mut table.old)) table.old
-            table.new result }
+        ensures { Makes (evened self.now.engine self.now.difference table.old.head.max_level (cells_mut table.old))
+            table.old table.new result }
     {
         'passes: loop {
             let count = table.head.count;
