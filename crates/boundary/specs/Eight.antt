@@ -12,7 +12,7 @@ use Rattle.cell.specs.Cells.{no_cell}
 use Rattle.table.specs.Mesh.{Cell, is_none, table}
 use Rattle.table.specs.Rows.{head_of}
 use Rattle.table.specs.Refine.{refined_row}
-use Rattle.coarsest.specs.Passes.{balancing, conforming}
+use Rattle.coarsest.specs.declared.Engine.TheVariants.{Balancing, Conforming}
 use Rattle.even.specs.Even.{even_says, even_row}
 use Rattle.strips.specs.declared.walk.Strip.{Strip}
 use Rattle.strips.specs.Strips.{strips_of}
@@ -28,13 +28,13 @@ answer (refused number place) = number ∷ place ∷ []
 
 -- what balance and conform say of a row of n cells at max_level 2, and the row after balance
 abbrev pub balance_says : List ℤ → ℕ → List ℕ
-balance_says t n = answer (even_says balancing 1 t n 2)
+balance_says t n = answer (even_says Balancing 1 t (head_of n 2))
 
 abbrev pub conform_says : List ℤ → ℕ → List ℕ
-conform_says t n = answer (even_says conforming 0 t n 2)
+conform_says t n = answer (even_says Conforming 0 t (head_of n 2))
 
 abbrev pub balanced : List ℤ → ℕ → List ℤ
-balanced t n = even_row balancing 1 t n 2
+balanced t n = even_row Balancing 1 t (head_of n 2)
 
 -- the same numbers, as many of them
 unfoldable pub same_row : List ℤ → List ℤ → Bool

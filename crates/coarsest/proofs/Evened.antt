@@ -4,7 +4,8 @@ use mathlib.Core.Logic.{by_cases}
 use native.Mathlib.Decide.{ℕ_discrete}
 use Rattle.table.specs.Mesh.{Cell, at}
 use Rattle.table.specs.Formed.{Formed}
-use Rattle.coarsest.specs.Passes.{Engine, pass, run, splits_left, evened}
+use Rattle.coarsest.specs.declared.Engine.{Engine}
+use Rattle.coarsest.specs.Passes.{pass, run, splits_left, evened}
 use Rattle.coarsest.specs.Names.{Splitting, Roots, Coarsest, roots_of, splitting}
 use Rattle.table.proofs.Meshes.{length-split, formed-split}
 use Rattle.coarsest.proofs.Least.{due-of, level-most, Way, way-start, way-split, way_end}

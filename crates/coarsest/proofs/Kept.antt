@@ -4,7 +4,8 @@ use Rattle.std.proofs.Common.{◌≡◌, refl, sym, ap, subst, ◌∙◌, None, 
 use Rattle.cell.specs.Boxes.{Quad, sw, se, nw, ne}
 use Rattle.table.specs.Mesh.{Cell, at, child, with_kids, split}
 use Rattle.table.specs.Formed.{Formed}
-use Rattle.coarsest.specs.Passes.{Engine, splits_left, evened}
+use Rattle.coarsest.specs.declared.Engine.{Engine}
+use Rattle.coarsest.specs.Passes.{splits_left, evened}
 use Rattle.table.proofs.Meshes.{not_some, some_is, length-split, Kept, kept, kids-kept, View, old, self, new, out, view}
 use Rattle.coarsest.proofs.Least.{due-of, level-most}
 use Rattle.coarsest.proofs.Sweep.{Keeps}

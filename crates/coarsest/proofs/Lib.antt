@@ -13,7 +13,7 @@ pub mod Evened
 pub mod Kept
 pub mod Count
 pub mod Numbered
-pub mod Laws
+pub mod Ends
 pub mod Room
 pub mod Sides
 pub mod Settled

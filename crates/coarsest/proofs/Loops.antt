@@ -2,26 +2,28 @@
 -- Assumes nothing.
 use Rattle.std.proofs.Common.{◌≡◌, refl, ap, ◌∙◌, Bool, true, false, ◌&&◌, true≢false, List, ℕ, zero, suc, ◌+◌, ◌<◌, ◌≤◌, arith, add-zero, add-suc, length}
 use Rattle.table.specs.Mesh.{Cell, split, is_none, is_leaf}
-use Rattle.coarsest.specs.Passes.{due, split_if, Engine, balancing, conforming, step}
+use Rattle.coarsest.specs.declared.Engine.{Engine}
+use Rattle.coarsest.specs.declared.Engine.TheVariants.{Balancing, Conforming}
+use Rattle.coarsest.specs.Passes.{is_due, due, split_if, step}
 use Rattle.coarsest.specs.Sweep.{row, rows}
 use Rattle.table.proofs.Meshes.{at_self}
-use Rattle.coarsest.proofs.Sweep.{due_of, row-suc, row-grown, rows_grown, grown-least}
+use Rattle.coarsest.proofs.Sweep.{row-suc, row-grown, rows_grown, grown-least}
 
 -- the cell of the pair that is split
 abbrev pub coarser : Engine → ℕ → ℕ → ℕ
-coarser balancing a b = b
-coarser conforming a b = a
+coarser Balancing a b = b
+coarser Conforming a b = a
 
 -- one pair
-pub row-due : (e : Engine) (k : ℕ) (t : List Cell) (a b : ℕ) → due_of e k (row e k t a b) a b ≡ true → row e k t a (suc b) ≡ split (row e k t a b) (coarser e a b)
+pub row-due : (e : Engine) (k : ℕ) (t : List Cell) (a b : ℕ) → is_due e k (row e k t a b) a b ≡ true → row e k t a (suc b) ≡ split (row e k t a b) (coarser e a b)
 unfolding row step
-row-due balancing k t a b d = ap (λ (x : Bool). split_if x (row balancing k t a b) b) d
-row-due conforming k t a b d = ap (λ (x : Bool). split_if x (row conforming k t a b) a) d
+row-due Balancing k t a b d = ap (λ (x : Bool). split_if x (row Balancing k t a b) b) d
+row-due Conforming k t a b d = ap (λ (x : Bool). split_if x (row Conforming k t a b) a) d
 
-pub row-skip : (e : Engine) (k : ℕ) (t : List Cell) (a b : ℕ) → due_of e k (row e k t a b) a b ≡ false → row e k t a (suc b) ≡ row e k t a b
+pub row-skip : (e : Engine) (k : ℕ) (t : List Cell) (a b : ℕ) → is_due e k (row e k t a b) a b ≡ false → row e k t a (suc b) ≡ row e k t a b
 unfolding row step
-row-skip balancing k t a b d = ap (λ (x : Bool). split_if x (row balancing k t a b) b) d
-row-skip conforming k t a b d = ap (λ (x : Bool). split_if x (row conforming k t a b) a) d
+row-skip Balancing k t a b d = ap (λ (x : Bool). split_if x (row Balancing k t a b) b) d
+row-skip Conforming k t a b d = ap (λ (x : Bool). split_if x (row Conforming k t a b) a) d
 
 -- nothing is due for an a or a b that is no leaf: a's row is done once a is split
 and-false : (x y z : Bool) → y ≡ false → (x && (y && z)) ≡ false
@@ -29,15 +31,15 @@ and-false true true z e = absurd (true≢false e)
 and-false true false z e = refl
 and-false false y z e = refl
 
-pub no-leaf : (e : Engine) (k : ℕ) (t : List Cell) (a b : ℕ) → is_leaf t a ≡ false → due_of e k t a b ≡ false
+pub no-leaf : (e : Engine) (k : ℕ) (t : List Cell) (a b : ℕ) → is_leaf t a ≡ false → is_due e k t a b ≡ false
 unfolding due
-no-leaf balancing k t a b h = and-false true (is_leaf t a) _ h
-no-leaf conforming k t a b h = and-false (is_leaf t b) (is_leaf t a) _ h
+no-leaf Balancing k t a b h = and-false true (is_leaf t a) _ h
+no-leaf Conforming k t a b h = and-false (is_leaf t b) (is_leaf t a) _ h
 
-pub no-leaf-b : (e : Engine) (k : ℕ) (t : List Cell) (a b : ℕ) → is_leaf t b ≡ false → due_of e k t a b ≡ false
+pub no-leaf-b : (e : Engine) (k : ℕ) (t : List Cell) (a b : ℕ) → is_leaf t b ≡ false → is_due e k t a b ≡ false
 unfolding due
-no-leaf-b balancing k t a b h = and-false (is_leaf t a) (is_leaf t b) _ h
-no-leaf-b conforming k t a b h = and-false true (is_leaf t b) _ h
+no-leaf-b Balancing k t a b h = and-false (is_leaf t a) (is_leaf t b) _ h
+no-leaf-b Conforming k t a b h = and-false true (is_leaf t b) _ h
 
 pub split-no-leaf : (t : List Cell) (c : ℕ) → c < length t → is_leaf (split t c) c ≡ false
 split-no-leaf t c h = ap (λ (x : Cell). is_none x.kids) (at_self t c h)

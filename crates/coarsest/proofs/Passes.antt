@@ -3,11 +3,13 @@
 use Rattle.std.proofs.Common.{◌≡◌, refl, sym, ap, subst, ◌∙◌, Bool, true, false, true≢false, inl, Option, None, Some, List, [], ◌∷◌, ◌++◌, ℕ, zero, suc, ◌<◌, ◌≤◌, arith, zero-add, length}
 use Rattle.table.specs.Mesh.{Cell, at, split, is_none, is_leaf}
 use Rattle.table.specs.Leaves.{one_if, ids_to}
-use Rattle.coarsest.specs.Passes.{due, Engine, balancing, conforming, step, with_each, each_with, pass}
+use Rattle.coarsest.specs.declared.Engine.{Engine}
+use Rattle.coarsest.specs.declared.Engine.TheVariants.{Balancing, Conforming}
+use Rattle.coarsest.specs.Passes.{is_due, due, step, with_each, each_with, pass}
 use Rattle.coarsest.specs.Sweep.{row, rows, sweep}
 use Rattle.table.proofs.Meshes.{kids-kept}
 use Rattle.coarsest.proofs.Least.{due-of}
-use Rattle.coarsest.proofs.Sweep.{due_of, Keeps, row_keeps, rows-keeps, rows_grown, rows-calm, Grown, grown-keeps, grown-least, grown-same}
+use Rattle.coarsest.proofs.Sweep.{Keeps, row_keeps, rows-keeps, rows_grown, rows-calm, Grown, grown-keeps, grown-least, grown-same}
 use Rattle.coarsest.proofs.Loops.{row-skip, row_done, no-leaf-b}
 
 -- what is no leaf of t is no leaf of u
@@ -86,10 +88,10 @@ module _ (e : Engine) (k : ℕ) (t : List Cell) where
   pub pass_same : length (pass e k t) ≡ length t → pass e k t ≡ t
   pass_same l = grown-same t (pass e k t) grown l
 
-rows_none : (e : Engine) (k : ℕ) (t : List Cell) → length (pass e k t) ≡ length t → (a b : ℕ) → a < length t → b < length t → due_of e k t a b ≡ false
+rows_none : (e : Engine) (k : ℕ) (t : List Cell) → length (pass e k t) ≡ length t → (a b : ℕ) → a < length t → b < length t → is_due e k t a b ≡ false
 unfolding sweep
 rows_none e k t l a b ha hb = rows-calm e k (length t) t (length t) (omega arith) (omega arith) (ap length (sweep-pass e k t) ∙ l) a b ha hb
 
 pub pass-calm : (e : Engine) (k : ℕ) (t : List Cell) → length (pass e k t) ≡ length t → (f c : ℕ) → f < length t → c < length t → due k t f c ≡ false
-pass-calm balancing k t l f c hf hc = rows_none balancing k t l f c hf hc
-pass-calm conforming k t l f c hf hc = rows_none conforming k t l c f hc hf
+pass-calm Balancing k t l f c hf hc = rows_none Balancing k t l f c hf hc
+pass-calm Conforming k t l f c hf hc = rows_none Conforming k t l c f hc hf

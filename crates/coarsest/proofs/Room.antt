@@ -3,14 +3,15 @@
 use Rattle.std.proofs.Common.{◌≡◌, ap, subst, ◌∙◌, List, ℕ, suc, ◌+◌, ◌-◌, ◌<◌, ◌≤◌, arith, length}
 use Rattle.table.specs.Mesh.{Cell}
 use Rattle.table.specs.Formed.{Formed}
-use Rattle.coarsest.specs.Passes.{Engine, pass, evened}
+use Rattle.coarsest.specs.declared.Engine.{Engine}
+use Rattle.coarsest.specs.Passes.{pass, evened}
 use Rattle.coarsest.specs.Sweep.{row, rows, sweep}
 use Rattle.coarsest.specs.Names.{Needs}
 use Rattle.coarsest.proofs.Sweep.{rows_grown, grown-least}
 use Rattle.coarsest.proofs.Loops.{row-most, rows-most}
 use Rattle.coarsest.proofs.Passes.{sweep-pass}
 use Rattle.coarsest.proofs.Evened.{pass-formed, evened-grown, evened-pass}
-use Rattle.coarsest.proofs.Laws.{needs-one}
+use Rattle.coarsest.proofs.Ends.{needs-one}
 
 module _ (e : Engine) (k : ℕ) (t : List Cell) where
   -- the pairs (a, 0) to (a, b - 1) after the rows below a

@@ -3,21 +3,23 @@ use Rattle.std.proofs.Common.{◌≡◌, refl, sym, ap, ap₂, ◌∙◌, Bool, 
 use Rattle.table.specs.Mesh.{Cell, at, split}
 use Rattle.table.specs.Formed.{Formed}
 use Rattle.table.specs.Leaves.{one_if, ids_to}
-use Rattle.coarsest.specs.Passes.{due_cells, due, split_if, Engine, balancing, conforming, step}
+use Rattle.coarsest.specs.declared.Engine.{Engine}
+use Rattle.coarsest.specs.declared.Engine.TheVariants.{Balancing, Conforming}
+use Rattle.coarsest.specs.Passes.{is_due, due_cells, due, split_if, step}
 use Rattle.coarsest.specs.Sweep.{row, split_each, any_to}
 use Rattle.table.proofs.Meshes.{at_old}
 use Rattle.coarsest.proofs.Least.{due-of, level-most}
-use Rattle.coarsest.proofs.Sweep.{due_of, row-grown, grown-least}
+use Rattle.coarsest.proofs.Sweep.{row-grown, grown-least}
 use Rattle.coarsest.proofs.Loops.{row-skip, no-leaf, split-no-leaf}
 
 -- ---- rows with nothing due
 
-pub row-none : (e : Engine) (k : ℕ) (t : List Cell) (a n : ℕ) → ((b : ℕ) → b < n → due_of e k t a b ≡ false) → row e k t a n ≡ t
+pub row-none : (e : Engine) (k : ℕ) (t : List Cell) (a n : ℕ) → ((b : ℕ) → b < n → is_due e k t a b ≡ false) → row e k t a n ≡ t
 unfolding row
 row-none e k t a zero h = refl
 row-none e k t a (suc n) h =
     let r = row-none e k t a n (λ b l. h b (omega arith)) in
-    row-skip e k t a n (ap (λ (u : List Cell). due_of e k u a n) r ∙ h n (omega arith)) ∙ r
+    row-skip e k t a n (ap (λ (u : List Cell). is_due e k u a n) r ∙ h n (omega arith)) ∙ r
 
 pub not-due : (k : ℕ) (t : List Cell) (f c : ℕ) → (at t f).level ≤ (at t c).level + k → due k t f c ≡ false
 not-due k t f c h = go (due k t f c) refl
@@ -27,13 +29,13 @@ not-due k t f c h = go (due k t f c) refl
     go false e = e
 
 -- a cell of level k or above it is finer than none by more than k
-pub row-shallow : (k : ℕ) (t : List Cell) (a n : ℕ) → (at t a).level ≤ k → row balancing k t a n ≡ t
-row-shallow k t a n h = row-none balancing k t a n (λ b l. not-due k t a b (omega arith))
+pub row-shallow : (k : ℕ) (t : List Cell) (a n : ℕ) → (at t a).level ≤ k → row Balancing k t a n ≡ t
+row-shallow k t a n h = row-none Balancing k t a n (λ b l. not-due k t a b (omega arith))
 
 -- no cell is finer by more than k than one of the last k + 1 levels
-pub row-finest : (k M : ℕ) (t : List Cell) (a n : ℕ) → Formed M t → n ≤ length t → M ≤ (at t a).level + k → row conforming k t a n ≡ t
+pub row-finest : (k M : ℕ) (t : List Cell) (a n : ℕ) → Formed M t → n ≤ length t → M ≤ (at t a).level + k → row Conforming k t a n ≡ t
 row-finest k M t a n formed l h =
-    row-none conforming k t a n (λ b m. not-due k t b a (let d = level-most M t formed b (omega arith) in omega arith))
+    row-none Conforming k t a n (λ b m. not-due k t b a (let d = level-most M t formed b (omega arith) in omega arith))
 
 -- ---- a balancing row
 
@@ -65,19 +67,19 @@ earlier a b i (inr h) = inr h
 
 module _ (k : ℕ) (t : List Cell) (a n : ℕ) (ha : a < n) (hn : n ≤ length t) where
   -- a and the cells still to come are as they were
-  as-was : (b : ℕ) → b ≤ n → (i : ℕ) → i < n → (b ≤ i) ⊎ (i ≡ a) → at (row balancing k t a b) i ≡ at t i
+  as-was : (b : ℕ) → b ≤ n → (i : ℕ) → i < n → (b ≤ i) ⊎ (i ≡ a) → at (row Balancing k t a b) i ≡ at t i
   unfolding row step
   as-was zero hb i hi w = refl
   as-was (suc b) hb i hi w =
-      let u = row balancing k t a b in
-      let g = grown-least t u (row-grown balancing k n t a b ha (omega arith) hn) in
+      let u = row Balancing k t a b in
+      let g = grown-least t u (row-grown Balancing k n t a b ha (omega arith) hn) in
       at-if u b i (due k u a b) (omega arith) (omega arith) (other k u a b i w) ∙ as-was b (omega arith) i hi (earlier a b i w)
 
-  due-as-was : (b : ℕ) → b < n → due k (row balancing k t a b) a b ≡ due k t a b
+  due-as-was : (b : ℕ) → b < n → due k (row Balancing k t a b) a b ≡ due k t a b
   unfolding due
   due-as-was b hb = ap₂ (due_cells k) (as-was b (omega arith) a ha (inr refl)) (as-was b (omega arith) b hb (inl (omega arith)))
 
-  pub balance-row : (b : ℕ) → b ≤ n → row balancing k t a b ≡ split_each t (ids_to (due k t a) b)
+  pub balance-row : (b : ℕ) → b ≤ n → row Balancing k t a b ≡ split_each t (ids_to (due k t a) b)
   unfolding row step ids_to split_each
   balance-row zero hb = refl
   balance-row (suc b) hb =
@@ -87,12 +89,12 @@ module _ (k : ℕ) (t : List Cell) (a n : ℕ) (ha : a < n) (hn : n ≤ length t
 
 -- ---- a conforming row
 
-pub conform-row : (k : ℕ) (t : List Cell) (a : ℕ) → a < length t → (n : ℕ) → row conforming k t a n ≡ split_if (any_to (λ b. due k t b a) n) t a
+pub conform-row : (k : ℕ) (t : List Cell) (a : ℕ) → a < length t → (n : ℕ) → row Conforming k t a n ≡ split_if (any_to (λ b. due k t b a) n) t a
 unfolding row any_to step
 conform-row k t a ha zero = refl
 conform-row k t a ha (suc n) = go (any_to (λ b. due k t b a) n) (conform-row k t a ha n)
   where
-    go : (d : Bool) → row conforming k t a n ≡ split_if d t a → row conforming k t a (suc n) ≡ split_if (d || due k t n a) t a
+    go : (d : Bool) → row Conforming k t a n ≡ split_if d t a → row Conforming k t a (suc n) ≡ split_if (d || due k t n a) t a
     go true r =
-        row-skip conforming k t a n (no-leaf conforming k (row conforming k t a n) a n (rw r (split-no-leaf t a ha))) ∙ r
+        row-skip Conforming k t a n (no-leaf Conforming k (row Conforming k t a n) a n (rw r (split-no-leaf t a ha))) ∙ r
     go false r = ap (λ (u : List Cell). split_if (due k u n a) u a) r

@@ -3,14 +3,11 @@ use Rattle.std.proofs.Common.{◌≡◌, refl, ap, subst, Bool, true, false, ◌
 use mathlib.Core.Logic.{by_cases}
 use native.Mathlib.Decide.{ℕ_discrete}
 use Rattle.table.specs.Mesh.{Cell, split}
-use Rattle.coarsest.specs.Passes.{due, split_if, Engine, balancing, conforming, step}
+use Rattle.coarsest.specs.declared.Engine.{Engine}
+use Rattle.coarsest.specs.declared.Engine.TheVariants.{Balancing, Conforming}
+use Rattle.coarsest.specs.Passes.{is_due, due, split_if, step}
 use Rattle.coarsest.specs.Sweep.{row, rows}
 use Rattle.table.proofs.Meshes.{length-split}
-
--- whether the pair (a, b) is due, by the engine
-abbrev pub due_of : Engine → ℕ → List Cell → ℕ → ℕ → Bool
-due_of balancing k t a b = due k t a b
-due_of conforming k t a b = due k t b a
 
 -- what one split keeps
 abbrev pub Keeps : ℕ → (List Cell → Type 0) → Type 0
@@ -22,8 +19,8 @@ split-if P t c false p f = p
 
 pub step_keeps : (e : Engine) (k : ℕ) (P : List Cell → Type 0) → Keeps k P → (t : List Cell) (a b : ℕ) → a < length t → b < length t → P t → P (step e k t a b)
 unfolding step
-step_keeps balancing k P keep t a b ha hb p = split-if P t b (due k t a b) p (λ d. keep t a b ha hb p d)
-step_keeps conforming k P keep t a b ha hb p = split-if P t a (due k t b a) p (λ d. keep t b a hb ha p d)
+step_keeps Balancing k P keep t a b ha hb p = split-if P t b (due k t a b) p (λ d. keep t a b ha hb p d)
+step_keeps Conforming k P keep t a b ha hb p = split-if P t a (due k t b a) p (λ d. keep t b a hb ha p d)
 
 -- n is the pass's starting count
 module _ (e : Engine) (k n : ℕ) (P : List Cell → Type 0) (keep : Keeps k P) where
@@ -76,10 +73,10 @@ split-if-calm : (u : List Cell) (c : ℕ) (d : Bool) → length (split_if d u c)
 split-if-calm u c true h = let l = length-split u c in absurd (omega arith)
 split-if-calm u c false h = refl
 
-step-calm : (e : Engine) (k : ℕ) (u : List Cell) (a b : ℕ) → length (step e k u a b) ≤ length u → due_of e k u a b ≡ false
+step-calm : (e : Engine) (k : ℕ) (u : List Cell) (a b : ℕ) → length (step e k u a b) ≤ length u → is_due e k u a b ≡ false
 unfolding step
-step-calm balancing k u a b h = split-if-calm u b (due k u a b) h
-step-calm conforming k u a b h = split-if-calm u a (due k u b a) h
+step-calm Balancing k u a b h = split-if-calm u b (due k u a b) h
+step-calm Conforming k u a b h = split-if-calm u a (due k u b a) h
 
 module _ (e : Engine) (k n : ℕ) where
   pub row-grown : (t : List Cell) (a b : ℕ) → a < n → b ≤ n → n ≤ length t → Grown t (row e k t a b)
@@ -97,7 +94,7 @@ module _ (e : Engine) (k n : ℕ) where
       grown-least u (step e k u a b) (step_keeps e k (Grown u) (grown-keeps k u) u a b (omega arith) (omega arith) (inl refl))
 
   row-calm-last : (t : List Cell) (a b : ℕ) → a < n → b < n → n ≤ length t → length (row e k t a (suc b)) ≡ length t
-      → (length (row e k t a b) ≡ length t) × (due_of e k t a b ≡ false)
+      → (length (row e k t a b) ≡ length t) × (is_due e k t a b ≡ false)
   unfolding row
   row-calm-last t a b ha hb h l =
       let u = row e k t a b in
@@ -105,16 +102,16 @@ module _ (e : Engine) (k n : ℕ) where
       let m = grown-least t u g in
       let s = row-suc t a b ha hb h in
       let same : length u ≡ length t = omega arith in
-      (same, subst (λ (x : List Cell). due_of e k x a b ≡ false) (grown-same t u g same) (step-calm e k u a b (omega arith)))
+      (same, subst (λ (x : List Cell). is_due e k x a b ≡ false) (grown-same t u g same) (step-calm e k u a b (omega arith)))
 
-  row_calm : (t : List Cell) (a b : ℕ) → a < n → b ≤ n → n ≤ length t → length (row e k t a b) ≡ length t → (j : ℕ) → j < b → due_of e k t a j ≡ false
+  row_calm : (t : List Cell) (a b : ℕ) → a < n → b ≤ n → n ≤ length t → length (row e k t a b) ≡ length t → (j : ℕ) → j < b → is_due e k t a j ≡ false
   row_calm t a zero ha hb h l j hj = absurd (omega arith)
   row_calm t a (suc b) ha hb h l j hj =
       let c = row-calm-last t a b ha hb h l in
       by_cases (ℕ_discrete j b) (λ q. rw q c.1) (λ q. row_calm t a b ha (omega arith) h c.0 j (omega arith))
 
   rows-calm-last : (t : List Cell) (a : ℕ) → a < n → n ≤ length t → length (rows e k n t (suc a)) ≡ length t
-      → (length (rows e k n t a) ≡ length t) × ((j : ℕ) → j < n → due_of e k t a j ≡ false)
+      → (length (rows e k n t a) ≡ length t) × ((j : ℕ) → j < n → is_due e k t a j ≡ false)
   unfolding rows
   rows-calm-last t a ha h l =
       let u = rows e k n t a in
@@ -123,10 +120,10 @@ module _ (e : Engine) (k n : ℕ) where
       let s = grown-least u (row e k u a n) (row-grown u a n ha (omega arith) (omega arith)) in
       let same : length u ≡ length t = omega arith in (
         same,
-        subst (λ (x : List Cell). (j : ℕ) → j < n → due_of e k x a j ≡ false) (grown-same t u g same) (row_calm u a n ha (omega arith) (omega arith) (omega arith)),
+        subst (λ (x : List Cell). (j : ℕ) → j < n → is_due e k x a j ≡ false) (grown-same t u g same) (row_calm u a n ha (omega arith) (omega arith) (omega arith)),
       )
 
-  pub rows-calm : (t : List Cell) (a : ℕ) → a ≤ n → n ≤ length t → length (rows e k n t a) ≡ length t → (i j : ℕ) → i < a → j < n → due_of e k t i j ≡ false
+  pub rows-calm : (t : List Cell) (a : ℕ) → a ≤ n → n ≤ length t → length (rows e k n t a) ≡ length t → (i j : ℕ) → i < a → j < n → is_due e k t i j ≡ false
   rows-calm t zero ha h l i j hi hj = absurd (omega arith)
   rows-calm t (suc a) ha h l i j hi hj =
       let c = rows-calm-last t a ha h l in

@@ -2,3 +2,4 @@
 pub mod Passes
 pub mod Sweep
 pub mod Names
+pub mod Laws

@@ -6,6 +6,8 @@ use Rattle.std.specs.Prelude.{ℕ, zero, suc, ◌+◌, ◌*◌, ◌-◌, Bool, t
 use Rattle.cell.specs.Boxes.{shares_edge}
 use Rattle.table.specs.Mesh.{Cell, at, split, is_none, is_leaf}
 use Rattle.table.specs.Leaves.{ids_to}
+use Rattle.coarsest.specs.declared.Engine.{Engine}
+use Rattle.coarsest.specs.declared.Engine.TheVariants.{Balancing, Conforming}
 
 -- the leaf C has to be split for the leaf F: F is finer by more than k levels, and they share an edge.
 -- No cell is finer than itself, so this says "other" too
@@ -19,14 +21,16 @@ abbrev pub split_if : Bool → List Cell → ℕ → List Cell
 split_if true t c = split t c
 split_if false t c = t
 
--- which of a pair (a, b) is the coarser one, that is split: b, or a
-pub data Engine : Type 0 where
-  balancing conforming : Engine
-
--- one pair: nothing is done unless both are still leaves. Once a is split no pair of a is due, so that conform takes the next a
+-- one pair (a, b): balance splits b, conform a, and nothing is done unless both are still leaves. Once a is split no pair of a is due,
+-- so that conform takes the next a
 unfoldable pub step : Engine → ℕ → List Cell → ℕ → ℕ → List Cell
-step balancing k t a b = split_if (due k t a b) t b
-step conforming k t a b = split_if (due k t b a) t a
+step Balancing k t a b = split_if (due k t a b) t b
+step Conforming k t a b = split_if (due k t b a) t a
+
+-- whether the pair makes a split
+abbrev pub is_due : Engine → ℕ → List Cell → ℕ → ℕ → Bool
+is_due Balancing k t a b = due k t a b
+is_due Conforming k t a b = due k t b a
 
 -- a with each b of a list, in order; and each a of a list with each of the bs
 unfoldable pub with_each : Engine → ℕ → List Cell → ℕ → List ℕ → List Cell
@@ -73,8 +77,8 @@ evened e k M t = run e k (splits_left M t) t
 
 -- "exceeds by two or more": by more than 1
 unfoldable pub balance : ℕ → List Cell → List Cell
-balance M t = evened balancing 1 M t
+balance M t = evened Balancing 1 M t
 
 -- "coarser": by more than 0
 unfoldable pub conform : ℕ → List Cell → List Cell
-conform M t = evened conforming 0 M t
+conform M t = evened Conforming 0 M t

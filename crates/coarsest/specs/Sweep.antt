@@ -2,7 +2,8 @@
 -- leaf at the pass's start is none later on, and nothing is due for it.
 use Rattle.std.specs.Prelude.{ℕ, zero, suc, Bool, false, ◌||◌, List, [], ◌∷◌, length}
 use Rattle.table.specs.Mesh.{Cell, split}
-use Rattle.coarsest.specs.Passes.{Engine, step}
+use Rattle.coarsest.specs.declared.Engine.{Engine}
+use Rattle.coarsest.specs.Passes.{step}
 
 -- the table after the pairs (a, 0) to (a, b - 1)
 unfoldable pub row : Engine → ℕ → List Cell → ℕ → ℕ → List Cell

@@ -2,13 +2,15 @@
 -- than slots, and what is not well formed has none to keep. Assumes nothing.
 use Rattle.std.proofs.Common.{ℕ, ◌+◌, ◌*◌, ◌-◌, ◌/◌, ◌<◌, ◌≤◌, ◌≡◌, refl, sym, ap, subst, ◌∙◌, List, [], ◌∷◌, arith, ℤ, length}
 use Rattle.refusals.specs.Said.{accepted, refused}
+use Rattle.table.specs.declared.Head.{Head}
 use Rattle.table.specs.Mesh.{table}
 use Rattle.table.specs.Formed.{WellFormed}
 use Rattle.table.proofs.Cells.{length-table}
-use Rattle.coarsest.specs.Passes.{Engine, evened}
+use Rattle.coarsest.specs.declared.Engine.{Engine}
+use Rattle.coarsest.specs.Passes.{evened}
 use Rattle.coarsest.specs.Names.{Evens}
 use Rattle.coarsest.proofs.Kept.{evened-quarter}
-use Rattle.coarsest.proofs.Laws.{evened-evens, evened-needs, needs-one}
+use Rattle.coarsest.proofs.Ends.{evened-evens, evened-needs, needs-one}
 use Rattle.coarsest.proofs.Room.{over-needs, needs-over}
 use Rattle.even.specs.Even.{EndsCoarsest}
 
@@ -18,14 +20,20 @@ not-refused vs n p e = let z : ◌≡◌ {A = ℕ} 0 1 = cc in omega arith
 count-is : (a b c d M : ℕ) → accepted (a ∷ b ∷ M ∷ []) ≡ accepted (c ∷ d ∷ M ∷ []) → (a ≡ c) × (b ≡ d)
 count-is a b c d M e = (cc, cc)
 
-module _ (e : Engine) (k M : ℕ) (t u : List ℤ) (n : ℕ) (w : WellFormed t n M) where
+module _ (e : Engine) (k : ℕ) (head : Head) (t u : List ℤ) (w : WellFormed t head.count head.max_level) where
+  abbrev n : ℕ
+  n = head.count
+
+  abbrev M : ℕ
+  M = head.max_level
+
   pub grown-by : (r : ℕ) → table u r ≡ evened e k M (table t n) → r ≡ n + 4 * ((r - n) / 4)
   grown-by r c =
       let q = evened-quarter e k M (table t n) w.cells in
       omega (arith, q, ap length (sym c), length-table u r, length-table t n)
 
   pub ends-done : (r : ℕ) → table u r ≡ evened e k M (table t n) → r ≤ length t / 8
-      → EndsCoarsest k M t u n (accepted ((r - n) / 4 ∷ r ∷ M ∷ []))
+      → EndsCoarsest k head t u (accepted ((r - n) / 4 ∷ r ∷ M ∷ []))
   ends-done r c room =
       let l : r ≡ length (evened e k M (table t n)) = sym (length-table u r) ∙ ap length c in
       record {
@@ -42,7 +50,7 @@ module _ (e : Engine) (k M : ℕ) (t u : List ℤ) (n : ℕ) (w : WellFormed t n
         over = λ f cells needs h. absurd (let q = needs-over e k (table t n) M w.cells (length t / 8) cells needs h in omega arith);
       }
 
-  pub ends-full : length t / 8 < length (evened e k M (table t n)) → u ≡ t → EndsCoarsest k M t u n (refused 6 0)
+  pub ends-full : length t / 8 < length (evened e k M (table t n)) → u ≡ t → EndsCoarsest k head t u (refused 6 0)
   ends-full h same =
       record {
         exists = λ f. (length (evened e k M (table t n)), evened-needs e k M (table t n) w.cells);
@@ -52,11 +60,11 @@ module _ (e : Engine) (k M : ℕ) (t u : List ℤ) (n : ℕ) (w : WellFormed t n
         bad = λ f. absurd (f w);
       }
 
-pub ends-bad : (k M : ℕ) (t : List ℤ) (n : ℕ) → (WellFormed t n M → ⊥) → EndsCoarsest k M t t n (refused 7 0)
-ends-bad k M t n bad =
+pub ends-bad : (k : ℕ) (head : Head) (t : List ℤ) → (WellFormed t head.count head.max_level → ⊥) → EndsCoarsest k head t t (refused 7 0)
+ends-bad k head t bad =
     record {
       exists = λ f. absurd (bad f);
-      done = λ splits count s. absurd (not-refused (splits ∷ count ∷ M ∷ []) 7 0 (sym s));
+      done = λ splits count s. absurd (not-refused (splits ∷ count ∷ head.max_level ∷ []) 7 0 (sym s));
       fits = λ f cells needs h. absurd (bad f);
       over = λ f cells needs h. absurd (bad f);
       bad = λ f. (refl, refl);

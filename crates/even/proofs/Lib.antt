@@ -2,9 +2,10 @@
 pub mod Pairs
 pub mod Rowing
 pub mod Undoing
+pub mod Going
 pub mod Turns
-pub mod Descents
-pub mod Watching
+pub mod Asking
 pub mod Passing
+pub mod Watching
 pub mod Ending
 pub mod One

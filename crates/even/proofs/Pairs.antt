@@ -2,7 +2,7 @@
 use Rattle.std.proofs.Common.{ℕ, zero, suc, ◌<◌, ◌≤◌, ◌≡◌, refl, sym, ap, Bool, true, false, ◌||◌, ⊎_elim, arith}
 use Rattle.table.proofs.All.{top?}
 use Rattle.coarsest.specs.Sweep.{any_to}
-use Rattle.descent.specs.Search.{Found}
+use Rattle.search.specs.Search.{Found}
 
 -- a test of all below a bound
 pub no_true : (b : Bool) → (b ≡ true → ⊥) → b ≡ false

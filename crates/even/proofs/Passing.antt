@@ -1,110 +1,100 @@
 -- The turns of a pass, and of the passes. Assumes nothing.
-use Rattle.std.proofs.Common.{ℕ, suc, ◌+◌, ◌-◌, ◌/◌, ◌<◌, ◌≤◌, ◌≡◌, refl, sym, ap, subst, ◌∙◌, List, arith, add-one, ℤ, length, Some, None}
-use Rattle.table.specs.Mesh.{Cell, table}
+use Rattle.std.proofs.Common.{ℕ, ◌+◌, ◌<◌, ◌≤◌, ◌≡◌, refl, sym, ap, ap₂, subst, ◌∙◌, false, List, arith, length, Ok, Err}
+use Rattle.refusals.specs.declared.Refusal.{Refusal}
+use Rattle.table.specs.Mesh.{Cell}
 use Rattle.table.specs.Formed.{Formed}
-use Rattle.table.proofs.Cells.{length-table}
-use Rattle.coarsest.specs.Passes.{Engine, pass, evened, splits_left}
-use Rattle.coarsest.specs.Sweep.{row, rows, sweep}
-use Rattle.coarsest.proofs.Loops.{row-most, rows-most}
-use Rattle.coarsest.proofs.Passes.{sweep-pass, pass-grown, pass_same}
+use Rattle.coarsest.specs.declared.Engine.{Engine}
+use Rattle.coarsest.specs.Passes.{is_due, pass, evened, splits_left}
+use Rattle.coarsest.specs.Sweep.{row, rows}
+use Rattle.coarsest.proofs.Passes.{pass-grown, pass_same}
+use Rattle.coarsest.proofs.Settled.{settled}
 use Rattle.coarsest.proofs.Evened.{pass-formed, pass-left, evened-stop, evened-pass, evened-grown}
-use Rattle.even.specs.Parts.{Grew}
-use Rattle.even.proofs.Turns.{On, on-as, on_then, on-length}
+use Rattle.table.specs.declared.edit.TableMut.{TableMut}
+use Rattle.table.specs.TablesMut.{cells_mut}
+use Rattle.search.specs.declared.roots.Roots.{Roots}
+use Rattle.search.specs.Roots.{Indexes}
+use Rattle.even.specs.Makes.{GoesOn, Makes}
+use Rattle.even.proofs.Going.{On, on-as, on-makes, on_then, full_then, goes_then, formed_of, length-of}
+use Rattle.even.proofs.Turns.{rows_next, rows-room}
 
--- what grew within the slots
-pub grew-on : (M : ℕ) (what : List Cell) (t u : List ℤ) (n r : ℕ) → Grew M what t u n (Some r) → n ≤ length what → On M what t u n r
-grew-on M what t u n r g l =
-    let c = ap length (sym (g.cells r refl)) ∙ length-table u r in
-    record { formed = g.formed r refl; cells = g.cells r refl; size = g.size; more = omega arith; back = g.back }
+-- u came from s by the rows before a's
+module _ (e : Engine) (k : ℕ) (s u : TableMut) (a : ℕ) (o : On (rows e k s.head.count (cells_mut s) a) s u) (h : a < s.head.count) where
+  abbrev n : ℕ
+  n = s.head.count
 
--- what outgrew them, and so does whatever has as many cells
-pub over-then : (M : ℕ) (mid goal final : List Cell) (t u v : List ℤ) (n r : ℕ) → On M mid t u n r → Grew M goal u v r None
-    → (length t / 8 < length goal → length t / 8 < length final) → Grew M final t v n None
-over-then M mid goal final t u v n r o g more =
-    let a = o.more in
-    let e = o.size in
-    let f : length t / 8 < length goal = subst (λ (x : ℕ). x / 8 < length goal) e (g.full refl) in
-    record {
-      formed = λ q e. (cc);
-      cells = λ q e. (cc);
-      full = λ l. more f;
-      size = g.size ∙ e;
-      back = λ m l. g.back m (omega arith) ∙ o.back m l;
-    }
+  module _ (v : TableMut) where
+    pub pass-next : {A : Type 0} (y : A) → Makes (row e k (cells_mut u) a n) u v {A = A} (Ok y) → On (rows e k n (cells_mut s) (a + 1)) s v
+    pass-next y m =
+        on-as (rows_next e k (cells_mut s) (cells_mut u) n a o.cells)
+        (on_then (rows e k n (cells_mut s) a) (row e k (cells_mut u) a n) (cells_mut u) s u v o y m)
 
-module _ (e : Engine) (k M : ℕ) (t : List ℤ) (n : ℕ) where
-  pub rows_pass : rows e k n (table t n) n ≡ pass e k (table t n)
-  unfolding sweep
-  rows_pass = ap (λ (x : ℕ). rows e k x (table t n) x) (sym (length-table t n)) ∙ sweep-pass e k (table t n)
+    pub pass-full : {A B : Type 0} (w : Refusal) → Makes (row e k (cells_mut u) a n) u v {A = A} (Err w)
+        → Makes (pass e k (cells_mut s)) s v {A = B} (Err w)
+    pass-full w m =
+        full_then (rows e k n (cells_mut s) a) (row e k (cells_mut u) a n) (pass e k (cells_mut s)) s u v o w m
+        (rows-room e k (cells_mut s) (cells_mut u) n a (length-of s) h o.cells)
 
-  pub rows_none : rows e k n (table t n) 0 ≡ table t n
-  unfolding rows
-  rows_none = refl
+-- u came from s by passes, and leads to the same end
+module _ (e : Engine) (k : ℕ) (s u : TableMut) (g : GoesOn s u)
+    (same : evened e k s.head.max_level (cells_mut u) ≡ evened e k s.head.max_level (cells_mut s)) where
+  abbrev M : ℕ
+  M = s.head.max_level
 
-  -- a's row of pairs after the rows below it
-  row_next : (u : List ℤ) (r a : ℕ) → table u r ≡ rows e k n (table t n) a → row e k (table u r) a n ≡ rows e k n (table t n) (suc a)
-  unfolding rows
-  row_next u r a c = ap (λ (x : List Cell). row e k x a n) c
+  formed : Formed M (cells_mut u)
+  formed = subst (λ (m : ℕ). Formed m (cells_mut u)) g.max_level (formed_of u)
 
-  module _ (u : List ℤ) (r a : ℕ) (o : On M (rows e k n (table t n) a) t u n r) (h : a < n) where
-    row-least : r ≤ length (row e k (table u r) a n)
-    unfolding row
-    row-least =
-        let l = o.more in
-        let m = row-most e k n (table u r) a 0 n h (omega arith) (rw (length-table u r) l) in
-        let z : 0 + n ≡ n = omega arith in
-        omega (arith, length-table u r, ap (λ (x : ℕ). length (row e k (table u r) a x)) z)
+  -- the end after one pass more
+  on-end : evened e k M (pass e k (cells_mut u)) ≡ evened e k M (cells_mut s)
+  on-end = evened-pass e k M (cells_mut u) formed ∙ same
 
-    pub pass-turn : (v : List ℤ) (s : ℕ) → Grew M (row e k (table u r) a n) u v r (Some s) → On M (rows e k n (table t n) (a + 1)) t v n s
-    pass-turn v s g =
-        on-as M (row e k (table u r) a n) (rows e k n (table t n) (a + 1)) t v n s
-        (row_next u r a o.cells ∙ ap (rows e k n (table t n)) (sym (add-one a)))
-        (on_then M (rows e k n (table t n) a) (row e k (table u r) a n) t u v n r s o
-        (grew-on M (row e k (table u r) a n) u v r s g row-least))
+  arrived : On (cells_mut u) s u
+  arrived = record { goes_on = g; cells = refl }
 
-    pub pass-over : (v : List ℤ) → Grew M (row e k (table u r) a n) u v r None → Grew M (pass e k (table t n)) t v n None
-    pass-over v g =
-        over-then M (rows e k n (table t n) a) (row e k (table u r) a n) (pass e k (table t n)) t u v n r o g
-        (λ l.
-        let q : suc a + (n - suc a) ≡ n = omega arith in
-        let m = rows-most e k n (table t n) (suc a) (n - suc a) (omega arith) (rw (length-table t n) (omega arith)) in
-        omega (arith, ap length (row_next u r a o.cells), ap (λ (x : ℕ). length (rows e k n (table t n) x)) q, ap length rows_pass))
+  module _ (v : TableMut) where
+    pub passes-full : {A B : Type 0} (w : Refusal) → Makes (pass e k (cells_mut u)) u v {A = A} (Err w)
+        → Makes (evened e k M (cells_mut s)) s v {A = B} (Err w)
+    passes-full w m =
+        full_then (cells_mut u) (pass e k (cells_mut u)) (evened e k M (cells_mut s)) s u v arrived w m
+        (omega (arith, evened-grown e k M (pass e k (cells_mut u)) (pass-formed e k M (cells_mut u) formed), ap length on-end))
 
--- ---- the passes
+    module _ {A : Type 0} (y : A) (m : Makes (pass e k (cells_mut u)) u v {A = A} (Ok y)) where
+      pub passes-goes : GoesOn s v
+      passes-goes = goes_then s u v g m.goes_on
 
-module _ (e : Engine) (k M : ℕ) (t u : List ℤ) (n r : ℕ) (what : List Cell) (o : On M what t u n r)
-    (same : evened e k M what ≡ evened e k M (table t n)) where
-  abbrev T : List Cell
-  T = table u r
+      pub passes-same : evened e k M (cells_mut v) ≡ evened e k M (cells_mut s)
+      passes-same = ap (evened e k M) m.cells ∙ on-end
 
-  goal-same : evened e k M T ≡ evened e k M (table t n)
-  goal-same = ap (evened e k M) o.cells ∙ same
+      lengths : length (pass e k (cells_mut u)) ≡ v.head.count
+      lengths = ap length (sym m.cells) ∙ length-of v
 
-  formed : Formed M T
-  formed = o.formed.cells
+      -- a pass without a split is the last
+      pub passes-done : v.head.count ≡ u.head.count → On (evened e k M (cells_mut s)) s v
+      passes-done q =
+          let d : length (pass e k (cells_mut u)) ≡ length (cells_mut u) = lengths ∙ q ∙ sym (length-of u) in
+          record {
+            goes_on = passes-goes;
+            cells = m.cells ∙ pass_same e k (cells_mut u) d ∙ sym (evened-stop e k M (cells_mut u) formed d) ∙ same;
+          }
 
-  pub evened-over : (v : List ℤ) → Grew M (pass e k T) u v r None → Grew M (evened e k M (table t n)) t v n None
-  evened-over v g =
-      over-then M what (pass e k T) (evened e k M (table t n)) t u v n r o g
-      (λ l. let m = evened-grown e k M (pass e k T) (pass-formed e k M T formed) in
-      omega (arith, ap length (evened-pass e k M T formed), ap length goal-same))
+      -- and one with a split leaves fewer
+      pub passes-left : (v.head.count ≡ u.head.count → ⊥)
+          → splits_left v.head.max_level (cells_mut v) < splits_left u.head.max_level (cells_mut u)
+      passes-left ne =
+          let p = pass-grown e k (cells_mut u) in
+          let l = pass-left e k M (cells_mut u) formed (omega (arith, length-of u, lengths)) in
+          omega (
+            arith,
+            l,
+            ap₂ splits_left m.goes_on.max_level m.cells,
+            ap (λ (x : ℕ). splits_left x (pass e k (cells_mut u))) g.max_level,
+            ap (λ (x : ℕ). splits_left x (cells_mut u)) g.max_level,
+          )
 
-  pub evened-same : evened e k M (pass e k T) ≡ evened e k M (table t n)
-  evened-same = evened-pass e k M T formed ∙ goal-same
+      -- the cells of its start are settled
+      pub passes-settled : (t : List Cell) → t ≡ cells_mut v → (a b : ℕ) → a < u.head.count → b < u.head.count → is_due e k t a b ≡ false
+      passes-settled t q a b ha hb =
+          ap (λ (t : List Cell). is_due e k t a b) (q ∙ m.cells) ∙ settled e k (cells_mut u) a b (rw length-of ha) (rw length-of hb)
 
-  module _ (v : List ℤ) (s : ℕ) (g : Grew M (pass e k T) u v r (Some s)) where
-    pub evened-turn : On M (pass e k T) t v n s
-    evened-turn =
-        on_then M what (pass e k T) t u v n r s o
-        (grew-on M (pass e k T) u v r s g (let p = pass-grown e k T in omega (arith, length-table u r)))
-
-    lengths : length (pass e k T) ≡ s
-    lengths = on-length M (pass e k T) t v n s evened-turn
-
-    pub evened-less : (s ≡ r → ⊥) → splits_left M (pass e k T) < splits_left M T
-    evened-less ne = let p = pass-grown e k T in pass-left e k M T formed (omega (arith, length-table u r, lengths))
-
-    pub evened-done : s ≡ r → pass e k T ≡ evened e k M (table t n)
-    evened-done q =
-        let d : length (pass e k T) ≡ length T = lengths ∙ q ∙ sym (length-table u r) in
-        pass_same e k T d ∙ sym (evened-stop e k M T formed d) ∙ goal-same
+-- the roots of a table that is indexed
+pub roots-inside : (r : Roots) (u : TableMut) → Indexes r (cells_mut u) → r.end ≤ u.head.count
+roots-inside r u x = omega (arith, x.inside, length-of u)

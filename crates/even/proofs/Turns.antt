@@ -1,144 +1,88 @@
--- The turns of the engine's loops: a row that holds certain cells, and what a split and the end of the room do to it. Assumes nothing.
-use Rattle.std.proofs.Common.{ℕ, suc, ◌+◌, ◌-◌, ◌/◌, ◌<◌, ◌≤◌, ◌≡◌, refl, sym, ap, subst, ◌∙◌, true, Option, None, Some, List, arith, add-one, eqb, ℤ, length}
-use Rattle.cell.specs.Cells.{no_cell}
-use Rattle.table.specs.Slots.{cell_at}
-use Rattle.table.specs.Mesh.{Cell, at, table, split, is_none, is_leaf}
-use Rattle.table.specs.Formed.{WellFormed}
-use Rattle.table.specs.Leaves.{leaf_at}
-use Rattle.table.specs.Refine.{split_row}
-use Rattle.table.proofs.Cells.{length-table, at_table}
-use Rattle.table.proofs.Splits.{split-table, refine-keeps, length-split_row}
-use Rattle.coarsest.specs.Passes.{Engine, due}
-use Rattle.coarsest.specs.Sweep.{row}
-use Rattle.coarsest.proofs.Pair.{leaf-is}
-use Rattle.coarsest.proofs.Least.{due-of}
-use Rattle.table.proofs.Meshes.{length-split}
-use Rattle.coarsest.proofs.Sweep.{due_of}
-use Rattle.coarsest.proofs.Loops.{coarser, row-due, row-most}
-use Rattle.even.specs.Undo.{undone}
-use Rattle.even.specs.Parts.{Grew, Rowed}
-use Rattle.even.proofs.Undoing.{undone-split}
+-- The turns of the loops over rows of pairs, said of the cells. Assumes nothing.
+use Rattle.std.proofs.Common.{ℕ, zero, suc, ◌+◌, ◌-◌, ◌<◌, ◌≤◌, ◌≡◌, refl, sym, ap, ◌∙◌, Bool, true, false, List, arith, add-zero, add-suc, add-one, length}
+use mathlib.Core.Logic.{by_cases}
+use native.Mathlib.Decide.{dec_lt}
+use Rattle.table.specs.Mesh.{Cell, split}
+use Rattle.coarsest.specs.declared.Engine.{Engine}
+use Rattle.coarsest.specs.declared.Engine.TheVariants.{Balancing, Conforming}
+use Rattle.coarsest.specs.Passes.{due, split_if, pass}
+use Rattle.coarsest.specs.Sweep.{row, rows, sweep}
+use Rattle.coarsest.proofs.Loops.{row-skip, row-due, row-most, rows-most}
+use Rattle.coarsest.proofs.Passes.{sweep-pass}
+use Rattle.coarsest.proofs.Rows.{conform-row}
+use Rattle.search.specs.Search.{Least, Found}
+use Rattle.even.proofs.Pairs.{no_true, found-any}
 
--- the row u of r cells holds the cells `what`, and came from the row t of n cells by splits
-pub record On (M : ℕ) (what : List Cell) (t u : List ℤ) (n r : ℕ) : Type 0 where
-  pub formed : WellFormed u r M
-  pub cells : table u r ≡ what
-  pub size : length u ≡ length t
-  pub more : n ≤ r
-  pub back : (m : ℕ) → m ≤ n → undone m u ≡ undone m t
+row-to : (k : ℕ) (T : List Cell) (a b d : ℕ) → ((j : ℕ) → b ≤ j → j < b + d → due k (row Balancing k T a b) a j ≡ false)
+    → row Balancing k T a (b + d) ≡ row Balancing k T a b
+row-to k T a b zero h = ap (row Balancing k T a) (add-zero b)
+row-to k T a b (suc d) h =
+    let r = row-to k T a b d (λ j l m. h j l (omega arith)) in
+    ap (row Balancing k T a) (add-suc b d)
+    ∙ row-skip Balancing k T a (b + d) (ap (λ (x : List Cell). due k x a (b + d)) r ∙ h (b + d) (omega arith) (omega arith))
+    ∙ r
 
-pub on-start : (M : ℕ) (t : List ℤ) (n : ℕ) → WellFormed t n M → On M (table t n) t t n n
-on-start M t n w = record { formed = w; cells = refl; size = refl; more = omega arith; back = λ m h. refl }
+-- balance: the cells u are what a's pairs before b make, and c is the least due from b on
+module _ (k : ℕ) (T u : List Cell) (n a b stop c : ℕ) (here : u ≡ row Balancing k T a b) (hb : b ≤ stop) (hs : stop ≤ n)
+    (x : Least (due k u a) (λ (i : ℕ). i < n) b stop c) where
+  first : b ≤ c
+  first = by_cases (dec_lt c stop) (λ l. (x.found l).0) (λ l. (let m = x.most in omega arith))
 
-pub on_grew : (M : ℕ) (what : List Cell) (t u : List ℤ) (n r : ℕ) → On M what t u n r → Grew M what t u n (Some r)
-on_grew M what t u n r o =
-    record {
-      formed = λ q e. subst (λ (x : ℕ). WellFormed u x M) (cc) o.formed;
-      cells = λ q e. subst (λ (x : ℕ). table u x ≡ what) (cc) o.cells;
-      full = λ e. (cc);
-      size = o.size;
-      back = o.back;
-    }
+  -- the pairs before c split nothing
+  row-next : u ≡ row Balancing k T a c
+  row-next =
+      let f = first in
+      let m = x.most in
+      let e : b + (c - b) ≡ c = omega arith in
+      here
+      ∙ sym (row-to k T a b (c - b) (λ j l h. no_true (due k (row Balancing k T a b) a j)
+      (λ d. (let g = x.least j (omega arith) l (ap (λ (y : List Cell). due k y a j) here ∙ d) in omega arith))))
+      ∙ ap (row Balancing k T a) e
 
--- the cells are as many as the count
-pub on-length : (M : ℕ) (what : List Cell) (t u : List ℤ) (n r : ℕ) → On M what t u n r → length what ≡ r
-on-length M what t u n r o = ap length (sym o.cells) ∙ length-table u r
+  pub row-ended : stop ≤ c → u ≡ row Balancing k T a stop
+  row-ended h =
+      let m = x.most in
+      let e : c ≡ stop = omega arith in
+      row-next ∙ ap (row Balancing k T a) e
 
--- no room for what is to be done
-pub on-full : (M : ℕ) (what goal : List Cell) (t u : List ℤ) (n r : ℕ) → On M what t u n r → length t / 8 < length goal → Grew M goal t u n None
-on-full M what goal t u n r o h =
-    record { formed = λ q e. (cc); cells = λ q e. (cc); full = λ e. h; size = o.size; back = o.back }
+  module _ (h : c < stop) where
+    pub row-split : split u c ≡ row Balancing k T a (c + 1)
+    row-split =
+        let asks : due k (row Balancing k T a c) a c ≡ true = ap (λ (y : List Cell). due k y a c) (sym row-next) ∙ (x.found h).1 in
+        ap (λ (y : List Cell). split y c) row-next ∙ sym (ap (row Balancing k T a) (add-one c) ∙ row-due Balancing k T a c asks)
 
--- other names for the same cells
-pub on-as : (M : ℕ) (what other : List Cell) (t u : List ℤ) (n r : ℕ) → what ≡ other → On M what t u n r → On M other t u n r
-on-as M what other t u n r e o = record { formed = o.formed; cells = o.cells ∙ e; size = o.size; more = o.more; back = o.back }
+    -- the row ends in no fewer cells
+    pub row-room : a < stop → stop ≤ length T → length (split u c) ≤ length (row Balancing k T a stop)
+    row-room ha l =
+        let q : c + 1 + (stop - (c + 1)) ≡ stop = omega arith in
+        let m = row-most Balancing k stop T a (c + 1) (stop - (c + 1)) ha (omega arith) l in
+        omega (arith, ap length row-split, ap (λ (y : ℕ). length (row Balancing k T a y)) q)
 
--- a row of pairs that splits nothing
-pub still : (e : Engine) (k M : ℕ) (t : List ℤ) (n a stop : ℕ) → WellFormed t n M → row e k (table t n) a stop ≡ table t n
-    → Rowed e k M t t n a stop (Some n)
-still e k M t n a stop w same = on_grew _ _ _ _ _ _ (on-as _ _ _ _ _ _ _ (sym same) (on-start _ _ _ w))
+-- conform: a's row by whether anybody asks for a
+pub row-asked : (k : ℕ) (T : List Cell) (n a stop : ℕ) (r v : Bool) → a < length T → stop ≤ n
+    → Found (λ (b : ℕ). due k T b a) (λ (b : ℕ). b < n) stop r → r ≡ v → row Conforming k T a stop ≡ split_if v T a
+row-asked k T n a stop r v ha hs x e =
+    conform-row k T a ha stop
+    ∙ ap (λ (b : Bool). split_if b T a) (sym (found-any (λ (b : ℕ). due k T b a) n stop r hs x) ∙ e)
 
--- what grew from a row that grew
-pub on_then : (M : ℕ) (mid goal : List Cell) (t u v : List ℤ) (n r s : ℕ) → On M mid t u n r → On M goal u v r s → On M goal t v n s
-on_then M mid goal t u v n r s o p =
-    let a = o.more in
-    let b = p.more in
-    record { formed = p.formed; cells = p.cells; size = p.size ∙ o.size; more = omega arith; back = λ m h. p.back m (omega arith) ∙ o.back m h }
+-- a pass by its rows
+module _ (e : Engine) (k : ℕ) (T : List Cell) where
+  pub rows-pass : (n : ℕ) → length T ≡ n → rows e k n T n ≡ pass e k T
+  unfolding sweep
+  rows-pass n l = ap (λ (x : ℕ). rows e k x T x) (sym l) ∙ sweep-pass e k T
 
-none-leaf : (u : List ℤ) (r c : ℕ) → c < r → (at (table u r) c).kids ≡ None → leaf_at u c ≡ true
-unfolding leaf_at
-none-leaf u r c h e = sym (leaf-is (cell_at u c).first) ∙ ap (λ (x : Cell). is_none x.kids) (sym (at_table u r c h)) ∙ ap is_none e
+  pub rows_none : (n : ℕ) → rows e k n T 0 ≡ T
+  unfolding rows
+  rows_none n = refl
 
-module _ (M : ℕ) (what : List Cell) (t u : List ℤ) (n r : ℕ) (o : On M what t u n r) (c : ℕ) (inside : c < r)
-    (leaf : (at what c).kids ≡ None) (finer : (at what c).level < M) where
-  leaf-row : leaf_at u c ≡ true
-  leaf-row = none-leaf u r c inside (ap (λ (x : List Cell). (at x c).kids) o.cells ∙ leaf)
+  -- a's row of pairs after the rows before it
+  pub rows_next : (u : List Cell) (n a : ℕ) → u ≡ rows e k n T a → row e k u a n ≡ rows e k n T (a + 1)
+  unfolding rows
+  rows_next u n a c = ap (λ (x : List Cell). row e k x a n) c ∙ sym (ap (rows e k n T) (add-one a))
 
-  pub finer-row : (cell_at u c).level < M
-  finer-row =
-      subst (λ (l : ℕ). l < M)
-      (ap (λ (x : List Cell). (at x c).level) (sym o.cells) ∙ ap (λ (x : Cell). x.level) (at_table u r c inside)) finer
-
-  pub on-split : r + 4 ≤ length t / 8 → On M (split what c) t (split_row u r c) n (r + 4)
-  on-split room =
-      let here : r + 4 ≤ length u / 8 = subst (λ (x : ℕ). r + 4 ≤ x / 8) (sym o.size) room in
-      let g = o.more in
-      record {
-        formed = refine-keeps u r M c o.formed inside leaf-row finer-row here;
-        cells = split-table u r M c o.formed inside leaf-row finer-row here ∙ ap (λ (x : List Cell). split x c) o.cells;
-        size = length-split_row u r c ∙ o.size;
-        more = omega arith;
-        back = λ m h. undone-split u r M c m o.formed inside leaf-row here (omega arith) ∙ o.back m h;
-      }
-
--- the coarser cell of a pair that is due can be split
-module _ (e : Engine) (k M : ℕ) (T : List Cell) (t u : List ℤ) (n r a b : ℕ) (o : On M (row e k T a b) t u n r) (ha : a < r) (hb : b < r) where
-  both : coarser e a b < r
-  both = by e
-    where
-      by : (d : Engine) → coarser d a b < r
-      by Rattle.coarsest.specs.Passes.balancing = hb
-      by Rattle.coarsest.specs.Passes.conforming = ha
-
-  finer-of : (f c : ℕ) → f < r → due k (row e k T a b) f c ≡ true → (at (row e k T a b) c).level < M
-  finer-of f c h d =
-      let w = due-of k (row e k T a b) f c d in
-      let l = o.formed.level f h in
-      let s : (at (row e k T a b) f).level ≡ (cell_at u f).level =
-      ap (λ (x : List Cell). (at x f).level) (sym o.cells) ∙ ap (λ (x : Cell). x.level) (at_table u r f h) in
-      omega (arith, w.apart)
-
-  abbrev Ready : Type 0
-  Ready = ((at (row e k T a b) (coarser e a b)).kids ≡ None) × ((at (row e k T a b) (coarser e a b)).level < M)
-
-  pub ready : due_of e k (row e k T a b) a b ≡ true → Ready
-  ready = by e refl
-    where
-      by : (d : Engine) → d ≡ e → due_of d k (row e k T a b) a b ≡ true → ((at (row e k T a b) (coarser d a b)).kids ≡ None) × ((at (row e k T a b) (coarser d a b)).level < M)
-      by Rattle.coarsest.specs.Passes.balancing q d = ((due-of k (row e k T a b) a b d).coarse, finer-of a b ha d)
-      by Rattle.coarsest.specs.Passes.conforming q d = ((due-of k (row e k T a b) b a d).coarse, finer-of b a hb d)
-
-  pub turn-split : due_of e k (row e k T a b) a b ≡ true → r + 4 ≤ length t / 8 → On M (row e k T a (b + 1)) t (split_row u r (coarser e a b)) n (r + 4)
-  turn-split d room =
-      let w = ready d in
-      on-as M (split (row e k T a b) (coarser e a b)) (row e k T a (b + 1)) t (split_row u r (coarser e a b)) n (r + 4)
-      (sym (ap (row e k T a) (add-one b) ∙ row-due e k T a b d))
-      (on-split M (row e k T a b) t u n r o (coarser e a b) both w.0 w.1 room)
-
-  pub turn-full : (stop : ℕ) → a < stop → b < stop → stop ≤ length T → due_of e k (row e k T a b) a b ≡ true → length t / 8 < r + 4
-      → Grew M (row e k T a stop) t u n None
-  turn-full stop la lb ls d full =
-      let s : length (row e k T a (suc b)) ≡ r + 4 =
-      ap length (row-due e k T a b d) ∙ length-split (row e k T a b) (coarser e a b) ∙ ap (λ (x : ℕ). x + 4) (on-length M (row e k T a b) t u n r o) in
-      let q : suc b + (stop - suc b) ≡ stop = omega arith in
-      let m = row-most e k stop T a (suc b) (stop - suc b) la (omega arith) ls in
-      let g = ap (λ (x : ℕ). length (row e k T a x)) q in
-      on-full M (row e k T a b) (row e k T a stop) t u n r o (omega arith)
-
--- whether a slot's cell is a leaf, in the table that the row holds
-pub kids-of : (t : List ℤ) (n i : ℕ) → i < n → is_leaf (table t n) i ≡ eqb (cell_at t i).first no_cell
-kids-of t n i h = ap (λ (x : Cell). is_none x.kids) (at_table t n i h) ∙ leaf-is (cell_at t i).first
-
-pub none_of : (o : Option ℕ) → is_none o ≡ true → o ≡ None
-none_of None e = refl
-none_of (Some f) e = let z : ◌≡◌ {A = ℕ} 0 1 = cc in absurd (omega arith)
+  -- the pass ends in no fewer cells
+  pub rows-room : (u : List Cell) (n a : ℕ) → length T ≡ n → a < n → u ≡ rows e k n T a → length (row e k u a n) ≤ length (pass e k T)
+  rows-room u n a l h c =
+      let q : a + 1 + (n - (a + 1)) ≡ n = omega arith in
+      let m = rows-most e k n T (a + 1) (n - (a + 1)) (omega arith) (omega arith) in
+      omega (arith, ap length (rows_next u n a c), ap (λ (x : ℕ). length (rows e k n T x)) q, ap length (rows-pass n l))

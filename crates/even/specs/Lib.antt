@@ -1,6 +1,7 @@
 -- Balance and conform on a lent table.
 pub mod Rows
 pub mod Undo
-pub mod Parts
-pub mod Even
+pub mod Makes
 pub mod Watch
+pub mod Even
+pub mod Laws

@@ -1,33 +1,31 @@
--- Which rows a pass has to look at: a mark for each eight ids, set wherever a pair of the row can be due.
-use Rattle.std.specs.Prelude.{ℕ, ◌+◌, ◌<◌, ◌≤◌, ◌≡◌, Bool, true, false, List, length, get_or}
+-- Which rows a pass has to look at: those with a mark, which is set wherever a pair of the row can be due.
+use Rattle.std.specs.Prelude.{ℕ, ◌+◌, ◌<◌, ◌≤◌, Bool, IsTrue, IsFalse, List, length}
 use Rattle.table.specs.Mesh.{Cell}
-use Rattle.coarsest.specs.Passes.{Engine, balancing, conforming}
-use Rattle.coarsest.proofs.Sweep.{due_of}
-use Rattle.descent.specs.Marks.{mark_at}
+use Rattle.coarsest.specs.declared.Engine.{Engine}
+use Rattle.coarsest.specs.declared.Engine.TheVariants.{Balancing, Conforming}
+use Rattle.coarsest.specs.Passes.{is_due}
+use Rattle.search.specs.declared.marks.Marks.{Marks}
+use Rattle.search.specs.Marks.{mark_at}
+use Rattle.even.specs.declared.evener.Evener.{Evener}
+
+-- whether the pair (a, b) has a split
+abbrev pub pair_due : Evener → List Cell → ℕ → ℕ → Bool
+pair_due s t a b = is_due s.engine s.difference t a b
 
 -- each row with a pair that is due has a mark
-abbrev pub Watched : Engine → ℕ → List Bool → List Cell → ℕ → Type 0
-Watched e k marks t n = (a b : ℕ) → a < n → b < n → due_of e k t a b ≡ true → mark_at marks a ≡ true
+abbrev pub Watched : Evener → List Cell → Marks → Type 0
+Watched s t marks = (a b : ℕ) → a < length t → b < length t → IsTrue (pair_due s t a b) → IsTrue (mark_at marks a)
 
 -- no pair of the first n cells is due
-abbrev pub Settled : Engine → ℕ → List Cell → ℕ → Type 0
-Settled e k t n = (a b : ℕ) → a < n → b < n → due_of e k t a b ≡ false
-
--- no id from a below r has a mark
-abbrev pub Unmarked : List Bool → ℕ → ℕ → Type 0
-Unmarked marks a r = (i : ℕ) → a ≤ i → i < r → mark_at marks i ≡ false
+abbrev pub Settled : Evener → List Cell → ℕ → Type 0
+Settled s t n = (a b : ℕ) → a < n → b < n → IsFalse (pair_due s t a b)
 
 -- the levels of the leaves whose rows a new leaf of level l can concern
 abbrev pub Reaches : Engine → ℕ → ℕ → ℕ → ℕ → Type 0
-Reaches balancing k M l x = (l + k < x) × (x ≤ M)
-Reaches conforming k M l x = x + k < l
-
--- no mark is taken away
-pub record Kept (old new : List Bool) : Type 0 where
-  pub size : length new ≡ length old
-  pub kept : (i : ℕ) → get_or old i false ≡ true → get_or new i false ≡ true
+Reaches Balancing k M l x = (l + k < x) × (x ≤ M)
+Reaches Conforming k M l x = x + k < l
 
 -- y has a mark, and so has each row that has y due
-pub record Met (e : Engine) (k : ℕ) (marks : List Bool) (t : List Cell) (n y : ℕ) : Type 0 where
-  pub own : mark_at marks y ≡ true
-  pub others : (a : ℕ) → a < n → due_of e k t a y ≡ true → mark_at marks a ≡ true
+pub record Met (s : Evener) (t : List Cell) (marks : Marks) (y : ℕ) : Type 0 where
+  pub own : IsTrue (mark_at marks y)
+  pub others : (a : ℕ) → a < length t → IsTrue (pair_due s t a y) → IsTrue (mark_at marks a)

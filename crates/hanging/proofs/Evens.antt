@@ -3,13 +3,14 @@ use Rattle.std.proofs.Common.{◌≡◌, sym, ap, ◌∙◌, false, not, Option,
 use Rattle.table.specs.Mesh.{Cell, at, split, is_none}
 use Rattle.table.specs.Formed.{Formed}
 use Rattle.table.proofs.Meshes.{root_in, Kept, kept, formed-split}
-use Rattle.coarsest.specs.Passes.{balancing, conforming, evened, balance, conform}
+use Rattle.coarsest.specs.declared.Engine.TheVariants.{Balancing, Conforming}
+use Rattle.coarsest.specs.Passes.{evened, balance, conform}
 use Rattle.coarsest.specs.Names.{Route, Leaf, roots_of, find, split_in, splitting, Evens}
 use Rattle.coarsest.proofs.Roots.{roots_kept}
 use Rattle.coarsest.proofs.Find.{Named, named, tells, stands_of, find-rooted, is-root, root_is}
 use Rattle.coarsest.proofs.Kept.{evened-from}
 use Rattle.coarsest.proofs.Evened.{evened-roots}
-use Rattle.coarsest.proofs.Laws.{SameRoots, balance-evens, conform-evens}
+use Rattle.coarsest.proofs.Ends.{SameRoots, balance-evens, conform-evens}
 use Rattle.hanging.specs.Strip.{RootOf, OneStrip, Even, Balanced, Conformed, Splits, start, next}
 
 leaf-whole : (t : List Cell) (r : ℕ) (p : Route) (i : ℕ) → find t r p ≡ Some i → (at t i).kids ≡ None → splitting t r p ≡ false
@@ -75,8 +76,8 @@ module _ (M : ℕ) (t : List Cell) (formed : Formed M t) where
 
   pub balance-strip : (k : ℕ) → OneStrip t k → OneStrip (balance M t) k
   unfolding balance
-  balance-strip k = strip-from t (evened balancing 1 M t) (evened-from balancing 1 M t).cell (evened-roots balancing 1 M t formed) k
+  balance-strip k = strip-from t (evened Balancing 1 M t) (evened-from Balancing 1 M t).cell (evened-roots Balancing 1 M t formed) k
 
   pub conform-strip : (k : ℕ) → OneStrip t k → OneStrip (conform M t) k
   unfolding conform
-  conform-strip k = strip-from t (evened conforming 0 M t) (evened-from conforming 0 M t).cell (evened-roots conforming 0 M t formed) k
+  conform-strip k = strip-from t (evened Conforming 0 M t) (evened-from Conforming 0 M t).cell (evened-roots Conforming 0 M t formed) k

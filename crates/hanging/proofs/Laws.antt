@@ -10,7 +10,7 @@ use Rattle.table.proofs.Cells.{length-table}
 use Rattle.table.proofs.Refining.{accepted-facts, accepted-table}
 use Rattle.table.proofs.Wellformed.{formed-facts}
 use Rattle.coarsest.specs.Passes.{balance, conform}
-use Rattle.coarsest.proofs.Laws.{balance-evens, conform-evens}
+use Rattle.coarsest.proofs.Ends.{balance-evens, conform-evens}
 use Rattle.net.specs.Net.{Poly, Piece, same_node, leaves_of, pieces, corners_of, nodes_from, bare, weigh, network}
 use Rattle.net.proofs.All.{All, all-by, all-weld, all_nil}
 use Rattle.hanging.specs.Strip.{LeafOf, OneStrip, Balanced}

@@ -9,7 +9,7 @@ ghost use Rattle.contact.specs.Contact.{contact_said, contact_says};
 ghost use Rattle.table.specs.Rows.{head_of, leaves_in, order_in};
 ghost use Rattle.table.specs.Leaves.{leaf_count_says, list_says, listed_row};
 ghost use Rattle.table.specs.Refine.{refined_said, refine_says, refined_row};
-ghost use Rattle.coarsest.specs.Passes.{balancing, conforming};
+ghost use Rattle.coarsest.specs.declared.Engine.TheVariants.{Balancing, Conforming};
 ghost use Rattle.even.specs.Even.{evening_said, even_says, even_row};
 ghost use Rattle.leafmesh.specs.Outcome.{outcome_of, rect_of};
 
@@ -175,8 +175,10 @@ pub extern "C" fn leafmesh_refine(
 // Balances the table: value is the number of splits, each four cells more.
 #[unsafe(no_mangle)]
 pub extern "C" fn leafmesh_balance(table: &mut [i64], count: usize, max_level: u64) -> Outcome
-    ensures value { result ≡ outcome_of (even_says balancing 1 table.old count max_level) }
-    ensures table_after { table.new ≡ even_row balancing 1 table.old count max_level }
+    ensures value { let head = record { count = count; max_level = max_level } in
+        result ≡ outcome_of (even_says Balancing 1 table.old head) }
+    ensures table_after { let head = record { count = count; max_level = max_level } in
+        table.new ≡ even_row Balancing 1 table.old head }
 {
     of_evening(even::balance(table, Head { count, max_level }))
 }
@@ -184,8 +186,10 @@ pub extern "C" fn leafmesh_balance(table: &mut [i64], count: usize, max_level: u
 // The same until no two neighbours differ in level.
 #[unsafe(no_mangle)]
 pub extern "C" fn leafmesh_conform(table: &mut [i64], count: usize, max_level: u64) -> Outcome
-    ensures value { result ≡ outcome_of (even_says conforming 0 table.old count max_level) }
-    ensures table_after { table.new ≡ even_row conforming 0 table.old count max_level }
+    ensures value { let head = record { count = count; max_level = max_level } in
+        result ≡ outcome_of (even_says Conforming 0 table.old head) }
+    ensures table_after { let head = record { count = count; max_level = max_level } in
+        table.new ≡ even_row Conforming 0 table.old head }
 {
     of_evening(even::conform(table, Head { count, max_level }))
 }

@@ -10,9 +10,10 @@ use Rattle.strips.specs.Said.{if_accepted}
 use Rattle.build.specs.declared.Settings.{Settings}
 use Rattle.build.specs.Says.{build_says, build_leaves}
 use Rattle.build.proofs.Fitting.{refusal-keeps, refused-accepted}
-use Rattle.coarsest.specs.Passes.{balancing}
+use Rattle.coarsest.specs.declared.Engine.TheVariants.{Balancing}
 use Rattle.table.specs.Formed.{well_formed}
 use Rattle.refusals.specs.Said.{is_accepted}
+use Rattle.table.specs.declared.Head.{Head}
 use Rattle.even.specs.Even.{even_says, even_row, even_cells}
 use Rattle.mesh.specs.Refining.{refine_all_says, refine_all_row}
 use Rattle.mesh.specs.Growing.{also, value_at, Given, given, level_of, roots_say, roots_row, split_say, refined_row, balance_say, balanced_row, grow_says, grow_leaves}
@@ -77,19 +78,19 @@ module _ (g : Given) (t : List ℤ) (whole : length t ≡ g.size) where
       same-level : m ≡ level_of g
       same-level = all-level g.splits u n (level_of g) k m (sym f)
 
-      even-said : even_says balancing 1 v k m ≡ balance_say g
+      even-said : even_says Balancing 1 v (record { count = k; max_level = m }) ≡ balance_say g
       unfolding balance_say
       even-said = rw (q, split-row, same-level, ← split_done) refl
 
-      even-left : even_row balancing 1 v k m ≡ balanced_row g
+      even-left : even_row Balancing 1 v (record { count = k; max_level = m }) ≡ balanced_row g
       unfolding balanced_row
       even-left = rw (q, split-row, same-level, ← split_done) refl
 
-      pub grown : even_says balancing 1 v k m ≡ grow_says g
+      pub grown : even_says Balancing 1 v (record { count = k; max_level = m }) ≡ grow_says g
       unfolding grow_says
       grown = even-said ∙ rw (← rooted, ← split_done) refl
 
-      pub grown-row : even_row balancing 1 v k m ≡ grow_leaves g t
+      pub grown-row : even_row Balancing 1 v (record { count = k; max_level = m }) ≡ grow_leaves g t
       unfolding grow_leaves
       grown-row = even-left ∙ rw (← rooted, ← split_done) refl
 
@@ -110,14 +111,16 @@ if-accepted (accepted vs) new old e = refl
 if-accepted (refused n p) new old e = absurd (false≢true e)
 
 -- balance keeps max_level
-even-level : (t : List ℤ) (n M : ℕ) {a b m : ℕ} → accepted (a ∷ b ∷ m ∷ []) ≡ even_says balancing 1 t n M → m ≡ M
+even-level : (t : List ℤ) (head : Head) {a b m : ℕ} → accepted (a ∷ b ∷ m ∷ []) ≡ even_says Balancing 1 t head → m ≡ head.max_level
 unfolding even_says
-even-level t n M {a} {b} {m} e = by (well_formed t n M) (leb (length (even_cells balancing 1 t n M)) (length t / 8)) e
+even-level t head {a} {b} {m} e = by (well_formed t head.count head.max_level) (leb (length (even_cells Balancing 1 t head)) (length t / 8)) e
   where
     by : (p q : Bool)
-        → accepted (a ∷ b ∷ m ∷ []) ≡ cond p (cond q (accepted ((length (even_cells balancing 1 t n M) - n) / 4 ∷ length (even_cells balancing 1 t n M) ∷ M ∷ [])) (refusal NoRoom)) (refusal BadTable)
-        → m ≡ M
-    by true true e = let v : accepted (a ∷ b ∷ m ∷ []) ≡ accepted ((length (even_cells balancing 1 t n M) - n) / 4 ∷ length (even_cells balancing 1 t n M) ∷ M ∷ []) = e in cc
+        → accepted (a ∷ b ∷ m ∷ [])
+        ≡ cond p (cond q (accepted ((length (even_cells Balancing 1 t head) - head.count) / 4 ∷ length (even_cells Balancing 1 t head) ∷ head.max_level ∷ []))
+        (refusal NoRoom)) (refusal BadTable)
+        → m ≡ head.max_level
+    by true true e = let v : accepted (a ∷ b ∷ m ∷ []) ≡ accepted ((length (even_cells Balancing 1 t head) - head.count) / 4 ∷ length (even_cells Balancing 1 t head) ∷ head.max_level ∷ []) = e in cc
     by true false e = absurd (refused-accepted 6 0 (a ∷ b ∷ m ∷ []) (sym e))
     by false q e = absurd (refused-accepted 7 0 (a ∷ b ∷ m ∷ []) (sym e))
 
@@ -134,7 +137,7 @@ module _ (g : Given) (splits count level : ℕ) (e : accepted (splits ∷ count 
 
   pub grew-level : level ≡ level_of g
   unfolding balance_say
-  grew-level = even-level (refined_row g) (value_at 0 (split_say g)) (level_of g) grew-said
+  grew-level = even-level (refined_row g) (record { count = value_at 0 (split_say g); max_level = level_of g }) grew-said
 
   pub grew_row : (t : List ℤ) → grow_leaves g t ≡ balanced_row g
   unfolding grow_leaves

@@ -5,7 +5,7 @@ use Rattle.strips.specs.Said.{if_accepted}
 use Rattle.build.specs.declared.Settings.{Settings}
 use Rattle.build.specs.Board.{Board, board}
 use Rattle.build.specs.Says.{build_says, filled}
-use Rattle.coarsest.specs.Passes.{balancing}
+use Rattle.coarsest.specs.declared.Engine.TheVariants.{Balancing}
 use Rattle.even.specs.Even.{even_says, even_row}
 use Rattle.mesh.specs.Refining.{refine_all_says, refine_all_row}
 
@@ -52,10 +52,10 @@ refined_row g = refine_all_row (roots_row g) (value_at 0 (roots_say g)) (level_o
 
 -- the balanced table: balance's splits, the count and max_level
 unfoldable pub balance_say : Given → Said
-balance_say g = even_says balancing 1 (refined_row g) (value_at 0 (split_say g)) (level_of g)
+balance_say g = even_says Balancing 1 (refined_row g) (record { count = value_at 0 (split_say g); max_level = level_of g })
 
 unfoldable pub balanced_row : Given → List ℤ
-balanced_row g = even_row balancing 1 (refined_row g) (value_at 0 (split_say g)) (level_of g)
+balanced_row g = even_row Balancing 1 (refined_row g) (record { count = value_at 0 (split_say g); max_level = level_of g })
 
 -- the three together, and what they leave in the table, refused or not
 unfoldable pub grow_says : Given → Said

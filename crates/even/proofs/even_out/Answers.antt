@@ -1,13 +1,34 @@
-use Rattle.std.proofs.Common.{arith, refl}
-use Rattle.table.specs.Mesh.{table}
-use Rattle.even.specs.Parts.{engine_of}
-use Rattle.even.proofs.Watching.{watched-all}
+use Rattle.std.proofs.Common.{ℕ, ◌<◌, ◌≤◌, ◌≡◌, List, ℤ, ap, sym, ◌∙◌, arith, rules}
+use Rattle.table.specs.declared.Head.{Head}
+use Rattle.table.specs.declared.edit.TableMut.{TableMut}
+use Rattle.table.specs.Rows.{IsTable}
+use Rattle.table.proofs.Wellformed.{formed-facts}
+use Rattle.even.specs.Undo.{undone}
+use Rattle.even.specs.Makes.{GoesOn}
+use Rattle.even.proofs.Going.{length-of}
+use Rattle.even.proofs.Undoing.{undone-formed}
 use Rattle.even.proofs.even_out.Goals as goal
 
-pub passes-requires-clause-marks_len : goal.passes-requires-clause-marks_len
-passes-requires-clause-marks_len c =
-    let w = c.requires.well_formed in (
-      (refl, c.requires.k_bound),
-      watched-all (engine_of c.args.conforms) c.args.k (table c.args.t.now c.args.n) c.args.n 2048
-          (omega (arith, w.count, w.slots)),
-    )
+pub passes-requires-clause-watched : goal.passes-requires-clause-watched
+passes-requires-clause-watched c a b ha hb d =
+    let t = c.new-table.result in
+    c.all-marks.ensures a (omega (arith, length-of t, t.within, t.slots))
+
+-- what was split is taken back
+back : (row : List ℤ) (head : Head) (t u : TableMut) → IsTable row head → t.row.now ≡ row → t.head ≡ head → GoesOn t u
+    → undone head.count u.row.now ≡ row
+back row head t u formed same e g =
+    g.undone head.count (omega (arith, ap (λ h. h.count) e)) ∙ ap (undone head.count) same
+    ∙ undone-formed row head.count head.max_level (formed-facts _ _ _ formed)
+
+pub returns-in_err-passes-clause-undone : goal.returns-in_err-passes-clause-undone
+returns-in_err-passes-clause-undone c =
+    let e = back c.args.row.now c.args.head c.new-table.result c.passes.new.table c.requires.formed c.new-table.ensures.row
+    c.new-table.ensures.head c.passes.ensures.goes_on in
+    search (rules, e)
+
+pub returns-clause-undone : goal.returns-clause-undone
+returns-clause-undone c =
+    let e = back c.args.row.now c.args.head c.new-table.result c.passes.new.table c.requires.formed c.new-table.ensures.row
+    c.new-table.ensures.head c.passes.ensures.goes_on in
+    search (rules, e)

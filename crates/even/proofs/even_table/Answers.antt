@@ -1,102 +1,99 @@
-use Rattle.std.proofs.Common.{refl, sym, ap, ap₂, ◌∙◌, true≢false, arith, ◌≡◌, ◌≤◌, ◌/◌, length, le-leb}
+use Rattle.std.proofs.Common.{refl, sym, ap, ap₂, ◌∙◌, true≢false, arith, ◌≡◌, ◌≤◌, ◌/◌, ℕ, ℤ, List, length, le-leb}
 use borrow.Author.Tests.{lt-leb}
-use Rattle.table.specs.Mesh.{table}
+use Rattle.table.specs.declared.Head.{Head}
+use Rattle.table.specs.Formed.{WellFormed}
+use Rattle.table.specs.Rows.{IsTable, cells_in}
+use Rattle.coarsest.specs.declared.Engine.{Engine}
 use Rattle.table.proofs.Cells.{length-table}
 use Rattle.table.proofs.Wellformed.{formed-facts, facts-formed}
-use Rattle.coarsest.specs.Passes.{evened}
 use Rattle.coarsest.proofs.Evened.{evened-grown}
 use Rattle.even.specs.Rows.{row_of}
-use Rattle.even.specs.Parts.{engine_of}
-use Rattle.even.specs.Even.{even_says, even_row}
+use Rattle.even.specs.Even.{even_cells, even_says, even_row, EndsCoarsest}
 use Rattle.even.proofs.Rowing.{row_is}
-use Rattle.even.proofs.Undoing.{undone-formed}
 use Rattle.even.proofs.Ending.{ends-done, ends-full, ends-bad}
 use Rattle.even.proofs.even_table.Goals as goal
 
-pub returns-then-not-well_formed-clause-result_value :
-    goal.returns-then-not-well_formed-clause-result_value
+pub returns-then-not-well_formed-clause-says : goal.returns-then-not-well_formed-clause-says
 unfolding even_says
-returns-then-not-well_formed-clause-result_value c =
+returns-then-not-well_formed-clause-says c =
     let no = sym c.well_formed-2.ensures ∙ c.if-not-well_formed.true in
     sym (rw no)
 
-pub returns-then-not-well_formed-clause-t_after : goal.returns-then-not-well_formed-clause-t_after
+pub returns-then-not-well_formed-clause-row_after : goal.returns-then-not-well_formed-clause-row_after
 unfolding even_row
-returns-then-not-well_formed-clause-t_after c = rw (← returns-then-not-well_formed-clause-result_value c)
+returns-then-not-well_formed-clause-row_after c = rw (← returns-then-not-well_formed-clause-says c)
 
-pub returns-then-not-well_formed-clause-coarsest :
-    goal.returns-then-not-well_formed-clause-coarsest
+pub returns-then-not-well_formed-clause-coarsest : goal.returns-then-not-well_formed-clause-coarsest
 returns-then-not-well_formed-clause-coarsest c =
-    ends-bad _ _ _ _
+    ends-bad _ _ _
     (λ w. true≢false (sym (facts-formed _ _ _ w) ∙ sym c.well_formed-2.ensures ∙ c.if-not-well_formed.true))
-
-pub even_out-requires-clause-well_formed : goal.even_out-requires-clause-well_formed
-even_out-requires-clause-well_formed c =
-    formed-facts _ _ _ (sym c.well_formed-2.ensures ∙ c.if-not-well_formed.false)
 
 pub undo-requires : goal.undo-requires
 undo-requires c =
     let w = formed-facts _ _ _ (sym c.well_formed-2.ensures ∙ c.if-not-well_formed.false) in
-    omega (arith, w.count, c.even_out.auto.t)
+    omega (arith, w.count, c.even_out.auto.row)
 
-pub returns-in_default-clause-result_value :
-    goal.returns-in_default-clause-result_value
+pub returns-in-Err-clause-says : goal.returns-in-Err-clause-says
 unfolding even_says
-returns-in_default-clause-result_value c =
+returns-in-Err-clause-says c =
     let yes = sym c.well_formed-2.ensures ∙ c.if-not-well_formed.false in
-    sym (rw (yes, lt-leb _ _ (c.in_default.ensures.full refl)))
+    let why = c.in-Err.ensures.refusal in
+    sym (rw (yes, lt-leb _ _ c.in-Err.ensures.full, why))
 
--- what was split is taken back
-same : (c : goal.After-t-in_default-1) → c.undo.new.t ≡ c.args.t.now
-same c =
-    c.undo.ensures ∙ c.even_out.ensures.back c.args.head.count (omega arith)
-    ∙ undone-formed _ _ _ (formed-facts _ _ _ (sym c.well_formed-2.ensures ∙ c.if-not-well_formed.false))
-
-pub returns-in_default-clause-t_after : goal.returns-in_default-clause-t_after
+pub returns-in-Err-clause-row_after : goal.returns-in-Err-clause-row_after
 unfolding even_row
-returns-in_default-clause-t_after c = rw (← returns-in_default-clause-result_value c) (same c)
+returns-in-Err-clause-row_after c =
+    rw (← returns-in-Err-clause-says c, c.in-Err.ensures.refusal) (c.undo.ensures ∙ c.in-Err.ensures.undone)
 
-pub returns-in_default-clause-coarsest :
-    goal.returns-in_default-clause-coarsest
-returns-in_default-clause-coarsest c =
-    ends-full (engine_of c.args.conforms) c.args.k c.args.head.max_level c.args.t.now _ c.args.head.count
-    (formed-facts _ _ _ (sym c.well_formed-2.ensures ∙ c.if-not-well_formed.false))
-    (c.in_default.ensures.full refl) (same c)
+pub returns-in-Err-clause-coarsest : goal.returns-in-Err-clause-coarsest
+returns-in-Err-clause-coarsest c =
+    let w = formed-facts _ _ _ (sym c.well_formed-2.ensures ∙ c.if-not-well_formed.false) in
+    rw c.in-Err.ensures.refusal
+    (ends-full c.args.engine c.args.difference c.args.head c.args.row.now _ w c.in-Err.ensures.full
+    (c.undo.ensures ∙ c.in-Err.ensures.undone))
 
--- the row has as many cells as the passes end in
-as_many : (c : goal.In-Some)
-    → length (evened (engine_of c.args.conforms) c.args.k c.args.head.max_level (table c.args.t.now c.args.head.count))
-    ≡ c.in-Some.count
-as_many c =
-    ap length (sym (c.in-Some.ensures.cells c.in-Some.count refl))
-    ∙ length-table c.even_out.new.t c.in-Some.count
+-- where there was room: the row has as many cells as the passes end in
+module _ (e : Engine) (k : ℕ) (head grown : Head) (old new : List ℤ) (formed : IsTable new grown)
+    (cells : cells_in new grown ≡ even_cells e k old head) where
+  as_many : length (even_cells e k old head) ≡ grown.count
+  as_many = ap length (sym cells) ∙ length-table new grown.count
 
-room : (c : goal.In-Some) → c.in-Some.count ≤ length c.args.t.now / 8
-room c =
-    let g = c.in-Some.ensures in
-    let w = g.formed c.in-Some.count refl in
-    rw (← g.size) w.count
+  room : length new ≡ length old → grown.count ≤ length old / 8
+  room l = let w = formed-facts _ _ _ formed in omega (arith, w.count, ap (λ x. x / 8) l)
+
+  grows : WellFormed old head.count head.max_level → head.count ≤ grown.count
+  grows w = omega (arith, evened-grown e k head.max_level (cells_in old head) w.cells, as_many, length-table old head.count)
 
 pub overflow_sub-result : goal.overflow_sub-result
 overflow_sub-result c =
-    let w = formed-facts _ _ _ (sym c.well_formed-2.ensures ∙ c.if-not-well_formed.false) in
-    let q = evened-grown (engine_of c.args.conforms) c.args.k _ _ w.cells in
-    omega (arith, q, as_many c, length-table c.args.t.now c.args.head.count)
+    grows c.args.engine c.args.difference c.args.head c.in-Ok.grown c.args.row.now c.even_out.new.row c.in-Ok.ensures.formed
+    c.in-Ok.ensures.cells (formed-facts _ _ _ (sym c.well_formed-2.ensures ∙ c.if-not-well_formed.false))
 
-pub returns-clause-result_value : goal.returns-clause-result_value
+pub returns-in-Ok-clause-says : goal.returns-in-Ok-clause-says
 unfolding even_says
-returns-clause-result_value c =
+returns-in-Ok-clause-says c =
     let yes = sym c.well_formed-2.ensures ∙ c.if-not-well_formed.false in
-    sym (rw (yes, as_many c, le-leb _ _ (room c)))
+    let g = c.in-Ok.ensures in
+    sym (rw (
+      yes,
+      as_many c.args.engine c.args.difference c.args.head c.in-Ok.grown c.args.row.now c.even_out.new.row g.formed g.cells,
+      le-leb _ _ (room c.args.engine c.args.difference c.args.head c.in-Ok.grown c.args.row.now c.even_out.new.row g.formed
+          g.cells c.even_out.auto.row),
+      ← g.max_level,
+    ))
 
-pub returns-clause-t_after : goal.returns-clause-t_after
+pub returns-in-Ok-clause-row_after : goal.returns-in-Ok-clause-row_after
 unfolding even_row
-returns-clause-t_after c =
-    let g = c.in-Some.ensures in
-    rw (← returns-clause-result_value c) (row_is _ _ _ (g.formed _ refl) ∙ ap₂ row_of (g.cells _ refl) g.size)
+returns-in-Ok-clause-row_after c =
+    let g = c.in-Ok.ensures in
+    rw (← returns-in-Ok-clause-says c)
+    (row_is _ _ _ (formed-facts _ _ _ g.formed) ∙ ap₂ row_of g.cells c.even_out.auto.row)
 
-pub returns-clause-coarsest : goal.returns-clause-coarsest
-returns-clause-coarsest c =
-    ends-done (engine_of c.args.conforms) c.args.k c.args.head.max_level c.args.t.now _ c.args.head.count
-    (formed-facts _ _ _ (sym c.well_formed-2.ensures ∙ c.if-not-well_formed.false)) _
-    (c.in-Some.ensures.cells _ refl) (room c)
+pub returns-in-Ok-clause-coarsest : goal.returns-in-Ok-clause-coarsest
+returns-in-Ok-clause-coarsest c =
+    let w = formed-facts _ _ _ (sym c.well_formed-2.ensures ∙ c.if-not-well_formed.false) in
+    let g = c.in-Ok.ensures in
+    rw g.max_level
+    (ends-done c.args.engine c.args.difference c.args.head c.args.row.now _ w _ g.cells
+    (room c.args.engine c.args.difference c.args.head c.in-Ok.grown c.args.row.now c.even_out.new.row g.formed g.cells
+    c.even_out.auto.row))

@@ -41,10 +41,10 @@ returns c =
     let n = e.refined.count in
     let m = e.refined.max_level in
     record {
-      result_value = c.balance.ensures.result_value
+      result_value = c.balance.ensures.says
           ∙ grown g t refl d.count c.build.new.table d.ensures.result_value d.ensures.table_after n m
           c.refine_all.new.table e.ensures.result_value e.ensures.table_after;
-      table_after = c.balance.ensures.t_after
+      table_after = c.balance.ensures.row_after
           ∙ grown-row g t refl d.count c.build.new.table d.ensures.result_value d.ensures.table_after n m
           c.refine_all.new.table e.ensures.result_value e.ensures.table_after;
     }

@@ -1,0 +1,61 @@
+-- The laws of the passes, for both engines and every allowed difference k of levels. crates/coarsest/src/laws.rt promises each.
+use Rattle.std.specs.Prelude.{ℕ, ◌<◌, ◌≡◌, ◌↔◌, ◌||◌, false, List, length}
+use Rattle.table.specs.Mesh.{Cell}
+use Rattle.table.specs.Formed.{Formed}
+use Rattle.coarsest.specs.declared.Engine.{Engine}
+use Rattle.coarsest.specs.Passes.{is_due, pass, evened}
+use Rattle.coarsest.specs.Names.{Route, Splitting, ◌⊆◌, Coarsest, Needs, roots_of, splitting}
+
+-- the passes end in the coarsest splitting that keeps the table's splits
+abbrev pub CoarsestIsReached : Type 0
+CoarsestIsReached =
+    (e : Engine) (k M : ℕ) (t : List Cell) → Formed M t
+    → Coarsest k M (roots_of t) (splitting t) (splitting (evened e k M t))
+
+-- and every coarsest splitting is that one
+abbrev pub CoarsestIsOne : Type 0
+CoarsestIsOne =
+    (e : Engine) (k M : ℕ) (t : List Cell) → Formed M t
+    → (C : Splitting) → Coarsest k M (roots_of t) (splitting t) C
+    → (r : ℕ) (p : Route) → C r p ≡ splitting (evened e k M t) r p
+
+-- a pass over what they end in splits nothing
+abbrev pub PassesEnd : Type 0
+PassesEnd = (e : Engine) (k M : ℕ) (t : List Cell) → Formed M t → pass e k (evened e k M t) ≡ evened e k M t
+
+-- what they end in is well formed
+abbrev pub StaysFormed : Type 0
+StaysFormed = (e : Engine) (k M : ℕ) (t : List Cell) → Formed M t → Formed M (evened e k M t)
+
+-- and has the table's roots
+abbrev pub KeepsRoots : Type 0
+KeepsRoots =
+    (e : Engine) (k M : ℕ) (t : List Cell) → Formed M t → (r : ℕ) → roots_of (evened e k M t) r ≡ roots_of t r
+
+-- the two tables have the same roots
+abbrev pub SameRoots : List Cell → List Cell → Type 0
+SameRoots t u = (r : ℕ) → roots_of t r ≡ roots_of u r
+
+-- if one table splits what another splits, so do the tables that they end in, whichever engine each is given to
+abbrev pub MoreSplitsEndFiner : Type 0
+MoreSplitsEndFiner =
+    (e d : Engine) (k M : ℕ) (t u : List Cell) → Formed M t → Formed M u → SameRoots t u
+    → splitting t ⊆ splitting u → splitting (evened e k M t) ⊆ splitting (evened d k M u)
+
+-- u is t with more splits, and w is the evened t with u's splits: u and w end in the same
+abbrev pub PartsEndTheSame : Type 0
+PartsEndTheSame =
+    (e : Engine) (k M : ℕ) (t u w : List Cell) → Formed M t → Formed M u → Formed M w → SameRoots t u → SameRoots w u
+    → splitting t ⊆ splitting u
+    → ((r : ℕ) (p : Route) → splitting w r p ≡ (splitting (evened e k M t) r p || splitting u r p))
+    → (r : ℕ) (p : Route) → splitting (evened e k M u) r p ≡ splitting (evened e k M w) r p
+
+-- the coarsest splitting has as many cells as the passes end in, and no other number of them
+abbrev pub NeedsTheCellsReached : Type 0
+NeedsTheCellsReached =
+    (e : Engine) (k M : ℕ) (t : List Cell) → Formed M t → (n : ℕ) → Needs k M t n ↔ (n ≡ length (evened e k M t))
+
+-- after a pass no pair of two cells of its start has a split
+abbrev pub PassSettles : Type 0
+PassSettles =
+    (e : Engine) (k : ℕ) (t : List Cell) (a b : ℕ) → a < length t → b < length t → is_due e k (pass e k t) a b ≡ false

@@ -1,0 +1,48 @@
+//! The laws of the passes: each function ensures one of them, for every table, and does nothing.
+ghost use Rattle.coarsest.specs.Laws.{CoarsestIsReached, CoarsestIsOne, PassesEnd, StaysFormed, KeepsRoots};
+ghost use Rattle.coarsest.specs.Laws.{MoreSplitsEndFiner, PartsEndTheSame, NeedsTheCellsReached, PassSettles};
+
+/// What the passes end in is the coarsest splitting that they may end in.
+pub fn coarsest_is_reached()
+    ensures { CoarsestIsReached }
+{}
+
+/// There is no other coarsest splitting, so balance and conform have one answer whatever the order of their steps.
+pub fn coarsest_is_one()
+    ensures { CoarsestIsOne }
+{}
+
+/// A further pass splits nothing.
+pub fn passes_end()
+    ensures { PassesEnd }
+{}
+
+/// A well-formed table stays one.
+pub fn stays_formed()
+    ensures { StaysFormed }
+{}
+
+/// No root is moved, made or lost.
+pub fn keeps_roots()
+    ensures { KeepsRoots }
+{}
+
+/// Who marks more cells gets a mesh that is nowhere coarser.
+pub fn more_splits_end_finer()
+    ensures { MoreSplitsEndFiner }
+{}
+
+/// A table may be evened out before it is split further: the end is the same.
+pub fn parts_end_the_same()
+    ensures { PartsEndTheSame }
+{}
+
+/// How many cells the coarsest splitting has: as many as the passes end in, and no other number.
+pub fn needs_the_cells_reached()
+    ensures { NeedsTheCellsReached }
+{}
+
+/// What one pass leaves to the next: no two cells that stood at its start.
+pub fn pass_settles()
+    ensures { PassSettles }
+{}
