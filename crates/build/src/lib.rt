@@ -13,6 +13,7 @@ use refusals::limits::RING_POINTS;
 pub mod alone;
 pub mod grid;
 pub mod judge;
+pub mod laws;
 pub mod polygons;
 pub mod put;
 pub mod ranges;

@@ -6,3 +6,4 @@ pub mod Said
 pub mod Levels
 pub mod Tally
 pub mod Walk
+pub mod Laws

@@ -11,6 +11,7 @@ use refusals::Refusal;
 use refusals::limits::RING_POINTS;
 
 pub mod bands;
+pub mod laws;
 pub mod ring;
 pub mod tally;
 pub mod walk;
