@@ -1,8 +1,7 @@
 -- The roots of a strip tile it. Assumes nothing.
-use Rattle.std.proofs.Common.{ℕ, zero, suc, ◌+◌, ◌-◌, ◌*◌, ◌/◌, ◌<◌, ◌≤◌, ◌≡◌, true, List, [], ◌∷◌, ◌++◌, ⊎_elim, arith, length, get_or, All, AllPairs, mul-zero}
+use Rattle.std.proofs.Common.{ℕ, zero, suc, ◌+◌, ◌-◌, ◌*◌, ◌/◌, ◌<◌, ◌≤◌, ◌≡◌, refl, true, List, [], ◌∷◌, ◌++◌, ⊎_elim, arith, length, length-append, get_or, All, AllPairs, Float}
 use Rattle.std.proofs.lemmas.List.{get_or_append_left, get_or-append_right}
 use Rattle.std.proofs.lemmas.List.Elements.{All-append}
-use Rattle.std.proofs.Common.{length-append}
 use Rattle.cell.proofs.Offsets.{below?}
 use Rattle.cell.proofs.Contact.{and_left, and_right}
 use Rattle.refusals.specs.Said.{accepted}
@@ -60,14 +59,14 @@ module _ (poly : ℕ) (r : Strip) (n : ℕ) where
   row-within : (i : ℕ) → All (IsWithin (upto r (r.x0 + width r / n * i) r.y1)) (row_to poly r n i)
   unfolding row_to
   row-within zero k d h = absurd (omega arith)
-  row-within (suc i) =
+  row-within (suc i) k d h =
       let e = step (width r / n) i in
-      let q : suc i ≡ i + 1 = omega arith in
       let before = row-within i in
-      rw q
-      (All-append (IsWithin (upto r (r.x0 + width r / n * (i + 1)) r.y1)) (row_to poly r n i) (boxed poly (cell_of r n i) ∷ [])
-      (λ k d h. wider _ _ _ (omega arith) (omega arith) (omega arith) (omega arith) (before k d h))
-      (λ k d h. last k d h e))
+      let within =
+          All-append (IsWithin (upto r (r.x0 + width r / n * (i + 1)) r.y1)) (row_to poly r n i) (boxed poly (cell_of r n i) ∷ [])
+          (λ m x g. wider _ _ _ (omega arith) (omega arith) (omega arith) (omega arith) (before m x g))
+          (λ m x g. last m x g e) in
+      rw (← native.Mathlib.Numerals.add-one i) (within k d h)
     where
       last : (k : ℕ) (d : Root) → k < 1 → width r / n * (i + 1) ≡ width r / n * i + width r / n → IsWithin (upto r (r.x0 + width r / n * (i + 1)) r.y1) (get_or (boxed poly (cell_of r n i) ∷ []) k d)
       last zero d h e = record { left = omega arith; right = omega arith; bottom = omega arith; top = omega arith }
@@ -76,11 +75,12 @@ module _ (poly : ℕ) (r : Strip) (n : ℕ) where
   row-apart : (i : ℕ) → AllPairs Apart (row_to poly r n i)
   unfolding row_to
   row-apart zero a b d h k = absurd (omega arith)
-  row-apart (suc i) =
+  row-apart (suc i) a b d h k =
       let before = row-within i in
       pairs-append (row_to poly r n i) (boxed poly (cell_of r n i) ∷ []) (row-apart i)
-      (λ a b d h k. absurd (omega arith))
-      (λ a b d h k. last a b d h k (before a d h))
+      (λ p q x g m. absurd (omega arith))
+      (λ p q x g m. last p q x g m (before p x g))
+      a b d h k
     where
       last : (a b : ℕ) (d : Root) → a < length (row_to poly r n i) → b < 1 → IsWithin (upto r (r.x0 + width r / n * i) r.y1) (get_or (row_to poly r n i) a d) → Apart (get_or (row_to poly r n i) a d) (get_or (boxed poly (cell_of r n i) ∷ []) b d)
       last a zero d h k w o = omega (arith, w.right, o.right)
@@ -97,23 +97,24 @@ module _ (poly : ℕ) (s : Strip) (g : Cut) where
   grid-within : s.x0 ≤ s.x1 → (j : ℕ) → All (IsWithin (upto s s.x1 (s.y0 + height s / g.ny * j))) (grid_to poly s g j)
   unfolding grid_to
   grid-within l zero k d h = absurd (omega arith)
-  grid-within l (suc j) =
+  grid-within l (suc j) k d h =
       let e = step (height s / g.ny) j in
-      let q : suc j ≡ j + 1 = omega arith in
       let before = grid-within l j in
-      rw q
-      (All-append (IsWithin (upto s s.x1 (s.y0 + height s / g.ny * (j + 1)))) (grid_to poly s g j) (row_to poly (row_of s g j) g.nx g.nx)
-      (λ k d h. wider _ _ _ (omega arith) (omega arith) (omega arith) (omega arith) (before k d h))
-      (λ k d h. wider _ _ _ (omega arith) (omega arith) (omega arith) (omega arith) (row-in-strip j l k d h)))
+      let within =
+          All-append (IsWithin (upto s s.x1 (s.y0 + height s / g.ny * (j + 1)))) (grid_to poly s g j) (row_to poly (row_of s g j) g.nx g.nx)
+          (λ m x q. wider _ _ _ (omega arith) (omega arith) (omega arith) (omega arith) (before m x q))
+          (λ m x q. wider _ _ _ (omega arith) (omega arith) (omega arith) (omega arith) (row-in-strip j l m x q)) in
+      rw (← native.Mathlib.Numerals.add-one j) (within k d h)
 
   grid-apart : s.x0 ≤ s.x1 → (j : ℕ) → AllPairs Apart (grid_to poly s g j)
   unfolding grid_to
   grid-apart l zero a b d h k = absurd (omega arith)
-  grid-apart l (suc j) =
+  grid-apart l (suc j) a b d h k =
       let before = grid-within l j in
       pairs-append (grid_to poly s g j) (row_to poly (row_of s g j) g.nx g.nx) (grid-apart l j)
       (row-apart poly (row_of s g j) g.nx g.nx)
-      (λ a b d h k. λ o. omega (arith, (before a d h).top, (row-in-strip j l b d k).bottom, o.top))
+      (λ p q x m n. λ o. omega (arith, (before p x m).top, (row-in-strip j l q x n).bottom, o.top))
+      a b d h k
 
 -- ---- all strips of an accepted board
 

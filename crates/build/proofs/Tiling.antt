@@ -37,7 +37,7 @@ module _ (w n u : ℕ) (some : 0 < w) (cut : 1 ≤ n) (e : w % (n * u) ≡ 0) wh
       by (suc k) q = (k, q)
 
 -- the next piece begins where one ends, and later ones not before it
-step : (d i : ℕ) → d * (i + 1) ≡ d * i + d
+pub step : (d i : ℕ) → d * (i + 1) ≡ d * i + d
 step d i = mul-add d i 1 ∙ ap (λ (x : ℕ). d * i + x) (mul-one d)
 
 pub pieces-apart : (x d i j : ℕ) → i < j → x + d * (i + 1) ≤ x + d * j

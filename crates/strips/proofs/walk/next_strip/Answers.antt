@@ -1,7 +1,7 @@
 use Rattle.std.proofs.Common.{length, ◌-◌, refl, sym, ◌∙◌, arith}
 use Rattle.strips.proofs.Levels.{left-none}
 use Rattle.strips.proofs.Walks.{left_end, left-strip, left-thin, left-on, band-falls, bands-fall}
-use Rattle.strips.proofs.walk.next.Goals as goal
+use Rattle.strips.proofs.walk.next_strip.Goals as goal
 
 pub returns-then-heights-eq0 : goal.returns-then-heights-eq0
 returns-then-heights-eq0 c =

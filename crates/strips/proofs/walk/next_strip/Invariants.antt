@@ -1,7 +1,7 @@
 -- The strips that are left stay the same until one is found. Each turn goes to a later edge, or to a later band.
 use Rattle.std.proofs.Common.{length, drop, ◌+◌, ◌-◌, ◌*◌, ◌≡◌}
 use Rattle.strips.specs.Walk.{left}
-use Rattle.strips.proofs.walk.next.Given as goal
+use Rattle.strips.proofs.walk.next_strip.Given as goal
 
 abbrev pub invariant-loop-k : goal.invariant-loop-k
 invariant-loop-k l =
