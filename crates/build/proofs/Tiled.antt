@@ -20,7 +20,7 @@ use Rattle.build.proofs.Tiling.{step, strip-area}
 
 -- ---- pairs of a list that was joined of two
 
-Apart : Root → Root → Type 0
+abbrev Apart : Root → Root → Type 0
 Apart a b = ¬ Overlap a b
 
 pairs-append : (a b : List Root) → AllPairs Apart a → AllPairs Apart b
@@ -118,25 +118,25 @@ module _ (poly : ℕ) (s : Strip) (g : Cut) where
 
 -- ---- all strips of an accepted board
 
-strip-tiled : (unit poly : ℕ) (s : Strip) (g : Cut) → Sound s → Cuts g → even_strip unit g s ≡ true → IsTiledBy s (grid_to poly s g g.ny)
-strip-tiled unit poly s g sound c even =
+strip-tiled : (u poly : ℕ) (s : Strip) (g : Cut) → Sound s → Cuts g → even_strip u g s ≡ true → IsTiledBy s (grid_to poly s g g.ny)
+strip-tiled u poly s g sound c even =
     let l : s.x0 ≤ s.x1 = omega (arith, sound.wide) in
     let fits = pieces (height s) g.ny g.ny (omega arith) in
     let low : s.y0 < s.y1 = sound.tall in
     let inside = grid-within poly s g l g.ny in
     record {
-      area = strip-area unit poly s g sound c even;
+      area = strip-area u poly s g sound c even;
       inside = λ k d h. wider _ _ _ (omega arith) (omega arith) (omega arith) (omega arith) (inside k d h);
       apart = grid-apart poly s g l g.ny;
     }
 
-all-tiled : (unit poly cap c : ℕ) → Sizes cap c → (ss : List Strip) → AllSound ss → all_even unit cap c ss ≡ true → All (λ s. IsTiledBy s (strip_roots poly cap c s)) ss
+all-tiled : (u poly cap c : ℕ) → Sizes cap c → (ss : List Strip) → AllSound ss → all_even u cap c ss ≡ true → All (λ s. IsTiledBy s (strip_roots poly cap c s)) ss
 unfolding all_even
-all-tiled unit poly cap c z [] a e k d h = absurd (omega arith)
-all-tiled unit poly cap c z (s ∷ ss) a e zero d h =
-    strip-tiled unit poly s (cut_of cap c s) (sound-first s ss a) (cuts cap c s z) (and_left (even_strip unit (cut_of cap c s) s) (all_even unit cap c ss) e)
-all-tiled unit poly cap c z (s ∷ ss) a e (suc k) d h =
-    all-tiled unit poly cap c z ss (sound-rest s ss a) (and_right (even_strip unit (cut_of cap c s) s) (all_even unit cap c ss) e) k d (omega arith)
+all-tiled u poly cap c z [] a e k d h = absurd (omega arith)
+all-tiled u poly cap c z (s ∷ ss) a e zero d h =
+    strip-tiled u poly s (cut_of cap c s) (sound-first s ss a) (cuts cap c s z) (and_left (even_strip u (cut_of cap c s) s) (all_even u cap c ss) e)
+all-tiled u poly cap c z (s ∷ ss) a e (suc k) d h =
+    all-tiled u poly cap c z ss (sound-rest s ss a) (and_right (even_strip u (cut_of cap c s) s) (all_even u cap c ss) e) k d (omega arith)
 
 pub strips-tiled : (b : Board) (components : List ℕ) (sheets : List Float) (size n : ℕ) → Accepts b components sheets size n
     → (p : ℕ) → p < polygons b → All (λ s. IsTiledBy s (strip_roots p b.settings.cap (size_at b p) s)) (strips_at b p)

@@ -48,6 +48,13 @@ pub struct Ready<'a> {
     ghost edges_in_order: { edges.now ≡ edges_of points.now },
 }
 
+/// Room to make a ring ready in, whatever its length: rows for its heights and its edges.
+#[derive(Drop)]
+pub struct WorkRoom {
+    pub heights: [u64; RING_POINTS],
+    pub edges: [u64; RING_POINTS],
+}
+
 /// The strips of a ring that are still to come: by band from the bottom, then left to right.
 #[derive(Clone, Copy)]
 pub struct Strips<'a> {
@@ -120,7 +127,7 @@ pub fn sort_edges(points: &[[i64; 2]], row: &mut [u64]) -> usize
 
 // The heights and the vertical edges of a ring, each at the front of its row, in order. Answers how many edges there
 // are.
-pub fn prepare(points: &[[i64; 2]], heights: &mut [u64], edges: &mut [u64]) -> usize
+fn prepare(points: &[[i64; 2]], heights: &mut [u64], edges: &mut [u64]) -> usize
     requires { Roomy points.now heights.old edges.old }
     ensures { Prepared points.now heights.new edges.new result }
 {
@@ -203,6 +210,22 @@ fn next_strip(points: &[[i64; 2]], heights: &[u64], edges: &[u64], band: usize, 
         }
     }
     Ahead::End
+}
+
+impl WorkRoom {
+    /// Makes a ring ready. What the room held before is lost.
+    pub fn ready<'r>(&'r mut self, points: &'r [[i64; 2]]) -> Ready<'r>
+        requires { length points.now ≤ max_points }
+        ensures { result.points.now ≡ points.now }
+    {
+        let n = points.len();
+        let m = prepare(points, &mut self.heights, &mut self.edges);
+        Ready {
+            points,
+            heights: &self.heights[..n],
+            edges: &self.edges[..m],
+        }
+    }
 }
 
 impl<'a> Ready<'a> {

@@ -1,7 +1,7 @@
 use Rattle.std.proofs.Common.{◌≡◌, ◌+◌, length, arith, sym, ne_eqb}
 use Rattle.build.specs.Board.{sum_to}
 use Rattle.build.proofs.Judging.{sum_more, sum_mono}
-use Rattle.build.proofs.judge.adds_up.Goals as goal
+use Rattle.build.proofs.outlines.adds_up.Goals as goal
 
 pub returns-then-left-n : goal.returns-then-left-n
 returns-then-left-n c =
