@@ -169,6 +169,7 @@ fn skip(heights: &[u64], k: usize) -> usize
 }
 
 // The next strip of positive width, from an edge of a band on.
+#[inline(always)]
 fn next_strip(points: &[[i64; 2]], heights: &[u64], edges: &[u64], band: usize, edge: usize) -> Ahead
     ensures { ahead points.now heights.now edges.now result ≡ left points.now edges.now edge (drop band heights.now) }
 {
@@ -256,6 +257,7 @@ impl<'a> Iterator for Strips<'a> {
 
     ghost remaining = { item_count coming };
 
+    #[inline(always)]
     fn next(&mut self) -> Option<Strip> {
         match next_strip(self.ring.points, self.ring.heights, self.ring.edges, self.band, self.edge) {
             Ahead::Found(strip, band, edge) => {
