@@ -1,6 +1,6 @@
 -- The rules' "Boundary cases": what the definitions come to, and what the document says. proofs/Eight.antt holds the two lists together.
 -- Rows, rings and rectangles are in the caller's ticks. P7's strips are as the code holds them, 2^36 more.
-use Rattle.std.specs.Prelude.{ℕ, suc, ◌+◌, ◌*◌, ◌-◌, Bool, true, false, ◌&&◌, cond, List, [], ◌∷◌, ◌++◌, map, ℤ, pos, Float, replicate}
+use Rattle.std.specs.Prelude.{ℕ, suc, ◌≡◌, ◌+◌, ◌*◌, ◌-◌, Bool, true, false, ◌&&◌, cond, List, [], ◌∷◌, ◌++◌, map, ℤ, pos, Float, replicate}
 use Rattle.std.specs.Int.Signed.{le_z}
 use Rattle.std.specs.Float.{binary64}
 use Rattle.std.specs.Float.Ieee.{to_bits}
@@ -121,3 +121,7 @@ expected =
     -- P8 "power 1.0."
     ∷ (0x3ff0_0000_0000_0000 ∷ [])
     ∷ []
+
+-- the law: each case comes out as the rules say
+abbrev pub BoundaryCases : Type 0
+BoundaryCases = computed lent ≡ expected

@@ -158,3 +158,8 @@ module _ (b : Board) (components : List ℕ) (sheets : List Float) (t : List ℤ
   built-roots =
       let p = passed in
       rw p.left (rw p.count at (filled-roots b (length t) (board-ok b p.board p.even (polygons b) (omega arith))))
+
+-- the same of a call with a table of this length
+pub passed-size : (b : Board) (components : List ℕ) (sheets : List Float) (size n : ℕ) → build_says b components sheets size ≡ accepted (n ∷ [])
+    → Passed b (replicate size (pos 0)) (build_leaves b components sheets (replicate size (pos 0))) n
+passed-size b components sheets size n e = passed b components sheets (replicate size (pos 0)) n (rw (length-replicate size (pos 0)) e)

@@ -8,3 +8,5 @@ pub mod Fitting
 pub mod Tiling
 pub mod Formed
 pub mod Wellformed
+pub mod One
+pub mod Tiled

@@ -1,11 +1,9 @@
 -- Roots placed in the table: their numbers one behind the other, and what is placed later behind what was placed before.
 -- Assumes nothing.
-use Rattle.std.proofs.Common.{ℕ, zero, suc, ◌+◌, ◌*◌, ◌<◌, ◌≤◌, ◌≡◌, refl, sym, ap, ◌∙◌, List, [], ◌∷◌, ◌++◌, append_assoc, arith, add-one, suc-mul, zero-mul, ⊎_elim, ℤ, pos, length, take, drop, set, length-append, take-append-drop, take_at, drop_at, length-take-le, drop-drop}
+use Rattle.std.proofs.Common.{ℕ, zero, suc, ◌+◌, ◌-◌, ◌*◌, ◌<◌, ◌≤◌, ◌≡◌, refl, sym, ap, ◌∙◌, List, [], ◌∷◌, ◌++◌, append_assoc, arith, add-one, suc-mul, zero-mul, ⊎_elim, ℤ, pos, length, take, drop, set, length-append, take-append-drop, take_at, drop_at, length-take-le, drop-drop}
 use Rattle.cell.proofs.Offsets.{below?}
-use lib.Seq.{sets, sets-eq}
 use Rattle.cell.specs.Cells.{no_cell}
 use Rattle.cell.specs.Ticks.{on}
-use Rattle.strips.specs.Said.{strip_row}
 use Rattle.strips.specs.declared.walk.Strip.{Strip}
 use Rattle.build.specs.declared.grid.Cut.{Cut}
 use Rattle.build.specs.Grid.{Root, boxed, row_of, cell_of, row_to, grid_to, roots_in, flat, cut_of}
@@ -48,21 +46,14 @@ placed-more t k m a b e h =
     ends : (k x y z : ℕ) → z ≡ x + y → (k + x) * 8 + y * 8 ≡ (k + z) * 8
     ends k x y z e = omega arith
 
--- four stores one after another
-pub four : (t : List ℤ) (b : ℕ) (v0 v1 v2 v3 : ℤ) → set (set (set (set t b v0) (b + 1) v1) (b + 2) v2) (b + 3) v3 ≡ sets t b (v0 ∷ v1 ∷ v2 ∷ v3 ∷ [])
-four t b v0 v1 v2 v3 =
-    let e1 : b + 1 ≡ suc b = omega arith in
-    let e2 : b + 2 ≡ suc (suc b) = omega arith in
-    let e3 : b + 3 ≡ suc (suc (suc b)) = omega arith in
-    rw (e1, e2, e3) refl
-
-pub root_placed : (t : List ℤ) (k : ℕ) (s : Strip) (poly : ℕ) → (k + 1) * 8 ≤ length t → sets (sets t (k * 8) (strip_row s)) (k * 8 + 4) (pos 0 ∷ pos no_cell ∷ pos no_cell ∷ pos poly ∷ []) ≡ placed t k (boxed poly s ∷ [])
+-- a slot written whole
+pub root_placed : (t : List ℤ) (k : ℕ) (s : Strip) (poly : ℕ)
+    → take (k * 8) t ++ ((on s.x0 ∷ on s.y0 ∷ on s.x1 ∷ on s.y1 ∷ pos 0 ∷ pos no_cell ∷ pos no_cell ∷ pos poly ∷ []) ++ drop (k * 8 + 8 - k * 8) (drop (k * 8) t)) ≡ placed t k (boxed poly s ∷ [])
 unfolding placed flat
-root_placed t k s poly h =
-    let e : k * 8 + 4 ≡ suc (suc (suc (suc (k * 8)))) = omega arith in
-    let d : (k + 1) * 8 ≡ k * 8 + 8 = omega arith in
-    rw (e, d) (sets-eq (on s.x0 ∷ on s.y0 ∷ on s.x1 ∷ on s.y1 ∷ pos 0 ∷ pos no_cell ∷ pos no_cell ∷ pos poly ∷ []) t (k * 8) (omega arith)
-    ∙ append_assoc (take (k * 8) t) _ (drop (k * 8 + 8) t))
+root_placed t k s poly =
+    let e : k * 8 + 8 - k * 8 ≡ 8 = omega arith in
+    let d : k * 8 + 8 ≡ (k + 1) * 8 = omega arith in
+    rw (e, drop-drop 8 (k * 8) t, d) refl
 
 pub row_more : (poly : ℕ) (r : Strip) (n i : ℕ) → row_to poly r n (i + 1) ≡ row_to poly r n i ++ (boxed poly (cell_of r n i) ∷ [])
 unfolding row_to

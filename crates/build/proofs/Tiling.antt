@@ -8,6 +8,7 @@ use Rattle.strips.specs.declared.walk.Strip.{Strip}
 use Rattle.build.specs.declared.grid.Cut.{Cut}
 use Rattle.build.specs.Grid.{Root, width, height, boxed, row_of, cell_of, row_to, grid_to, evenly, even_strip}
 use Rattle.build.specs.Steps.{Cuts}
+use Rattle.build.specs.Laws.{area_of}
 use Rattle.build.proofs.Cutting.{pieces}
 
 -- a length w that n pieces of whole units make up: each piece is a positive number of units, and the pieces are all of w
@@ -36,7 +37,7 @@ module _ (w n u : ℕ) (some : 0 < w) (cut : 1 ≤ n) (e : w % (n * u) ≡ 0) wh
       by (suc k) q = (k, q)
 
 -- the next piece begins where one ends, and later ones not before it
-step : (d i : ℕ) → d * (i + 1) ≡ d * i + d
+pub step : (d i : ℕ) → d * (i + 1) ≡ d * i + d
 step d i = mul-add d i 1 ∙ ap (λ (x : ℕ). d * i + x) (mul-one d)
 
 pub pieces-apart : (x d i j : ℕ) → i < j → x + d * (i + 1) ≤ x + d * j
@@ -83,11 +84,6 @@ cells-apart s g i j p q d =
     (λ h. inl (pieces-apart s.x0 (width s / g.nx) i p h))
     (λ h. inr (pieces-apart s.y0 (height s / g.ny) j q h))
     d
-
--- areas
-unfoldable pub area_of : List Root → ℕ
-area_of [] = 0
-area_of (r ∷ rs) = (r.x1 - r.x0) * (r.y1 - r.y0) + area_of rs
 
 area-append : (a b : List Root) → area_of (a ++ b) ≡ area_of a + area_of b
 unfolding area_of

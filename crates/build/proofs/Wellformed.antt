@@ -17,6 +17,7 @@ use Rattle.table.proofs.Wellformed.{opt_none}
 use Rattle.build.specs.Grid.{Root, flat}
 use Rattle.build.specs.Board.{Board, polygons, roots_of}
 use Rattle.build.specs.Says.{build_says, filled, build_leaves}
+use Rattle.build.specs.Laws.{IsTableOfRoots}
 use Rattle.build.proofs.Placing.{length-flat}
 use Rattle.build.proofs.Formed.{slot, RootsOnly, passed, built-roots}
 
@@ -129,3 +130,11 @@ module _ (b : Board) (components : List ℕ) (sheets : List Float) (t : List ℤ
 
   pub built-parentless : (i : ℕ) → i < n → (Mesh.at (Mesh.table (build_leaves b components sheets t) n) i).parent ≡ None
   built-parentless = no-parent b (build_leaves b components sheets t) n (built-roots b components sheets t n e) (passed b components sheets t n e).board.polys
+
+pub tables-of-roots : (b : Board) (components : List ℕ) (sheets : List Float) (t : List ℤ) (n : ℕ) → build_says b components sheets (length t) ≡ accepted (n ∷ []) → IsTableOfRoots (build_leaves b components sheets t) n b.settings.max_level
+tables-of-roots b components sheets t n e =
+    record {
+      formed = built-formed b components sheets t n e;
+      leaves = built-leaves b components sheets t n e;
+      roots = built-parentless b components sheets t n e;
+    }

@@ -3,6 +3,7 @@ use Rattle.std.specs.Prelude.{ℕ, zero, suc, ◌+◌, ◌^◌, List, [], ◌++�
 use Rattle.strips.specs.Strips.{strips_of}
 use Rattle.strips.specs.declared.walk.Strip.{Strip}
 use Rattle.build.specs.declared.Settings.{Settings}
+use Rattle.build.specs.declared.outlines.Outlines.{Outlines}
 use Rattle.build.specs.Grid.{Root, roots_in, size_of}
 
 -- what the roots come from. A polygon's component and sheet resistance play no part
@@ -17,6 +18,10 @@ pub record Board : Type 0 where
 
 abbrev pub board : Settings → List (List ℕ) → List ℕ → List ℕ → List (List ℤ) → Board
 board s list layers counts points = record { settings = s; list = list; layers = layers; counts = counts; points = points }
+
+-- the same of the lent rows
+abbrev pub board_of : Settings → List (List ℕ) → Outlines → Board
+board_of s list o = board s list o.layers.now o.counts.now o.points.now
 
 unfoldable pub sum_to : List ℕ → ℕ → ℕ
 sum_to cs zero = 0

@@ -3,3 +3,4 @@ pub mod Grid
 pub mod Board
 pub mod Says
 pub mod Steps
+pub mod Laws

@@ -32,13 +32,6 @@ pub record Slotted (t : List ℤ) (k n : ℕ) : Type 0 where
   pub room : (k + n) * 8 ≤ length t
   pub few : length t ≤ max_slots * 8
 
--- a unit, the slots, and a count that may be past them
-pub record Counting (u slots n : ℕ) : Type 0 where
-  pub unit : 0 < u
-  pub unit-fits : u ≤ 2 ^ (widest_level + 1)
-  pub slots-fit : slots ≤ max_slots
-  pub count : n ≤ max_slots + max_cap * max_cap
-
 abbrev pub more_of : ℕ → ℕ → ℕ → ℕ
 more_of slots sum n = cond (ltb slots sum) sum (sum + n)
 
@@ -46,9 +39,15 @@ more_of slots sum n = cond (ltb slots sum) sum (sum + n)
 abbrev pub SameTo : ℕ → ℕ → ℕ → Type 0
 SameTo slots a b = min a (slots + 1) ≡ min b (slots + 1)
 
+-- the roots of even strips on top of a count
+pub record IsTally (u cap c slots before : ℕ) (ss : List Strip) (sum : ℕ) : Type 0 where
+  pub even : all_even u cap c ss ≡ true
+  pub counted : SameTo slots sum (before + length (roots_in 0 cap c ss))
+  pub fits : sum ≤ max_slots + max_cap * max_cap
+
 abbrev pub Tallied : ℕ → ℕ → ℕ → ℕ → ℕ → List Strip → Option ℕ → Type 0
-Tallied u cap c slots n ss (Some r) = (all_even u cap c ss ≡ true) × (SameTo slots r (n + length (roots_in 0 cap c ss)) × (r ≤ max_slots + max_cap * max_cap))
-Tallied u cap c slots n ss None = all_even u cap c ss ≡ false
+Tallied u cap c slots before ss (Some sum) = IsTally u cap c slots before ss sum
+Tallied u cap c slots before ss None = all_even u cap c ss ≡ false
 
 -- a board that has been judged
 pub record Fit (b : Board) : Type 0 where
@@ -63,18 +62,13 @@ pub record Fit (b : Board) : Type 0 where
   pub few : (p : ℕ) → p < length b.counts → length (ring_at b.counts b.points p) ≤ max_points
   pub polys : length b.counts ≤ max_polygons
 
--- work rows for the longest ring
-pub record Putting (hs es : ℕ) : Type 0 where
-  pub heights : max_points ≤ hs
-  pub edges : max_points ≤ es
-
-pub record Surveying (hs es slots : ℕ) : Type 0 where
-  pub rows : Putting hs es
-  pub slots-fit : slots ≤ max_slots
-
 -- what the survey of a board answers: every side even, and the roots counted; or the first polygon with an uneven side
+pub record IsSurvey (b : Board) (slots sum : ℕ) : Type 0 where
+  pub even : (o : Said) → even_from b 0 (polygons b) o ≡ o
+  pub counted : SameTo slots sum (length (roots_of b))
+
 abbrev pub Surveyed : Board → ℕ → Result ℕ Refusal → Type 0
-Surveyed b slots (Ok r) = ((o : Said) → even_from b 0 (polygons b) o ≡ o) × SameTo slots r (length (roots_of b))
+Surveyed b slots (Ok sum) = IsSurvey b slots sum
 Surveyed b slots (Err x) = (o : Said) → even_from b 0 (polygons b) o ≡ refusal x
 
 -- a table's shape

@@ -7,42 +7,60 @@ ghost use Rattle.strips.specs.Walk.{Sound};
 
 use strips::walk::Strip;
 
-// Into how many cells a strip is cut each way.
+/// Into how many cells a strip is cut each way.
 #[derive(Clone, Copy)]
 pub struct Cut {
     pub nx: u64,
     pub ny: u64,
 }
 
-// ceil(w / c), held within 1 to cap. Internal, as all of this module: the settings and the ring have been judged.
-#[tactic(auto, unfolding(crate::specs::Grid::held_at))]
-fn held(w: u64, c: u64, cap: u64) -> u64
-    requires { (w ≤ coordinate + coordinate) × Sizes cap c }
-    ensures { result ≡ held_at cap c w }
-{
-    let n = (w + (c - 1)) / c;
-    n.clamp(1, cap)
+/// How the strips of a polygon are cut.
+#[derive(Clone, Copy)]
+pub struct Cutter {
+    /// The cell to come as near to as whole cells do.
+    pub cell: u64,
+    /// The most cells of a strip each way.
+    pub cap: u64,
+    /// What the sides of cells are to be multiples of.
+    pub unit: u64,
+    ghost sizes: { Sizes cap cell },
+    ghost some_unit: { 0 < unit },
+    ghost unit_fits: { unit ≤ 2 ^ (widest_level + 1) },
 }
 
-pub fn cut_of(s: Strip, c: u64, cap: u64) -> Cut
-    requires { Sound s × Sizes cap c }
-    ensures { result ≡ cut_of cap c s }
-{
-    Cut {
-        nx: held(s.x1 - s.x0, c, cap),
-        ny: held(s.y1 - s.y0, c, cap),
+impl Cutter {
+    // ceil(length / cell), held within 1 to cap.
+    #[tactic(auto, unfolding(crate::specs::Grid::held_at))]
+    fn held(self, length: u64) -> u64
+        requires { length ≤ coordinate + coordinate }
+        ensures { result ≡ held_at self.cap self.cell length }
+    {
+        let n = (length + (self.cell - 1)) / self.cell;
+        n.clamp(1, self.cap)
+    }
+
+    /// Into how many cells a strip is cut.
+    pub fn cut_of(self, s: Strip) -> Cut
+        requires { Sound s }
+        ensures { result ≡ cut_of self.cap self.cell s }
+    {
+        Cut {
+            nx: self.held(s.x1 - s.x0),
+            ny: self.held(s.y1 - s.y0),
+        }
+    }
+
+    /// Whether both sides of the strip's cells are multiples of the unit.
+    pub fn is_even(self, s: Strip, g: Cut) -> bool
+        requires sound { Sound s }
+        requires within_cap { Cuts g }
+        ensures { result ≡ even_strip self.unit g s }
+    {
+        ((s.x1 - s.x0) % (g.nx * self.unit) == 0) & ((s.y1 - s.y0) % (g.ny * self.unit) == 0)
     }
 }
 
-// Whether both sides of the strip's cells are multiples of the unit.
-pub fn even(s: Strip, g: Cut, unit: u64) -> bool
-    requires { Sound s × (Cuts g × ((0 < unit) × (unit ≤ 2 ^ (widest_level + 1)))) }
-    ensures { result ≡ even_strip unit g s }
-{
-    ((s.x1 - s.x0) % (g.nx * unit) == 0) & ((s.y1 - s.y0) % (g.ny * unit) == 0)
-}
-
-// What base sides are to be multiples of.
+/// What base sides are to be multiples of.
 pub fn unit_of(max_level: u64) -> u64
     requires { max_level ≤ widest_level }
     ensures { result ≡ 2 ^ (max_level + 1) }
@@ -63,12 +81,13 @@ fn listed(list: &[[u64; 2]], layer: u64) -> u64
     0
 }
 
+/// The cell of a layer: the list's, or the target.
 pub fn size_of(list: &[[u64; 2]], layer: u64, target: u64) -> u64
     ensures { result ≡ size_of list.now layer target }
 {
-    let c = listed(list, layer);
-    if c == 0 {
+    let cell = listed(list, layer);
+    if cell == 0 {
         return target;
     }
-    c
+    cell
 }

@@ -3,140 +3,98 @@
 
 ghost use Rattle.std.specs.Prelude.{◌≡◌, ◌/◌, length};
 ghost use Rattle.strips.specs.Said.{if_accepted};
-ghost use Rattle.build.specs.Board.{board, roots_of};
-ghost use Rattle.build.specs.Says.{built_said, rows_shaped, build_says, build_leaves, even_from, room_for, filled};
-ghost use Rattle.build.specs.Steps.{Fit, Putting, Tabled};
+ghost use Rattle.build.specs.Board.{board_of, roots_of};
+ghost use Rattle.build.specs.Says.{built_said, build_says, build_leaves, even_from, room_for, filled};
+ghost use Rattle.build.specs.Steps.{Tabled};
 
+use judged::Judged;
+use outlines::Outlines;
 use refusals::Refusal;
 use refusals::limits::RING_POINTS;
+use strips::walk::WorkRoom;
 
 pub mod alone;
 pub mod grid;
-pub mod judge;
-pub mod polygons;
+pub mod judged;
+pub mod laws;
+pub mod outlines;
 pub mod put;
 pub mod ranges;
 pub mod survey;
 
-// How the roots are cut.
+/// How the roots are cut.
 #[derive(Clone, Copy)]
 pub struct Settings {
     pub max_level: u64,
+    /// The most cells that a strip is cut into each way.
     pub cap: u64,
-    // The cell that a polygon is cut into unless its layer has one of its own.
+    /// The cell that a polygon is cut into unless its layer has one of its own.
     pub target: u64,
 }
 
-// Whether the room has a table's shape and the polygons' rows fit together.
-#[tactic(auto, unfolding(crate::specs::Says::rows_shaped))]
-fn rows_fit(
-    layers: &[u16],
-    components: &[u32],
-    sheets: &[f64],
-    counts: &[u64],
-    points: &[[i64; 2]],
-    size: usize,
-) -> bool
-    ensures { result ≡ rows_shaped layers.now components.now sheets.now counts.now points.now size }
-{
-    let n = counts.len();
-    judge::room_shaped(size)
-        & ((layers.len() == n) & ((components.len() == n) & (sheets.len() == n)))
-        & judge::adds_up(counts, points.len())
-}
-
-// The roots of a board that has been judged: 5 and 6, and then the writing, by way of two work rows. Internal.
-fn cut_many(
-    s: Settings,
-    list: &[[u64; 2]],
-    layers: &[u16],
-    counts: &[u64],
-    points: &[[i64; 2]],
-    heights: &mut [u64],
-    edges: &mut [u64],
-    table: &mut [i64],
-) -> Result<usize, Refusal>
-    requires { Fit (board s list.now layers.now counts.now points.now) × (Putting (length heights.old)
-        (length edges.old) × Tabled table.old) }
-    ensures result_value { built_said result
-        ≡ even_from (board s list.now layers.now counts.now points.now) 0 (length counts.now) (room_for
-        (length table.old / 8) (length (roots_of (board s list.now layers.now counts.now points.now)))) }
-    ensures table_after { table.new
-        ≡ if_accepted (built_said result) (filled (board s list.now layers.now counts.now points.now)
-        (length table.old)) table.old }
+// The roots of a board that has been judged: 5 and 6, and then the writing.
+fn cut_many(board: &Judged<'_>, room: &mut WorkRoom, table: &mut [i64]) -> Result<usize, Refusal>
+    requires { Tabled table.old }
+    ensures answer { let b = board_of board.now.settings board.now.list.now board.now.outlines in
+        built_said result ≡ even_from b 0 (length board.now.outlines.counts.now) (room_for (length table.old / 8) (length (roots_of b))) }
+    ensures slots { let b = board_of board.now.settings board.now.list.now board.now.outlines in
+        table.new ≡ if_accepted (built_said result) (filled b (length table.old)) table.old }
 {
     let slots = (table.len() / 8) as u64;
-    let n = polygons::survey_all(s, list, layers, counts, points, heights, edges, slots)?;
+    let n = survey::survey(board, room, slots)?;
     if slots < n {
         return Err(Refusal::NoRoom);
     }
-    let k = polygons::put_all(s, list, layers, counts, points, heights, edges, table);
+    let k = put::put_all(board, room, table);
     put::clear(table, k * 8);
     Ok(k)
 }
 
 // The same, by a shorter way for a board of one polygon.
-fn cut(
-    s: Settings,
-    list: &[[u64; 2]],
-    layers: &[u16],
-    counts: &[u64],
-    points: &[[i64; 2]],
-    heights: &mut [u64],
-    edges: &mut [u64],
-    table: &mut [i64],
-) -> Result<usize, Refusal>
-    requires { Fit (board s list.now layers.now counts.now points.now) × (Putting (length heights.old)
-        (length edges.old) × Tabled table.old) }
-    ensures result_value { built_said result
-        ≡ even_from (board s list.now layers.now counts.now points.now) 0 (length counts.now) (room_for
-        (length table.old / 8) (length (roots_of (board s list.now layers.now counts.now points.now)))) }
-    ensures table_after { table.new
-        ≡ if_accepted (built_said result) (filled (board s list.now layers.now counts.now points.now)
-        (length table.old)) table.old }
+fn cut(board: &Judged<'_>, table: &mut [i64]) -> Result<usize, Refusal>
+    requires { Tabled table.old }
+    ensures answer { let b = board_of board.now.settings board.now.list.now board.now.outlines in
+        built_said result ≡ even_from b 0 (length board.now.outlines.counts.now) (room_for (length table.old / 8) (length (roots_of b))) }
+    ensures slots { let b = board_of board.now.settings board.now.list.now board.now.outlines in
+        table.new ≡ if_accepted (built_said result) (filled b (length table.old)) table.old }
 {
-    if counts.len() == 1 {
-        let unit = grid::unit_of(s.max_level);
-        let c = grid::size_of(list, layers[0] as u64, s.target);
-        return alone::cut_alone(points, heights, edges, c, s.cap, unit, table);
+    let mut room = WorkRoom {
+        heights: [0; RING_POINTS],
+        edges: [0; RING_POINTS],
+    };
+    if board.outlines.counts.len() == 1 {
+        return alone::cut_alone(board, &mut room, table);
     }
-    cut_many(s, list, layers, counts, points, heights, edges, table)
+    cut_many(board, &mut room, table)
 }
 
-// The level-0 table of a board: the roots of every polygon, in order, and zeros behind them.
+/// The level-0 table of a board: the roots of every polygon, in order, and zeros behind them. The layer list has layer and
+/// cell in each entry.
 #[tactic(auto, unfolding(crate::specs::Says::build_says, crate::specs::Says::build_leaves, crate::specs::Says::settings_ok))]
 pub fn build(
-    s: Settings,
+    settings: Settings,
     list: &[[u64; 2]],
-    layers: &[u16],
-    components: &[u32],
-    sheets: &[f64],
-    counts: &[u64],
-    points: &[[i64; 2]],
+    outlines: &Outlines<'_>,
     table: &mut [i64],
 ) -> Result<usize, Refusal>
-    ensures result_value { built_said result
-        ≡ build_says (board s list.now layers.now counts.now points.now) components.now sheets.now (length table.old) }
-    ensures table_after { table.new
-        ≡ build_leaves (board s list.now layers.now counts.now points.now) components.now sheets.now table.old }
+    ensures answer { built_said result
+        ≡ build_says (board_of settings list.now outlines.now) outlines.now.components.now outlines.now.sheets.now
+        (length table.old) }
+    ensures slots { table.new
+        ≡ build_leaves (board_of settings list.now outlines.now) outlines.now.components.now outlines.now.sheets.now
+        table.old }
 {
-    if !rows_fit(layers, components, sheets, counts, points, table.len()) {
+    if !outlines.fit(table.len()) {
         return Err(Refusal::BadTable);
     }
-    if !(ranges::numbers_ok(s, counts.len()) & ranges::list_ok(list)) {
+    if !(ranges::numbers_ok(settings, outlines.counts.len()) & ranges::list_ok(list)) {
         return Err(Refusal::OutOfRange(0));
     }
-    judge::judge(sheets, counts, points)?;
-    let mut heights = [0u64; RING_POINTS];
-    let mut edges = [0u64; RING_POINTS];
-    cut(
-        s,
+    outlines.judge()?;
+    let board = Judged {
+        settings,
         list,
-        layers,
-        counts,
-        points,
-        &mut heights,
-        &mut edges,
-        table,
-    )
+        outlines: *outlines,
+    };
+    cut(&board, table)
 }

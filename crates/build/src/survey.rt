@@ -1,18 +1,22 @@
-// Base sides judged and roots counted before anything is written. Internal, all of it: settings and rings have been judged.
-ghost use Rattle.std.specs.Prelude.{◌≡◌, ◌+◌, ◌*◌, ◌≤◌, ◌<◌};
+// Base sides judged and roots counted before anything is written. Rings and settings have been judged.
+ghost use Rattle.std.specs.Prelude.{◌≡◌, ◌+◌, ◌*◌, ◌≤◌, length};
 ghost use Rattle.refusals.specs.Limits.{max_cap, max_slots};
 ghost use Rattle.strips.specs.Strips.{strips_of};
-ghost use Rattle.strips.specs.Walk.{Ready, Roomy};
-ghost use Rattle.build.specs.Steps.{Sizes, Cuts, Counting, Tallied, more_of};
+ghost use Rattle.build.specs.Board.{board_of};
+ghost use Rattle.build.specs.Steps.{Cuts, Surveyed, Tallied, more_of};
 
-use crate::grid;
-use crate::grid::Cut;
-use strips::walk;
+use crate::grid::{Cut, Cutter};
+use crate::judged::Judged;
+use refusals::Refusal;
+use strips::walk::{Ready, WorkRoom};
 
 // A strip's cells on top of a count. A count that is past the slots already stays, so that none is too large for 64 bits.
 fn more(sum: u64, slots: u64, g: Cut) -> u64
-    requires { Cuts g × ((slots ≤ max_slots) × (sum ≤ max_slots + max_cap * max_cap)) }
-    ensures { (result ≡ more_of slots sum (g.ny * g.nx)) × (result ≤ max_slots + max_cap * max_cap) }
+    requires within_cap { Cuts g }
+    requires slots_fit { slots ≤ max_slots }
+    requires sum_fits { sum ≤ max_slots + max_cap * max_cap }
+    ensures sum { result ≡ more_of slots sum (g.ny * g.nx) }
+    ensures fits { result ≤ max_slots + max_cap * max_cap }
 {
     if slots < sum {
         return sum;
@@ -20,52 +24,40 @@ fn more(sum: u64, slots: u64, g: Cut) -> u64
     sum + g.ny * g.nx
 }
 
-// The roots of a ring on top of a count; None where a side is uneven.
-pub fn tally_strips(
-    points: &[[i64; 2]],
-    heights: &[u64],
-    edges: &[u64],
-    c: u64,
-    cap: u64,
-    unit: u64,
-    slots: u64,
-    n: u64,
-) -> Option<u64>
-    requires { Ready points.now heights.now edges.now × (Sizes cap c × Counting unit slots n) }
-    ensures { Tallied unit cap c slots n (strips_of points.now) result }
+/// The roots of a ring on top of a count, which stops once it is past the slots; None where a side is uneven.
+pub fn tally_strips(ring: &Ready<'_>, cutter: Cutter, slots: u64, before: u64) -> Option<u64>
+    requires slots_fit { slots ≤ max_slots }
+    requires count_fits { before ≤ max_slots + max_cap * max_cap }
+    ensures { Tallied cutter.unit cutter.cap cutter.cell slots before (strips_of ring.now.points.now) result }
 {
-    let mut band = walk::start(points, heights);
-    let mut edge = 0;
-    let mut sum = n;
-    while let walk::Ahead::Found(s, next_band, next_edge) = walk::next(
-        points, heights, edges, band, edge,
-    ) {
-        let g = grid::cut_of(s, c, cap);
-        if !grid::even(s, g, unit) {
+    let mut sum = before;
+    for strip in ring.strips() {
+        let cut = cutter.cut_of(strip);
+        if !cutter.is_even(strip, cut) {
             return None;
         }
-        sum = more(sum, slots, g);
-        band = next_band;
-        edge = next_edge;
+        sum = more(sum, slots, cut);
     }
     Some(sum)
 }
 
-// The same with the work rows made ready first.
-pub fn tally_ring(
-    points: &[[i64; 2]],
-    heights: &mut [u64],
-    edges: &mut [u64],
-    c: u64,
-    cap: u64,
-    unit: u64,
-    slots: u64,
-    n: u64,
-) -> Option<u64>
-    requires { Roomy points.now heights.old edges.old × (Sizes cap c × Counting unit slots n) }
-    ensures { Tallied unit cap c slots n (strips_of points.now) result }
+/// How many roots a board has, as far as one more than the slots or a few more; or the first polygon with an uneven side.
+pub fn survey(board: &Judged<'_>, room: &mut WorkRoom, slots: u64) -> Result<u64, Refusal>
+    requires { slots ≤ max_slots }
+    ensures { Surveyed (board_of board.now.settings board.now.list.now board.now.outlines) slots result }
 {
-    let k = points.len();
-    let m = walk::prepare(points, heights, edges);
-    tally_strips(points, &heights[..k], &edges[..m], c, cap, unit, slots, n)
+    let outlines = board.outlines;
+    let mut sum = 0;
+    let mut at = 0;
+    for p in 0..outlines.counts.len() {
+        let points = outlines.ring(p, at);
+        let ring = room.ready(points);
+        let cutter = board.cutter(p);
+        let Some(next) = tally_strips(&ring, cutter, slots, sum) else {
+            return Err(Refusal::UnevenCell(p));
+        };
+        sum = next;
+        at += points.len();
+    }
+    Ok(sum)
 }

@@ -11,6 +11,7 @@ ghost use Rattle.leafmesh.specs.Outcome.{outcome_of, cut_settings, board_setting
 ghost use Rattle.leafmesh.specs.Reads.{read_outcome_of};
 
 use crate::{Outcome, of_count};
+use build::outlines::Outlines;
 use record::check::Read;
 use refusals::Refusal;
 
@@ -102,7 +103,14 @@ pub extern "C" fn leafmesh_build(
         cap,
         target,
     };
-    of_count(build::build(s, list, layers, components, sheets, counts, points, table))
+    let outlines = Outlines {
+        layers,
+        components,
+        sheets,
+        counts,
+        points,
+    };
+    of_count(build::build(s, list, &outlines, table))
 }
 
 // A board record into lent rows.

@@ -6,6 +6,7 @@ ghost use Rattle.mesh.specs.Refining.{refine_all_says, refine_all_row};
 ghost use Rattle.mesh.specs.Growing.{given, grow_says, grow_leaves};
 
 use build::Settings;
+use build::outlines::Outlines;
 use even::{Evening, balance};
 use refusals::Refusal;
 use table::Head;
@@ -44,7 +45,14 @@ pub fn grow(
         components.now sheets.now counts.now points.now
         splits.now (length table.old)) table.old }
 {
-    let count = build::build(s, list, layers, components, sheets, counts, points, table)?;
+    let outlines = Outlines {
+        layers,
+        components,
+        sheets,
+        counts,
+        points,
+    };
+    let count = build::build(s, list, &outlines, table)?;
     let roots = Head {
         count,
         max_level: s.max_level,

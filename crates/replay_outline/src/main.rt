@@ -5,6 +5,7 @@
 #![tactic(auto)]
 
 use build::Settings;
+use build::outlines::Outlines;
 use cases::{Cases, print};
 use std::alloc::{AllocError, Global};
 use std::fmt::Write;
@@ -43,16 +44,14 @@ fn run_build(alloc: Global, cases: &mut Cases, out: &mut String) -> Result<(), A
     let points: Vec<[i64; 2]> = cases.row(alloc)?;
     let mut table: Vec<i64> = cases.row(alloc)?;
     write!(out, "build")?;
-    let answer = build::build(
-        settings,
-        &list,
-        &layers,
-        &components,
-        &sheets,
-        &counts,
-        &points,
-        &mut table,
-    );
+    let outlines = Outlines {
+        layers: &layers,
+        components: &components,
+        sheets: &sheets,
+        counts: &counts,
+        points: &points,
+    };
+    let answer = build::build(settings, &list, &outlines, &mut table);
     print::counted(out, answer)?;
     print::row(out, &table)
 }

@@ -8,3 +8,4 @@ pub mod Laying
 pub mod Crossing
 pub mod Evenness
 pub mod Bounds
+pub mod One

@@ -6,3 +6,5 @@ pub mod Said
 pub mod Levels
 pub mod Tally
 pub mod Walk
+pub mod Coming
+pub mod Laws

@@ -5,12 +5,13 @@ ghost use Rattle.std.specs.Prelude.{◌≡◌, ◌≤◌, length};
 ghost use Rattle.refusals.specs.Limits.{max_points};
 ghost use Rattle.strips.specs.Said.{stripped_said, strips_says, strips_leave, laid, counted, if_accepted};
 ghost use Rattle.strips.specs.Strips.{strips_of};
-ghost use Rattle.strips.specs.Walk.{all_of, edges_of, few_points};
+ghost use Rattle.strips.specs.Walk.{edges_of, few_points};
 
 use refusals::Refusal;
 use refusals::limits::RING_POINTS;
+use walk::Ready;
 
-pub mod bands;
+pub mod laws;
 pub mod ring;
 pub mod tally;
 pub mod walk;
@@ -18,47 +19,51 @@ pub mod walk;
 // A ring of at most so many points has short work rows.
 const FEW: usize = 16;
 
-// The strips into the row if there is room for them. Internal: a ring's heights and edges, made ready, are lent.
-fn lay(
-    points: &[[i64; 2]],
-    heights: &[u64],
-    edges: &[u64],
-    out: &mut [[i64; 4]],
-) -> Result<usize, Refusal>
-    ensures result_value { stripped_said result ≡ counted (length (all_of points.now heights.now edges.now)) (length out.old) }
-    ensures out_after { out.new ≡ if_accepted (stripped_said result) (laid (all_of points.now heights.now edges.now) out.old) out.old }
+// The strips into the row if there is room for them.
+fn lay(ring: &Ready<'_>, out: &mut [[i64; 4]]) -> Result<usize, Refusal>
+    ensures answer { stripped_said result ≡ counted (length (strips_of ring.now.points.now)) (length out.old) }
+    ensures row { out.new ≡ if_accepted (stripped_said result) (laid (strips_of ring.now.points.now) out.old) out.old }
 {
     let room = out.len();
-    let n = bands::count(points, heights, edges, room);
-    if room < n {
+    if room < ring.strips().take(room + 1).count() {
         return Err(Refusal::NoRoom);
     }
-    bands::put_all(points, heights, edges, out);
+    let mut n = 0;
+    for strip in ring.strips() {
+        out[n] = strip.row();
+        n += 1;
+    }
     Ok(n)
 }
 
-// The heights into a work row, and the strips. Internal, as all below but `strips`: the ring has been judged.
+// The heights into a work row, and the strips. The ring has been judged, here and in the next three.
 fn cut(
     points: &[[i64; 2]],
     heights: &mut [u64],
     edges: &[u64],
     out: &mut [[i64; 4]],
 ) -> Result<usize, Refusal>
-    requires fits { (length points.now ≤ max_points) × (length points.now ≤ length heights.old) }
-    requires in_order { edges.now ≡ edges_of points.now }
-    ensures result_value { stripped_said result ≡ counted (length (strips_of points.now)) (length out.old) }
-    ensures out_after { out.new ≡ if_accepted (stripped_said result) (laid (strips_of points.now) out.old) out.old }
+    requires within_limit { length points.now ≤ max_points }
+    requires row_long_enough { length points.now ≤ length heights.old }
+    requires edges_in_order { edges.now ≡ edges_of points.now }
+    ensures answer { stripped_said result ≡ counted (length (strips_of points.now)) (length out.old) }
+    ensures row { out.new ≡ if_accepted (stripped_said result) (laid (strips_of points.now) out.old) out.old }
 {
     let n = points.len();
     walk::sort_heights(points, &mut heights[..n]);
-    lay(points, &heights[..n], edges, out)
+    let ring = Ready {
+        points,
+        heights: &heights[..n],
+        edges,
+    };
+    lay(&ring, out)
 }
 
 // Short work rows. Long ones stand in frames of their own, below, so that a ring of few points takes no stack for them.
 fn cut_few(points: &[[i64; 2]], out: &mut [[i64; 4]]) -> Result<usize, Refusal>
     requires { length points.now ≤ few_points }
-    ensures result_value { stripped_said result ≡ counted (length (strips_of points.now)) (length out.old) }
-    ensures out_after { out.new ≡ if_accepted (stripped_said result) (laid (strips_of points.now) out.old) out.old }
+    ensures answer { stripped_said result ≡ counted (length (strips_of points.now)) (length out.old) }
+    ensures row { out.new ≡ if_accepted (stripped_said result) (laid (strips_of points.now) out.old) out.old }
 {
     let mut heights = [0u64; FEW];
     let mut edges = [0u64; FEW];
@@ -68,9 +73,10 @@ fn cut_few(points: &[[i64; 2]], out: &mut [[i64; 4]]) -> Result<usize, Refusal>
 
 #[inline(never)]
 fn cut_bands(points: &[[i64; 2]], edges: &[u64], out: &mut [[i64; 4]]) -> Result<usize, Refusal>
-    requires { (length points.now ≤ max_points) × (edges.now ≡ edges_of points.now) }
-    ensures result_value { stripped_said result ≡ counted (length (strips_of points.now)) (length out.old) }
-    ensures out_after { out.new ≡ if_accepted (stripped_said result) (laid (strips_of points.now) out.old) out.old }
+    requires within_limit { length points.now ≤ max_points }
+    requires edges_in_order { edges.now ≡ edges_of points.now }
+    ensures answer { stripped_said result ≡ counted (length (strips_of points.now)) (length out.old) }
+    ensures row { out.new ≡ if_accepted (stripped_said result) (laid (strips_of points.now) out.old) out.old }
 {
     let mut heights = [0u64; RING_POINTS];
     cut(points, &mut heights, edges, out)
@@ -80,18 +86,18 @@ fn cut_bands(points: &[[i64; 2]], edges: &[u64], out: &mut [[i64; 4]]) -> Result
 #[inline(never)]
 fn cut_many(points: &[[i64; 2]], out: &mut [[i64; 4]]) -> Result<usize, Refusal>
     requires { length points.now ≤ max_points }
-    ensures result_value { stripped_said result ≡ counted (length (strips_of points.now)) (length out.old) }
-    ensures out_after { out.new ≡ if_accepted (stripped_said result) (laid (strips_of points.now) out.old) out.old }
+    ensures answer { stripped_said result ≡ counted (length (strips_of points.now)) (length out.old) }
+    ensures row { out.new ≡ if_accepted (stripped_said result) (laid (strips_of points.now) out.old) out.old }
 {
     let mut edges = [0u64; RING_POINTS];
     let m = walk::sort_edges(points, &mut edges[..points.len()]);
     cut_bands(points, &edges[..m], out)
 }
 
-// The strips of a ring, by band from the bottom, then left to right: x0, y0, x1, y1 in each row.
+/// The strips of a ring, by band from the bottom, then left to right: x0, y0, x1, y1 in each row.
 pub fn strips(points: &[[i64; 2]], out: &mut [[i64; 4]]) -> Result<usize, Refusal>
-    ensures result_value { stripped_said result ≡ strips_says points.now (length out.old) }
-    ensures out_after { out.new ≡ strips_leave points.now out.old }
+    ensures answer { stripped_said result ≡ strips_says points.now (length out.old) }
+    ensures row { out.new ≡ strips_leave points.now out.old }
 {
     if !ring::in_range(points) {
         return Err(Refusal::OutOfRange(0));

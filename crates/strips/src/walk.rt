@@ -3,7 +3,7 @@
 ghost use Rattle.std.specs.Prelude.{◌≡◌, ◌+◌, ◌<◌, ◌≤◌, length, drop};
 ghost use Rattle.refusals.specs.Limits.{coordinate, max_points};
 ghost use Rattle.strips.specs.Tally.{Tallied};
-ghost use Rattle.strips.specs.Walk.{heights_of, unsorted_edges, edges_of, Gathered, Prepared, Roomy, Finds, Skips, left, start_band, ahead};
+ghost use Rattle.strips.specs.Walk.{heights_of, unsorted_edges, edges_of, Gathered, Prepared, Roomy, Finds, Skips, left, ahead};
 
 use crate::{ring, tally};
 use cell::ticks;
@@ -12,6 +12,7 @@ use refusals::limits::RING_POINTS;
 // The highest offset coordinate.
 pub const COORDINATES: u64 = 1 << 37;
 
+/// A part of a ring's inside, between two heights: a rectangle in offset ticks.
 #[derive(Clone, Copy)]
 pub struct Strip {
     pub x0: u64,
@@ -20,9 +21,52 @@ pub struct Strip {
     pub y1: u64,
 }
 
+impl Strip {
+    ghost use Rattle.strips.specs.Said.{strip_row};
+
+    /// The corners in the caller's ticks: x0, y0, x1, y1.
+    pub fn row(self) -> [i64; 4]
+        ensures { result ≡ strip_row self }
+    {
+        [
+            ticks::ticks(self.x0),
+            ticks::ticks(self.y0),
+            ticks::ticks(self.x1),
+            ticks::ticks(self.y1),
+        ]
+    }
+}
+
+/// A ring made ready for the walk: the heights of its points and its vertical edges, each in rising order.
+#[derive(Clone, Copy)]
+pub struct Ready<'a> {
+    pub points: &'a [[i64; 2]],
+    pub heights: &'a [u64],
+    pub edges: &'a [u64],
+    ghost few: { length points.now ≤ max_points },
+    ghost heights_in_order: { heights.now ≡ heights_of points.now },
+    ghost edges_in_order: { edges.now ≡ edges_of points.now },
+}
+
+/// Room to make a ring ready in, whatever its length: rows for its heights and its edges.
+#[derive(Drop)]
+pub struct WorkRoom {
+    pub heights: [u64; RING_POINTS],
+    pub edges: [u64; RING_POINTS],
+}
+
+/// The strips of a ring that are still to come: by band from the bottom, then left to right.
+#[derive(Clone, Copy)]
+pub struct Strips<'a> {
+    pub ring: Ready<'a>,
+    /// The band that the walk has come to, and the first of the ring's edges that it has not passed there.
+    pub band: usize,
+    pub edge: usize,
+}
+
 // The next strip with the band and the edge to go on from, or the end.
 #[derive(Clone, Copy)]
-pub enum Ahead {
+enum Ahead {
     Found(Strip, usize, usize),
     End,
 }
@@ -83,7 +127,7 @@ pub fn sort_edges(points: &[[i64; 2]], row: &mut [u64]) -> usize
 
 // The heights and the vertical edges of a ring, each at the front of its row, in order. Answers how many edges there
 // are.
-pub fn prepare(points: &[[i64; 2]], heights: &mut [u64], edges: &mut [u64]) -> usize
+fn prepare(points: &[[i64; 2]], heights: &mut [u64], edges: &mut [u64]) -> usize
     requires { Roomy points.now heights.old edges.old }
     ensures { Prepared points.now heights.new edges.new result }
 {
@@ -95,7 +139,7 @@ pub fn prepare(points: &[[i64; 2]], heights: &mut [u64], edges: &mut [u64]) -> u
 
 // The first edge from j on that spans a band; the number of edges where none does. Internal: the band has a height and
 // is in range.
-pub fn find(points: &[[i64; 2]], edges: &[u64], j: usize, lo: u64, hi: u64) -> usize
+fn find(points: &[[i64; 2]], edges: &[u64], j: usize, lo: u64, hi: u64) -> usize
     requires { (lo < hi) × (hi ≤ coordinate + coordinate) }
     ensures { Finds points.now lo hi edges.now j result }
 {
@@ -110,15 +154,8 @@ pub fn find(points: &[[i64; 2]], edges: &[u64], j: usize, lo: u64, hi: u64) -> u
     edges.len()
 }
 
-// The band to start with: the end where the ring has fewer than 3 points.
-pub fn start(points: &[[i64; 2]], heights: &[u64]) -> usize
-    ensures { result ≡ start_band points.now heights.now }
-{
-    if points.len() < 3 { heights.len() } else { 0 }
-}
-
 // The first band from k on that has a height: heights that are equal are passed at once.
-pub fn skip(heights: &[u64], k: usize) -> usize
+fn skip(heights: &[u64], k: usize) -> usize
     requires { k < length heights.now }
     ensures { Skips heights.now k result }
 {
@@ -132,7 +169,8 @@ pub fn skip(heights: &[u64], k: usize) -> usize
 }
 
 // The next strip of positive width, from an edge of a band on.
-pub fn next(points: &[[i64; 2]], heights: &[u64], edges: &[u64], band: usize, edge: usize) -> Ahead
+#[inline(always)]
+fn next_strip(points: &[[i64; 2]], heights: &[u64], edges: &[u64], band: usize, edge: usize) -> Ahead
     ensures { ahead points.now heights.now edges.now result ≡ left points.now edges.now edge (drop band heights.now) }
 {
     if heights.len() == 0 {
@@ -173,4 +211,64 @@ pub fn next(points: &[[i64; 2]], heights: &[u64], edges: &[u64], band: usize, ed
         }
     }
     Ahead::End
+}
+
+impl WorkRoom {
+    /// Makes a ring ready. What the room held before is lost.
+    pub fn ready<'r>(&'r mut self, points: &'r [[i64; 2]]) -> Ready<'r>
+        requires { length points.now ≤ max_points }
+        ensures { result.points.now ≡ points.now }
+    {
+        let n = points.len();
+        let m = prepare(points, &mut self.heights, &mut self.edges);
+        Ready {
+            points,
+            heights: &self.heights[..n],
+            edges: &self.edges[..m],
+        }
+    }
+}
+
+impl<'a> Ready<'a> {
+    ghost use Rattle.strips.specs.Strips.{strips_of};
+    ghost use Rattle.strips.specs.Coming.{coming};
+
+    /// The strips of the ring.
+    pub fn strips(&self) -> Strips<'a>
+        ensures { coming result ≡ strips_of self.now.points.now }
+    {
+        // A ring of fewer than 3 points has none: the walk starts at its end.
+        let band = if self.points.len() < 3 { self.heights.len() } else { 0 };
+        Strips {
+            ring: *self,
+            band,
+            edge: 0,
+        }
+    }
+}
+
+impl<'a> Iterator for Strips<'a> {
+    ghost use Rattle.std.specs.Iterator.{YieldsFirst, item_count};
+    ghost use Rattle.strips.specs.Coming.{coming};
+
+    type Item = Strip;
+
+    ghost next_gives = { YieldsFirst coming };
+
+    ghost remaining = { item_count coming };
+
+    #[inline(always)]
+    fn next(&mut self) -> Option<Strip> {
+        match next_strip(self.ring.points, self.ring.heights, self.ring.edges, self.band, self.edge) {
+            Ahead::Found(strip, band, edge) => {
+                self.band = band;
+                self.edge = edge;
+                Some(strip)
+            }
+            Ahead::End => {
+                self.band = self.ring.heights.len();
+                None
+            }
+        }
+    }
 }

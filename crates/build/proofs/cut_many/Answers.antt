@@ -1,11 +1,11 @@
 use Rattle.std.proofs.Common.{◌∙◌}
-use Rattle.build.specs.Board.{board}
+use Rattle.build.specs.Board.{board_of}
 use Rattle.build.proofs.Fitting.{cleared}
 use Rattle.build.proofs.cut_many.Goals as goal
 
-pub returns-clause-table_after : goal.returns-clause-table_after
-returns-clause-table_after c =
-    let a = c.args in
+pub returns-clause-slots : goal.returns-clause-slots
+returns-clause-slots c =
+    let j = c.args.board.now in
+    let b = board_of j.settings j.list.now j.outlines in
     let v = c.put_all-k in
-    let b = board a.s a.list.now a.layers.now a.counts.now a.points.now in
-    c.clear.ensures ∙ cleared a.table.now v.new.t b v.result v.ensures.0 v.ensures.1 v.auto.t
+    c.clear.ensures ∙ cleared c.args.table.now v.new.t b v.result v.ensures.count v.ensures.slots v.auto.t

@@ -11,14 +11,14 @@ pub returns-then-not-in_range : goal.returns-then-not-in_range
 unfolding strips_says strips_leave
 returns-then-not-in_range c =
     let e : ring_in_range c.args.points.now ≡ false = sym c.in_range.ensures ∙ c.if-not-in_range.true in
-    rw e (record { result_value = refl; out_after = refl })
+    rw e (record { answer = refl; row = refl })
 
 pub returns-then-slanted : goal.returns-then-slanted
 unfolding strips_says strips_leave
 returns-then-slanted c =
     let e : ring_in_range c.args.points.now ≡ true = sym c.in_range.ensures ∙ c.if-not-in_range.false in
     let d : ring_slants c.args.points.now ≡ true = sym c.slanted.ensures ∙ c.if-slanted.true in
-    rw (e, d) (record { result_value = refl; out_after = refl })
+    rw (e, d) (record { answer = refl; row = refl })
 
 pub cut_many-requires : goal.cut_many-requires
 cut_many-requires c = few-points _ (sym c.in_range.ensures ∙ c.if-not-in_range.false)
@@ -39,11 +39,11 @@ returns-then-points-le-FEW c =
     let k = c.cut_few.ensures in
     let i = sym c.in_range.ensures ∙ c.if-not-in_range.false in
     let s = sym c.slanted.ensures ∙ c.if-slanted.false in
-    record { result_value = says _ _ _ i s k.result_value; out_after = leaves _ _ _ i s k.result_value _ k.out_after }
+    record { answer = says _ _ _ i s k.answer; row = leaves _ _ _ i s k.answer _ k.row }
 
 pub returns : goal.returns
 returns c =
     let k = c.cut_many.ensures in
     let i = sym c.in_range.ensures ∙ c.if-not-in_range.false in
     let s = sym c.slanted.ensures ∙ c.if-slanted.false in
-    record { result_value = says _ _ _ i s k.result_value; out_after = leaves _ _ _ i s k.result_value _ k.out_after }
+    record { answer = says _ _ _ i s k.answer; row = leaves _ _ _ i s k.answer _ k.row }

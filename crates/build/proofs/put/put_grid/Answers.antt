@@ -21,17 +21,18 @@ pub put_row-requires : goal.put_row-requires
 put_row-requires c =
     let z = c.requires in
     let f = fits c.args.poly c.args.s c.args.g c.loop-j.j c.loop-j-test.true in
-    rw c.row_of.ensures (
-      (omega (arith, z.0.wide), z.0.right),
-      (
-        z.1.0.x-some,
-        (record { room = omega (arith, z.1.1.0.room); few = omega (arith, z.1.1.0.few) }, z.1.1.1),
-      ),
-    )
+    rw c.row_of.ensures
+    (record {
+      width = omega (arith, z.sound.wide);
+      in_range = z.sound.right;
+      some_cells = z.within_cap.x-some;
+      room = record { room = omega (arith, z.room.room); few = omega (arith, z.room.few) };
+      polygon_in_range = z.polygon_in_range;
+    })
 
 pub overflow_add-at : goal.overflow_add-at
 overflow_add-at c =
-    let z = c.requires.1.1.0 in
+    let z = c.requires.room in
     omega (arith, fits c.args.poly c.args.s c.args.g c.loop-j.j c.loop-j-test.true, z.room, z.few)
 
 pub loop-j-preserved : goal.loop-j-preserved
@@ -47,6 +48,6 @@ loop-j-preserved c =
           ∙ ap (λ (q : Strip). placed s.t s.at (row_to a.poly q a.g.nx a.g.nx)) c.row_of.ensures
           ∙ ap (λ (l : List ℤ). placed l s.at r) s.invariant.put
           ∙ placed-more a.t.now a.k s.at (grid_to a.poly a.s a.g s.j) r s.invariant.next
-          (omega (arith, c.requires.1.1.0.room))
+          (omega (arith, c.requires.room.room))
           ∙ ap (placed a.t.now a.k) (sym (grid-more a.poly a.s a.g s.j));
     }

@@ -15,7 +15,7 @@ loop-i-preserved c =
     let s = c.loop-i in
     let here = boxed a.poly (cell_of a.r a.n s.i) ∷ [] in
     let n = length-row a.poly a.r a.n s.i in
-    let room = c.requires.1.1.0.room in
+    let room = c.requires.room.room in
     record {
       put = c.put_root.ensures
           ∙ ap (λ (l : List ℤ). placed l (a.k + s.i) here) s.invariant.put

@@ -14,7 +14,7 @@ returns-in_err-count c =
     a.points.now a.splits.now (length t) in
     let x = c.in_err-count in
     let said : evening_said c.from_residual.result ≡ refusal x.field-0.0 = search rules in
-    let r = roots-refused g t refl x.field-0.0 c.build.new.table x.ensures.result_value x.ensures.table_after in
+    let r = roots-refused g t refl x.field-0.0 c.build.new.table x.ensures.answer x.ensures.slots in
     record { result_value = said ∙ r.0; table_after = r.1 }
 
 pub returns-in_err-refined : goal.returns-in_err-refined
@@ -26,7 +26,7 @@ returns-in_err-refined c =
     let d = c.in_ok-count in
     let x = c.in_err-refined in
     let said : evening_said c.from_residual-in_err-refined.result ≡ refusal x.field-0.0 = search rules in
-    let r = split-refused g t refl d.count c.build.new.table d.ensures.result_value d.ensures.table_after x.field-0.0
+    let r = split-refused g t refl d.count c.build.new.table d.ensures.answer d.ensures.slots x.field-0.0
     c.refine_all.new.table x.ensures.result_value x.ensures.table_after in
     record { result_value = said ∙ r.0; table_after = r.1 }
 
@@ -42,9 +42,9 @@ returns c =
     let m = e.refined.max_level in
     record {
       result_value = c.balance.ensures.says
-          ∙ grown g t refl d.count c.build.new.table d.ensures.result_value d.ensures.table_after n m
+          ∙ grown g t refl d.count c.build.new.table d.ensures.answer d.ensures.slots n m
           c.refine_all.new.table e.ensures.result_value e.ensures.table_after;
       table_after = c.balance.ensures.row_after
-          ∙ grown-row g t refl d.count c.build.new.table d.ensures.result_value d.ensures.table_after n m
+          ∙ grown-row g t refl d.count c.build.new.table d.ensures.answer d.ensures.slots n m
           c.refine_all.new.table e.ensures.result_value e.ensures.table_after;
     }

@@ -1,0 +1,97 @@
+// Polygons as one value of lent rows, and what is judged of them before anything is cut.
+ghost use Rattle.std.specs.Prelude.{◌≡◌, ◌==◌, ◌+◌, ◌<◌, ◌^◌, length};
+ghost use Rattle.refusals.specs.Said.{Said};
+ghost use Rattle.build.specs.Board.{ring_at, sum_to};
+ghost use Rattle.build.specs.Says.{fault, judge_from, room_shaped, rows_shaped};
+
+use refusals::{Refusal, limits};
+use strips::ring;
+
+/// Polygons in lent rows: of each its layer, its component, its sheet resistance and how many points it has, and the
+/// points of all of them in order.
+#[derive(Clone, Copy)]
+pub struct Outlines<'a> {
+    pub layers: &'a [u16],
+    pub components: &'a [u32],
+    pub sheets: &'a [f64],
+    pub counts: &'a [u64],
+    pub points: &'a [[i64; 2]],
+}
+
+/// Whether a row of this length is a table's.
+pub fn room_shaped(size: usize) -> bool
+    ensures { result ≡ room_shaped size }
+{
+    (size % 8 == 0) & (size / 8 <= limits::SLOTS)
+}
+
+// Whether the point counts add up to a number.
+#[tactic(auto, using(crate::proofs::Judging::sum_none, crate::proofs::Judging::sum_more))]
+fn adds_up(counts: &[u64], total: usize) -> bool
+    ensures { result ≡ (sum_to counts.now (length counts.now) == total) }
+{
+    let mut left = total;
+    for i in 0..counts.len() {
+        let n = counts[i] as usize;
+        if left < n {
+            return false;
+        }
+        left -= n;
+    }
+    left == 0
+}
+
+impl<'a> Outlines<'a> {
+    /// Whether a row of this length is a table's, each row here has an entry for each polygon, and the counts add up to
+    /// the points.
+    #[tactic(auto, unfolding(crate::specs::Says::rows_shaped))]
+    pub fn fit(&self, size: usize) -> bool
+        ensures { result
+            ≡ rows_shaped self.now.layers.now self.now.components.now self.now.sheets.now self.now.counts.now
+            self.now.points.now size }
+    {
+        let n = self.counts.len();
+        room_shaped(size)
+            & ((self.layers.len() == n) & ((self.components.len() == n) & (self.sheets.len() == n)))
+            & adds_up(self.counts, self.points.len())
+    }
+
+    /// The points of a polygon, of which the first stands here in the row.
+    #[tactic(auto, using(crate::proofs::Judging::ring_ends))]
+    pub fn ring(&self, polygon: usize, first: usize) -> &'a [[i64; 2]]
+        requires inside { polygon < length self.now.counts.now }
+        requires points_fit { sum_to self.now.counts.now (length self.now.counts.now) ≡ length self.now.points.now }
+        requires starts_here { first ≡ sum_to self.now.counts.now polygon }
+        ensures points { result.now ≡ ring_at self.now.counts.now self.now.points.now polygon }
+        ensures next { first + length result.now ≡ sum_to self.now.counts.now (polygon + 1) }
+        ensures next_fits { first + length result.now < 2 ^ 63 }
+    {
+        let points = self.points;
+        let end = first + self.counts[polygon] as usize;
+        &points[first..end]
+    }
+
+    /// Sheet resistance and ring of each polygon: the refusal of the lowest polygon that has one.
+    pub fn judge(&self) -> Result<(), Refusal>
+        requires sheets_fit { length self.now.sheets.now ≡ length self.now.counts.now }
+        requires points_fit { sum_to self.now.counts.now (length self.now.counts.now) ≡ length self.now.points.now }
+        ensures { (o : Said) → fault result o
+            ≡ judge_from self.now.sheets.now self.now.counts.now self.now.points.now 0 (length self.now.counts.now) o }
+    {
+        let mut at = 0;
+        for p in 0..self.counts.len() {
+            if !floats::sheet_in_range(self.sheets[p]) {
+                return Err(Refusal::OutOfRange(p));
+            }
+            let ring = self.ring(p, at);
+            if !ring::in_range(ring) {
+                return Err(Refusal::OutOfRange(p));
+            }
+            if ring::slanted(ring) {
+                return Err(Refusal::Slanted(p));
+            }
+            at += ring.len();
+        }
+        Ok(())
+    }
+}

@@ -1,0 +1,65 @@
+use Rattle.std.proofs.Common.{length, ◌-◌, refl, sym, ◌∙◌, arith}
+use Rattle.strips.proofs.Levels.{left-none}
+use Rattle.strips.proofs.Walks.{left_end, left-strip, left-thin, left-on, band-falls, bands-fall}
+use Rattle.strips.proofs.walk.next_strip.Goals as goal
+
+pub returns-then-heights-eq0 : goal.returns-then-heights-eq0
+returns-then-heights-eq0 c =
+    let a = c.args in
+    sym (left_end a.points.now a.edges.now a.heights.now a.edge a.band (omega arith))
+
+pub loop-k-init : goal.loop-k-init
+loop-k-init c = refl
+
+pub returns-then-x0-x1 : goal.returns-then-x0-x1
+returns-then-x0-x1 c =
+    let a = c.args in
+    let s = c.loop-k in
+    sym
+    (left-strip a.points.now a.edges.now a.heights.now s.j s.k c.find-a.result c.find-b.result
+    (omega (arith, c.loop-k-test.true)) c.find-a.ensures c.find-b.ensures c.if-b-edges.true c.if-x0-x1.true)
+    ∙ s.invariant
+
+pub loop-k-smaller-else-x0-x1 : goal.loop-k-smaller-else-x0-x1
+loop-k-smaller-else-x0-x1 c = omega (arith, c.find-a.ensures.low, c.find-b.ensures.low)
+
+pub loop-k-preserved-else-x0-x1 : goal.loop-k-preserved-else-x0-x1
+loop-k-preserved-else-x0-x1 c =
+    let a = c.args in
+    let s = c.loop-k in
+    sym
+    (left-thin a.points.now a.edges.now a.heights.now s.j s.k c.find-a.result c.find-b.result
+    (omega (arith, c.loop-k-test.true)) c.find-a.ensures c.find-b.ensures c.if-b-edges.true c.if-x0-x1.false)
+    ∙ s.invariant
+
+pub loop-k-smaller-else-b-edges : goal.loop-k-smaller-else-b-edges
+loop-k-smaller-else-b-edges c =
+    band-falls (length c.args.heights.now - 1) c.loop-k.k (length c.args.edges.now) c.loop-k.j c.loop-k-test.true
+
+pub loop-k-preserved-else-b-edges : goal.loop-k-preserved-else-b-edges
+loop-k-preserved-else-b-edges c =
+    let a = c.args in
+    let s = c.loop-k in
+    sym
+    (left-on a.points.now a.edges.now a.heights.now s.j s.k c.find-a.result c.find-b.result
+    (omega (arith, c.loop-k-test.true)) c.find-a.ensures c.find-b.ensures c.if-b-edges.false)
+    ∙ s.invariant
+
+pub loop-k-smaller : goal.loop-k-smaller
+loop-k-smaller c =
+    bands-fall (length c.args.heights.now - 1) c.loop-k.k c.skip-k.result (length c.args.edges.now) c.loop-k.j
+    c.loop-k-test.true c.skip-k.ensures.low
+
+pub loop-k-preserved : goal.loop-k-preserved
+loop-k-preserved c =
+    let a = c.args in
+    let s = c.loop-k in
+    c.skip-k.ensures.same a.points.now a.edges.now
+    ∙ sym
+    (left-none a.points.now a.edges.now a.heights.now s.j s.k (omega (arith, c.loop-k-test.true)) c.if-lo-hi.false)
+    ∙ s.invariant
+
+pub returns : goal.returns
+returns c =
+    let a = c.args in
+    sym (left_end a.points.now a.edges.now a.heights.now c.loop-k.j c.loop-k.k (omega arith)) ∙ c.loop-k.invariant
