@@ -10,6 +10,7 @@ ghost use Rattle.leafrows.specs.Rows.{Given};
 ghost use Rattle.network.specs.Says.{polygons, rows, net_of, filled, counted, counts_said, netted_said, network_says, network_leaves, Roomy};
 
 pub mod judge;
+pub mod laws;
 
 use refusals::{Refusal, limits};
 use table::Head;
