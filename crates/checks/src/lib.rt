@@ -19,6 +19,8 @@ ghost use Rattle.checks.specs.Keys.{wide, max_nodes, last_key, last_in, class_ke
 ghost use Rattle.checks.specs.Rooms.{roomy, work_row, Block, Made, Ranged, Indexed, Walkable, Low};
 ghost use Rattle.checks.specs.Walks.{side_in, sides_in, leaf_in, Near, Placed, own_fault, own_fit, passes, own_says};
 
+pub mod laws;
+
 use cell::Cell;
 use conforming::Fault;
 use refusals::Refusal;

@@ -22,12 +22,13 @@ use Rattle.rows.proofs.Parts.{part-all, part-put}
 use Rattle.net.specs.Net.{Poly, Piece, pieces, network, weigh, bare, leaf_count, leaf_sum}
 use Rattle.net.specs.Flat.{Leaf, leaves_from}
 use Rattle.net.specs.Flat as Flat
-use Rattle.net.proofs.All.{All, all-at, all-each}
+use Rattle.net.proofs.All.{All, all-each}
 use Rattle.net.proofs.All as Each
 use Rattle.net.proofs.Board.{each-length, each_at}
 use Rattle.net.proofs.Flat.{flat-sum}
 use Rattle.net.specs.Laws.{HasArea, AllLeaves, IsWithin, widest}
-use Rattle.net.proofs.Nan.{Sized, Fine, Within}
+use Rattle.net.proofs.Faces.{Within}
+use Rattle.net.proofs.Leaves.{all-pieces, BoxWithin, nodes-within}
 use Rattle.places.specs.Places.{wide, box_at, Laid, Holds}
 use Rattle.bare.specs.Slots.{Upright}
 use Rattle.bare.proofs.Bridge.{Board}
@@ -35,7 +36,7 @@ use Rattle.leafrows.specs.Rows.{box_nums, poly_row, box_row, poly_at, polys_of, 
 use Rattle.leafrows.proofs.Ids.{leaf-id}
 use Rattle.leafrows.proofs.Leaves.{leaf_by, net-leaves, count-leaves}
 use Rattle.leafrows.proofs.Sides.{cell-positive}
-use Rattle.leafrows.proofs.Pieces.{all-table, all-tab, all-pieces, fine-pieces, Low, nodes-within}
+use Rattle.leafrows.proofs.Pieces.{all-table, all-tab}
 
 map_at : {A B : Type 0} (f : A → B) (l : List A) (v : ℕ) (a : A) (b : B) → v < length l → get_or (map f l) v b ≡ f (get_or l v a)
 map_at f [] v a b h = absurd (omega arith)
@@ -208,7 +209,7 @@ module _ (t : List ℤ) (n M : ℕ) (formed : well_formed t n M ≡ true) where
   cell-low i = let c = read-corners t i in (omega arith, omega arith, omega arith, omega arith)
 
   pub leaves-within : AllLeaves (IsWithin widest) (table t n)
-  leaves-within k d h leaf = all-at (λ (c : Cell). IsWithin widest c.box) d (table t n) k (all-table (λ (c : Cell). IsWithin widest c.box) t n within) h
+  leaves-within k d h leaf = Each.all-at (λ (c : Cell). IsWithin widest c.box) d (table t n) k (all-table (λ (c : Cell). IsWithin widest c.box) t n within) h
     where
       within : (i : ℕ) → i < n → IsWithin widest (box_of (cell_at t i))
       within i h = let l = cell-low i in record { area = cell-positive t n M formed i h; east = l.2; north = l.3 }

@@ -1,14 +1,9 @@
 -- What holds of each place holds of a whole table, and of a tabulated list. Assumes nothing.
-use Rattle.std.proofs.Common.{sym, subst, Bool, true, false, ◌&&◌, List, [], ◌∷◌, ℕ, zero, suc, ◌<◌, ◌≤◌, arith, T, eqb, ℤ}
-use lib.Ieee.Positive.{positive}
-use Rattle.cell.specs.Boxes.{Box}
+use Rattle.std.proofs.Common.{List, [], ◌∷◌, ℕ, zero, suc, ◌<◌, arith, ℤ}
 use Rattle.table.specs.Slots.{cell_at}
-use Rattle.table.specs.Mesh.{Cell, is_none, mesh_cell, table}
+use Rattle.table.specs.Mesh.{Cell, mesh_cell, table}
 use Rattle.rows.specs.Parts.{tab}
-use Rattle.net.specs.Net.{Poly, Piece, same_node, corners_at, corners_of, leaves_of, pieces, nodes_from}
-use Rattle.net.proofs.All.{All, all_append, all_nil, all_one, all-weld, all-each-by}
-use Rattle.net.proofs.Pieces.{all_corners, nodes-weld}
-use Rattle.net.proofs.Nan.{Sized, Fine, Within}
+use Rattle.net.proofs.All.{All, all_append, all_nil, all_one}
 
 module _ (Q : Cell → Type 0) (t : List ℤ) where
   pub all-table : (n : ℕ) → ((i : ℕ) → i < n → Q (mesh_cell (cell_at t i))) → All Q (table t n)

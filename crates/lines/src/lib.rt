@@ -8,6 +8,7 @@ ghost use Rattle.lines.specs.Text.{totals_most, leaf_most, node_most, edge_most,
 ghost use Rattle.lines.specs.Lines.{leaf_line, node_line, edge_line};
 
 pub mod all;
+pub mod laws;
 mod put;
 
 pub fn totals_line(

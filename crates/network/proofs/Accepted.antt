@@ -51,7 +51,7 @@ found c = by (fits c.table c.count c.max_level c.polygons c.lent) refl c.accepti
         (refused 3 0)
 
     in-range : (b : Bool) → rest b ≡ accepted c.counts → (k : ℕ) → k < length c.polygons.sheets → in_sheet (get_or c.polygons.sheets k nan) ≡ true
-    in-range true e k h = sheets-in c.polygons.sheets 0 (length c.polygons.sheets) _ c.counts e k (omega arith) h
+    in-range true e k h = sheets-in c.polygons.sheets 0 (length c.polygons.sheets) _ c.counts e k (omega arith) (omega arith)
     in-range false e k h = absurd (cc e)
 
     by : (b : Bool) → fits c.table c.count c.max_level c.polygons c.lent ≡ b → cond b (rest (leb (length c.polygons.layers) max_polygons)) (refused 7 0) ≡ accepted c.counts → Found c

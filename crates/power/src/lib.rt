@@ -11,6 +11,8 @@ ghost use Rattle.sound_net.specs.Facts.{Gap};
 ghost use Rattle.power.specs.Formulas.{slope_of, power_of};
 ghost use Rattle.power.specs.Powers.{value_at, values_at, powered, in_ranges, power_said, power_says, power_row, Sloped};
 
+pub mod laws;
+
 use refusals::Refusal;
 
 // What a cell's slope is worked out from: the potentials at SW, SE, NE, NW and the sides in ticks.
