@@ -7,8 +7,8 @@ pub fill_leaves-requires-clause-n_in_bounds : goal.fill_leaves-requires-clause-n
 fill_leaves-requires-clause-n_in_bounds c =
     let r = c.requires in
     let low = c.type_inv.layers in (
-      Whole.slots-fit r.given r.l_value.1 (λ j h. (low j).fits) r.l_value.0 r.roomy,
-      (Whole.leaves-require r.given r.l_value.1 (λ j h. (low j).fits) r.l_value.0 r.roomy).0,
+      Whole.slots-fit r.given r.one_component_a_layer (λ j h. (low j).fits) r.leaves_counted r.roomy,
+      (Whole.leaves-require r.given r.one_component_a_layer (λ j h. (low j).fits) r.leaves_counted r.roomy).0,
     )
 
 pub write_net-c-requires-clause-ready : goal.write_net-c-requires-clause-ready
@@ -16,7 +16,7 @@ write_net-c-requires-clause-ready c =
     let r = c.requires in
     let low = c.type_inv.layers in
     let f = c.fill_leaves in
-    Whole.net-requires r.given r.l_value.1 (λ j h. (low j).fits) r.l_value.0 r.roomy
+    Whole.net-requires r.given r.one_component_a_layer (λ j h. (low j).fits) r.leaves_counted r.roomy
     f.ensures.boxes_after f.ensures.work_after f.auto.boxes f.auto.work
 
 pub apply_weights-requires-clause-net_rows : goal.apply_weights-requires-clause-net_rows
@@ -26,9 +26,9 @@ apply_weights-requires-clause-net_rows c =
     let f = c.fill_leaves in
     let d =
     c.write_net-c.ensures.counted _
-    (Whole.net-given r.given r.l_value.1 (λ j h. (low j).fits) r.l_value.0 r.roomy
+    (Whole.net-given r.given r.one_component_a_layer (λ j h. (low j).fits) r.leaves_counted r.roomy
     f.ensures.boxes_after f.ensures.work_after f.auto.boxes f.auto.work) in
-    Whole.weights-require r.given r.l_value.1 (λ j h. (low j).fits) r.l_value.0 r.roomy
+    Whole.weights-require r.given r.one_component_a_layer (λ j h. (low j).fits) r.leaves_counted r.roomy
     f.ensures.boxes_after f.ensures.work_after f.auto.boxes f.auto.work d.0 d.1
 
 pub apply_weights-requires-clause-l_in_bounds : goal.apply_weights-requires-clause-l_in_bounds
@@ -39,10 +39,10 @@ apply_weights-requires-clause-l_in_bounds c =
     let w = c.write_net-c in
     let d =
     w.ensures.counted _
-    (Whole.net-given r.given r.l_value.1 (λ j h. (low j).fits) r.l_value.0 r.roomy
+    (Whole.net-given r.given r.one_component_a_layer (λ j h. (low j).fits) r.leaves_counted r.roomy
     f.ensures.boxes_after f.ensures.work_after f.auto.boxes f.auto.work) in
     let z =
-    Whole.weights-room r.given r.l_value.1 (λ j h. (low j).fits) r.l_value.0 r.roomy
+    Whole.weights-room r.given r.one_component_a_layer (λ j h. (low j).fits) r.leaves_counted r.roomy
     f.ensures.boxes_after f.ensures.work_after f.auto.boxes f.auto.work d.0 d.1 f.auto.work w.auto.conductances in
     (omega (arith, z.0, w.ensures.work_len_unchanged), z.1)
 
@@ -54,13 +54,13 @@ returns c =
     let w = c.write_net-c in
     let d =
     w.ensures.counted _
-    (Whole.net-given r.given r.l_value.1 (λ j h. (low j).fits) r.l_value.0 r.roomy
+    (Whole.net-given r.given r.one_component_a_layer (λ j h. (low j).fits) r.leaves_counted r.roomy
     f.ensures.boxes_after f.ensures.work_after f.auto.boxes f.auto.work) in
     let a = c.apply_weights.ensures in
     let z = a.work_after ∙ ap (λ k. replicate k 0) (w.ensures.work_len_unchanged ∙ f.auto.work) in
     record {
-      result_value = Whole.counts r.given r.l_value.1 (λ j h. (low j).fits) r.l_value.0 r.roomy
+      counts = Whole.counts r.given r.one_component_a_layer (λ j h. (low j).fits) r.leaves_counted r.roomy
           f.ensures.boxes_after f.ensures.work_after f.auto.boxes f.auto.work d.0 d.1 a.g_after z;
-      work_after = Whole.whole r.given r.l_value.1 (λ j h. (low j).fits) r.l_value.0 r.roomy
+      rows = Whole.whole r.given r.one_component_a_layer (λ j h. (low j).fits) r.leaves_counted r.roomy
           f.ensures.boxes_after f.ensures.work_after f.auto.boxes f.auto.work d.0 d.1 a.g_after z;
     }
