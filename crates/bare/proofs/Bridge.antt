@@ -20,7 +20,7 @@ use Rattle.cell.specs.Boxes.{Box}
 use Rattle.places.specs.Places.{wide, box_at, place_keys, node_nums, node_of, Holds, corner_nums}
 use Rattle.bare.specs.Slots.{many, corner, middle, hit_at, slot_end, slot_key, resistance}
 use Rattle.places.proofs.Places.{keys-long}
-use Rattle.places.proofs.Keyed.{node_at, places-keyed}
+use Rattle.places.proofs.Keyed.{node_at_lem, places-keyed}
 use Rattle.bare.proofs.Parted.{small_at, pick_low}
 
 -- ---- lists by new places
@@ -158,7 +158,7 @@ module _ (lay cmp : List ℕ) (sheets : List Float) (polys bs : List ℕ) (l : �
       ∙ (each_map node_nums (nth (flat_places lv)) (news ks (4 * length lv))
       ∙ (ap (λ (n : ℕ). each (λ i. node_nums (nth (flat_places lv) i)) (news ks (4 * n))) many-leaves
       ∙ each-news (λ i. node_nums (nth (flat_places lv) i)) (λ i. node_nums (node_of lay cmp polys bs l i)) ks (4 * l)
-      (λ i h. ap node_nums (node_at lay cmp polys bs l lv R.holds R.low R.size R.narrow R.inside i (omega arith))))))
+      (λ i h. ap node_nums (node_at_lem lay cmp polys bs l lv R.holds R.low R.size R.narrow R.inside i (omega arith))))))
 
   -- the numbers of corners, and the first places of middles
   module _ (nums mids : List ℕ) (en : nums ≡ tab (number_by ks) (4 * l)) (em : mids ≡ tab (λ j. first_of ks (4 * l + j)) (4 * l)) where

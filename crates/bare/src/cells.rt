@@ -11,7 +11,7 @@ use crate::slots::polygon;
 // numbered.
 pub fn write_corners(rows: &[u64], l: usize, corners: &mut [u64])
     requires slotted { Slotted rows.now l }
-    requires l_in_bounds { 4 * l ≤ length corners.old }
+    requires room { 4 * l ≤ length corners.old }
     ensures { corners.new ≡ put corners.old 0 (tab (λ i. get_or (nums_in rows.now l) i 0) (4 * l)) }
 {
     corners[..4 * l].copy_from_slice(&rows[18 * l..22 * l]);
@@ -21,7 +21,7 @@ pub fn write_corners(rows: &[u64], l: usize, corners: &mut [u64])
 pub fn write_sheets(sheets: &[f64], rows: &[u64], l: usize, sheet: &mut [f64])
     requires slotted { Slotted rows.now l }
     requires small { Small (length sheets.now) (polys_in rows.now l) }
-    requires l_in_bounds { l ≤ length sheet.old }
+    requires room { l ≤ length sheet.old }
     ensures { sheet.new ≡ put sheet.old 0 (tab (λ v. get_or sheets.now (get_or (polys_in rows.now l) v 0) nan) l) }
 {
     for v in 0..l {

@@ -10,7 +10,8 @@ use crate::slots::{hit_at, polygon, slot_end};
 
 // The resistance of side q of a leaf that is w wide and h high. Each operation is rounded once.
 fn resistance_of(sheet: f64, w: u64, h: u64, q: usize) -> f64
-    requires { (w < 2 ^ 53) × (h < 2 ^ 53) }
+    requires width { w < 2 ^ 53 }
+    requires height { h < 2 ^ 53 }
     ensures { result ≡ resistance sheet w h q }
 {
     if q < 2 {
@@ -26,7 +27,7 @@ fn slot_g(sheets: &[f64], boxes: &[u64], rows: &[u64], l: usize, j: usize) -> f6
     requires upright { Upright boxes.now l }
     requires slotted { Slotted rows.now l }
     requires small { Small (length sheets.now) (polys_in rows.now l) }
-    requires j_bound { j < 8 * l }
+    requires slot_there { j < 8 * l }
     ensures { result ≡ slot_g sheets.now boxes.now rows.now l j }
 {
     let v = j / 8;
@@ -56,7 +57,7 @@ fn put_pair(ends: &mut [u64], at: usize, a: u64, b: u64)
 pub fn write_ends(rows: &[u64], work: &[u64], l: usize, ends: &mut [u64]) -> usize
     requires slotted { Slotted rows.now l }
     requires parted { Parted rows.now work.now l }
-    requires l_in_bounds { 16 * l ≤ length ends.old }
+    requires room { 16 * l ≤ length ends.old }
     ensures { (result ≡ rank (slot_keys rows.now l) (8 * l)) × (ends.new ≡ put ends.old 0 (each (ends_of rows.now l) (news (slot_keys rows.now l) (8 * l)))) }
 {
     let from = 42 * l;
@@ -85,7 +86,7 @@ pub fn write_conductances(
     requires slotted { Slotted rows.now l }
     requires small { Small (length sheets.now) (polys_in rows.now l) }
     requires parted { Parted rows.now work.now l }
-    requires l_in_bounds { 8 * l ≤ length g.old }
+    requires room { 8 * l ≤ length g.old }
     ensures { (result ≡ rank (slot_keys rows.now l) (8 * l)) × (g.new ≡ put g.old 0 (each (λ j. slot_g sheets.now boxes.now rows.now l j ∷ []) (news (slot_keys rows.now l) (8 * l)))) }
 {
     let from = 42 * l;

@@ -10,7 +10,8 @@ ghost use Rattle.bare.specs.Slots.{many, corner, middle, hit_at, slot_end, slot_
 const MANY: u64 = 1 << 16;
 
 fn corner_of(q: usize, e: usize) -> usize
-    requires { (q < 4) × (e < 2) }
+    requires side { q < 4 }
+    requires end { e < 2 }
     ensures { (result ≡ corner q e) × (result < 4) }
 {
     match (q, e) {
@@ -24,10 +25,10 @@ fn corner_of(q: usize, e: usize) -> usize
 // The polygon of leaf v.
 pub(crate) fn polygon(rows: &[u64], l: usize, v: usize) -> u64
     requires slotted { Slotted rows.now l }
-    requires v_lt_l { v < l }
+    requires leaf_there { v < l }
     ensures value { result ≡ get_or (polys_in rows.now l) v 0 }
     ensures low { result < max_polygons }
-    ensures in_bounds { (n : ℕ) → Small n (polys_in rows.now l) → result < n }
+    ensures one_of_the_polygons { (n : ℕ) → Small n (polys_in rows.now l) → result < n }
 {
     rows[v]
 }
@@ -36,7 +37,7 @@ pub(crate) fn polygon(rows: &[u64], l: usize, v: usize) -> u64
 #[tactic(auto, using(crate::proofs::Halves::num_at, crate::proofs::Halves::num_low))]
 fn number(rows: &[u64], l: usize, i: usize) -> u64
     requires slotted { Slotted rows.now l }
-    requires i_lt { i < 4 * l }
+    requires corner_there { i < 4 * l }
     ensures value { result ≡ get_or (nums_in rows.now l) i 0 }
     ensures low { result < many }
 {
@@ -47,7 +48,8 @@ fn number(rows: &[u64], l: usize, i: usize) -> u64
 #[tactic(auto, using(crate::proofs::Halves::middle_at))]
 fn middle_of(rows: &[u64], l: usize, v: usize, q: usize) -> usize
     requires slotted { Slotted rows.now l }
-    requires v_lt_l { (v < l) × (q < 4) }
+    requires leaf_there { v < l }
+    requires side { q < 4 }
     ensures { result ≡ middle (mids_in rows.now l) v q }
 {
     rows[22 * l + (4 * v + q)] as usize
@@ -57,7 +59,8 @@ fn middle_of(rows: &[u64], l: usize, v: usize, q: usize) -> usize
 #[tactic(auto, unfolding(crate::specs::Slots::hit_at))]
 pub fn hit_at(rows: &[u64], l: usize, v: usize, q: usize) -> bool
     requires slotted { Slotted rows.now l }
-    requires v_lt_l { (v < l) × (q < 4) }
+    requires leaf_there { v < l }
+    requires side { q < 4 }
     ensures { result ≡ hit_at (polys_in rows.now l) (mids_in rows.now l) l v q }
 {
     let f = middle_of(rows, l, v, q);
@@ -68,7 +71,8 @@ pub fn hit_at(rows: &[u64], l: usize, v: usize, q: usize) -> bool
 #[tactic(auto, unfolding(crate::specs::Slots::slot_end, crate::specs::Slots::hit_at))]
 pub fn slot_end(rows: &[u64], l: usize, j: usize, e: usize) -> u64
     requires slotted { Slotted rows.now l }
-    requires j_bound { (j < 8 * l) × (e < 2) }
+    requires slot_there { j < 8 * l }
+    requires end { e < 2 }
     ensures { (result ≡ slot_end (polys_in rows.now l) (nums_in rows.now l) (mids_in rows.now l) l j e) × (result < many) }
 {
     let v = j / 8;
@@ -84,7 +88,7 @@ pub fn slot_end(rows: &[u64], l: usize, j: usize, e: usize) -> u64
 #[tactic(auto, unfolding(crate::specs::Slots::slot_key))]
 fn slot_key(rows: &[u64], l: usize, j: usize) -> u64
     requires slotted { Slotted rows.now l }
-    requires j_bound { j < 8 * l }
+    requires slot_there { j < 8 * l }
     ensures { result ≡ slot_key (polys_in rows.now l) (nums_in rows.now l) (mids_in rows.now l) l j }
 {
     let k = polygon(rows, l, j / 8);
@@ -95,7 +99,7 @@ fn slot_key(rows: &[u64], l: usize, j: usize) -> u64
 
 // The keys of the slots behind the rows.
 fn part_keys(work: &mut [u64], l: usize)
-    requires l_in_bounds { 50 * l ≤ length work.old }
+    requires room { 50 * l ≤ length work.old }
     requires slotted { Slotted (take (26 * l) work.old) l }
     ensures { work.new ≡ put work.old (26 * l) (tab (slot_key (polys_in (take (26 * l) work.old) l) (nums_in (take (26 * l) work.old) l) (mids_in (take (26 * l) work.old) l) l) (8 * l)) }
 {
@@ -107,7 +111,7 @@ fn part_keys(work: &mut [u64], l: usize)
 
 // The slots by key: for each the first one of its polygon and pair. Internal: the places are numbered.
 pub fn sort_slots(work: &mut [u64], l: usize)
-    requires l_in_bounds { 50 * l ≤ length work.old }
+    requires room { 50 * l ≤ length work.old }
     requires slotted { Slotted (take (26 * l) work.old) l }
     ensures { Parted (take (26 * l) work.old) work.new l }
 {

@@ -1,3 +1,5 @@
-// What build leaves of a polygon of one strip: laws in proofs/. There is no code.
+//! What build leaves of a polygon of one strip: laws in proofs/ and, as contracts, in `laws`. There is no code.
 
 #![tactic(auto)]
+
+pub mod laws;

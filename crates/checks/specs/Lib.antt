@@ -2,3 +2,4 @@
 pub mod Keys
 pub mod Rooms
 pub mod Walks
+pub mod Laws

@@ -19,6 +19,8 @@ ghost use Rattle.checks.specs.Keys.{wide, max_nodes, last_key, last_in, class_ke
 ghost use Rattle.checks.specs.Rooms.{roomy, work_row, Block, Made, Ranged, Indexed, Walkable, Low};
 ghost use Rattle.checks.specs.Walks.{side_in, sides_in, leaf_in, Near, Placed, own_fault, own_fit, passes, own_says};
 
+pub mod laws;
+
 use cell::Cell;
 use conforming::Fault;
 use refusals::Refusal;
@@ -74,7 +76,8 @@ fn find_in(work: &[u64], at: usize, n: usize, outer: Option<usize>, v: u64) -> O
 // Two nodes in one number. Internal: a node of the net is below NODES.
 #[tactic(auto, unfolding(crate::specs::Keys::pair_key))]
 fn pair_key(a: usize, b: usize) -> u64
-    requires { (a < max_nodes) × (b < max_nodes) }
+    requires from_low { a < max_nodes }
+    requires to_low { b < max_nodes }
     ensures { result ≡ pair_key a b }
 {
     a.min(b) as u64 * WIDE + a.max(b) as u64
@@ -83,7 +86,8 @@ fn pair_key(a: usize, b: usize) -> u64
 // Whether an edge joins two nodes. Internal: the edges stand in the row, behind n nodes.
 fn are_joined(ends: &[u64], work: &[u64], n: usize, a: usize, b: usize) -> bool
     requires walkable { Walkable n ends.now work.now }
-    requires a_lt_n { (a < n) × (b < n) }
+    requires from_there { a < n }
+    requires to_there { b < n }
     ensures { result ≡ joined ends.now a b }
 {
     find(work, 9 * n, ends.len() / 2, pair_key(a, b)).is_some()
@@ -103,8 +107,12 @@ fn side_fault(
     my: u64,
 ) -> Fault
     requires walkable { Walkable n ends.now work.now }
-    requires low { Low n a × Low n b × Low n m }
-    requires ay_lt_wide { (ay < wide) × (by < wide) × (my < wide) }
+    requires from_column { Low n a }
+    requires to_column { Low n b }
+    requires middle_column { Low n m }
+    requires from_narrow { ay < wide }
+    requires to_narrow { by < wide }
+    requires middle_narrow { my < wide }
     ensures { fault_of result ≡ side_in ends.now (part work.now (6 * n) n) a ay b by m my }
 {
     let at = 6 * n;
@@ -137,8 +145,12 @@ fn sides_fault(
     my: u64,
 ) -> Fault
     requires walkable { Walkable n ends.now work.now }
-    requires low { Low n west × Low n east × Low n middle }
-    requires south_lt_wide { (south < wide) × (north < wide) × (my < wide) }
+    requires west_column { Low n west }
+    requires east_column { Low n east }
+    requires middle_column { Low n middle }
+    requires south_narrow { south < wide }
+    requires north_narrow { north < wide }
+    requires middle_narrow { my < wide }
     ensures { fault_of result ≡ sides_in ends.now (part work.now (6 * n) n) west east middle south north my }
 {
     let first = side_fault(ends, work, n, west, south, east, south, middle, south);
@@ -197,8 +209,9 @@ fn cell_fault(
     work: &[u64],
     i: usize,
 ) -> Fault
-    requires i_in_bounds { i * 8 + 8 ≤ length t.now }
-    requires ranged { Ranged nodes.now ends.now × Indexed own nodes.now ends.now work.now }
+    requires cell_there { i * 8 + 8 ≤ length t.now }
+    requires ranged { Ranged nodes.now ends.now }
+    requires indexed { Indexed own nodes.now ends.now work.now }
     requires placed { Placed own layers.now components.now (cell_at t.now i).poly }
     ensures { fault_of result ≡ own_fault own t.now nodes.now ends.now layers.now components.now i }
 {
@@ -224,9 +237,10 @@ fn walk(
     components: &[u32],
     work: &[u64],
 ) -> Fault
-    requires n_in_bounds { n * 8 ≤ length t.now }
-    requires ranged { Ranged nodes.now ends.now × Indexed own nodes.now ends.now work.now }
-    requires by_index { (i : ℕ) → i < n → Placed own layers.now components.now (cell_at t.now i).poly }
+    requires cells_there { n * 8 ≤ length t.now }
+    requires ranged { Ranged nodes.now ends.now }
+    requires indexed { Indexed own nodes.now ends.now work.now }
+    requires placed { (i : ℕ) → i < n → Placed own layers.now components.now (cell_at t.now i).poly }
     ensures { fault_of result ≡ first_fault (own_fault own t.now nodes.now ends.now layers.now components.now) n }
 {
     for i in 0..n {
@@ -248,7 +262,7 @@ fn natural(z: i64) -> u64
 
 // Layer and component of node i in one number, where a leaf's own are looked for. Internal: the node stands in the row.
 fn class_key(own: bool, nodes: &[i64], i: usize) -> u64
-    requires i_bound { i < node_count nodes.now }
+    requires node_there { i < node_count nodes.now }
     requires sound_node { SoundNode nodes.now i }
     ensures { result ≡ class_key own (layer_at nodes.now i) (component_at nodes.now i) }
 {
@@ -263,8 +277,8 @@ fn class_key(own: bool, nodes: &[i64], i: usize) -> u64
 // The keys of the classes. Internal: there is room.
 #[tactic(auto, unfolding(crate::specs::Keys::class_keys))]
 fn put_classes(own: bool, nodes: &[i64], work: &mut [u64])
-    requires nodes_in_bounds { node_count nodes.now ≤ length work.old }
-    requires by_index { (i : ℕ) → i < node_count nodes.now → SoundNode nodes.now i }
+    requires room { node_count nodes.now ≤ length work.old }
+    requires sound_nodes { (i : ℕ) → i < node_count nodes.now → SoundNode nodes.now i }
     ensures { work.new ≡ put work.old 0 (class_keys own nodes.now) }
 {
     for i in 0..nodes.len() / 4 {
@@ -275,8 +289,10 @@ fn put_classes(own: bool, nodes: &[i64], work: &mut [u64])
 // The keys of one round on, to `to`: the last indices of equal key stand at `from`, and number f of each node is a coordinate.
 // Internal: there is room.
 fn put_finer(nodes: &[i64], f: usize, work: &mut [u64], from: usize, to: usize)
-    requires f_bound { (f < 4) × (node_count nodes.now ≤ max_nodes) }
-    requires nodes_bound { (from + node_count nodes.now ≤ to) × (to + node_count nodes.now ≤ length work.old) }
+    requires number_of_a_node { f < 4 }
+    requires few { node_count nodes.now ≤ max_nodes }
+    requires apart { from + node_count nodes.now ≤ to }
+    requires room { to + node_count nodes.now ≤ length work.old }
     requires small { Small max_nodes (part work.old from (node_count nodes.now)) }
     ensures { work.new
         ≡ put work.old to (tab (λ i. get_or work.old (from + i) 0 * wide + off (get_or nodes.now (i * 4 + f)
@@ -291,8 +307,8 @@ fn put_finer(nodes: &[i64], f: usize, work: &mut [u64], from: usize, to: usize)
 // The keys of the edges, from `at` on. Internal: there is room.
 #[tactic(auto, unfolding(crate::specs::Keys::pair_keys))]
 fn put_pairs(ends: &[u64], work: &mut [u64], at: usize)
-    requires ends_in_bounds { at + length ends.now / 2 ≤ length work.old }
-    requires by_index { (e : ℕ) → e < length ends.now / 2 → SoundEdge max_nodes ends.now e }
+    requires room { at + length ends.now / 2 ≤ length work.old }
+    requires sound_edges { (e : ℕ) → e < length ends.now / 2 → SoundEdge max_nodes ends.now e }
     ensures { work.new ≡ put work.old at (pair_keys ends.now) }
 {
     for e in 0..ends.len() / 2 {
@@ -313,8 +329,8 @@ fn sort_block(work: &mut [u64], at: usize, n: usize)
 
 // The blocks, one after another. Internal, as they are: there is room.
 fn make_classes(own: bool, nodes: &[i64], work: &mut [u64])
-    requires nodes_in_bounds { 3 * node_count nodes.now ≤ length work.old }
-    requires by_index { (i : ℕ) → i < node_count nodes.now → SoundNode nodes.now i }
+    requires room { 3 * node_count nodes.now ≤ length work.old }
+    requires sound_nodes { (i : ℕ) → i < node_count nodes.now → SoundNode nodes.now i }
     ensures { Made (class_keys own nodes.now) work.old work.new 0 (node_count nodes.now) }
 {
     put_classes(own, nodes, work);
@@ -323,9 +339,10 @@ fn make_classes(own: bool, nodes: &[i64], work: &mut [u64])
 
 // Internal: a block stands right in front of this one.
 fn make_finer(nodes: &[i64], f: usize, work: &mut [u64], at: usize)
-    requires f_bound { (f < 4) × (node_count nodes.now ≤ max_nodes) }
-    requires nodes_in_bounds { at + 6 * node_count nodes.now ≤ length work.old }
-    requires nodes_value { part work.old (at + (node_count nodes.now + node_count nodes.now)) (node_count nodes.now)
+    requires number_of_a_node { f < 4 }
+    requires few { node_count nodes.now ≤ max_nodes }
+    requires room { at + 6 * node_count nodes.now ≤ length work.old }
+    requires lasts_in_front { part work.old (at + (node_count nodes.now + node_count nodes.now)) (node_count nodes.now)
         ≡ tab (last_of (part work.old at (node_count nodes.now))) (node_count nodes.now) }
     ensures { Made (finer (part work.old at (node_count nodes.now)) nodes.now f) work.old work.new
         (at + 3 * node_count nodes.now) (node_count nodes.now) }
@@ -337,8 +354,8 @@ fn make_finer(nodes: &[i64], f: usize, work: &mut [u64], at: usize)
 }
 
 fn make_pairs(ends: &[u64], work: &mut [u64], at: usize)
-    requires ends_in_bounds { at + 3 * (length ends.now / 2) ≤ length work.old }
-    requires by_index { (e : ℕ) → e < length ends.now / 2 → SoundEdge max_nodes ends.now e }
+    requires room { at + 3 * (length ends.now / 2) ≤ length work.old }
+    requires sound_edges { (e : ℕ) → e < length ends.now / 2 → SoundEdge max_nodes ends.now e }
     ensures { Made (pair_keys ends.now) work.old work.new at (length ends.now / 2) }
 {
     put_pairs(ends, work, at);
@@ -347,7 +364,7 @@ fn make_pairs(ends: &[u64], work: &mut [u64], at: usize)
 
 fn index(own: bool, nodes: &[i64], ends: &[u64], work: &mut [u64])
     requires ranged { Ranged nodes.now ends.now }
-    requires ends_in_bounds { 9 * node_count nodes.now + 3 * (length ends.now / 2) ≤ length work.old }
+    requires room { 9 * node_count nodes.now + 3 * (length ends.now / 2) ≤ length work.old }
     ensures { Indexed own nodes.now ends.now work.new }
 {
     let n = nodes.len() / 4;
@@ -390,10 +407,10 @@ fn check(
     work: &mut [u64],
 ) -> Result<Fault, Refusal>
     requires { roomy (node_count nodes.now) (length ends.now / 2) (length work.old) ≡ true }
-    ensures said { checked_said result
+    ensures answer { checked_said result
         ≡ own_says own t.now head.count head.max_level
         (net_of nodes.now ends.now conductances.now corners.now sheets.now) layers.now components.now }
-    ensures work_after { work.new
+    ensures row { work.new
         ≡ work_row (node_count nodes.now) (length ends.now / 2) (passes own t.now head.count head.max_level
         (net_of nodes.now ends.now conductances.now corners.now sheets.now) layers.now components.now) work.old }
 {
@@ -422,10 +439,10 @@ pub fn check_network_conforming(
     sheets: &[f64],
     work: &mut [u64],
 ) -> Result<Fault, Refusal>
-    ensures result_value { checked_said result
+    ensures answer { checked_said result
         ≡ conforming_says t.now head.count head.max_level
         (net_of nodes.now ends.now conductances.now corners.now sheets.now) }
-    ensures work_after { work.new
+    ensures row { work.new
         ≡ work_row (node_count nodes.now) (length ends.now / 2)
         (well_formed t.now head.count head.max_level && sound_net
         (net_of nodes.now ends.now conductances.now corners.now sheets.now)) work.old }
@@ -472,10 +489,10 @@ pub fn check_by_layer(
     components: &[u32],
     work: &mut [u64],
 ) -> Result<Fault, Refusal>
-    ensures result_value { checked_said result
+    ensures answer { checked_said result
         ≡ layers_says t.now head.count head.max_level
         (net_of nodes.now ends.now conductances.now corners.now sheets.now) layers.now components.now }
-    ensures work_after { work.new
+    ensures row { work.new
         ≡ work_row (node_count nodes.now) (length ends.now / 2)
         (well_formed t.now head.count head.max_level && sound_net
         (net_of nodes.now ends.now conductances.now corners.now sheets.now) && polygons_fit t.now head.count

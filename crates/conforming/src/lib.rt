@@ -177,7 +177,8 @@ fn cell_fault(t: &[i64], nodes: &[i64], ends: &[u64], whose: Whose, i: usize) ->
 
 // The nodes of polygon p's layer and component. Internal: the polygon stands in the rows.
 fn nodes_of(layers: &[u16], components: &[u32], p: usize) -> Whose
-    requires { (p < length layers.now) × (p < length components.now) }
+    requires layer_there { p < length layers.now }
+    requires component_there { p < length components.now }
     ensures { result ≡ nodes_of layers.now components.now p }
 {
     Whose {
@@ -212,7 +213,9 @@ fn layer_fault(
     layers: &[u16],
     components: &[u32],
 ) -> Fault
-    requires { (n * 8 ≤ length t.now) × (length layers.now ≡ length components.now) × ((i : ℕ) → i < n → (cell_at t.now i).poly < length layers.now) }
+    requires cells_there { n * 8 ≤ length t.now }
+    requires one_component_a_layer { length layers.now ≡ length components.now }
+    requires polygons_there { (i : ℕ) → i < n → (cell_at t.now i).poly < length layers.now }
     ensures { fault_of result ≡ layer_fault t.now n nodes.now ends.now layers.now components.now }
 {
     for i in 0..n {
@@ -253,7 +256,9 @@ pub fn check_network_conforming(
     corners: &[u64],
     sheets: &[f64],
 ) -> Result<Fault, Refusal>
-    ensures { checked_said result ≡ conforming_says t.now head.count head.max_level (net_of nodes.now ends.now conductances.now corners.now sheets.now) }
+    ensures { checked_said result
+        ≡ conforming_says t.now head.count head.max_level
+        (net_of nodes.now ends.now conductances.now corners.now sheets.now) }
 {
     if !table::formed::well_formed(t, head)
         || !sound_net::is_sound(nodes, ends, conductances, corners, sheets)
@@ -276,7 +281,9 @@ pub fn check_by_layer(
     layers: &[u16],
     components: &[u32],
 ) -> Result<Fault, Refusal>
-    ensures { checked_said result ≡ layers_says t.now head.count head.max_level (net_of nodes.now ends.now conductances.now corners.now sheets.now) layers.now components.now }
+    ensures { checked_said result
+        ≡ layers_says t.now head.count head.max_level
+        (net_of nodes.now ends.now conductances.now corners.now sheets.now) layers.now components.now }
 {
     if !table::formed::well_formed(t, head)
         || !sound_net::is_sound(nodes, ends, conductances, corners, sheets)

@@ -47,7 +47,7 @@ fn along_at(nodes: &[i64], i: usize, across: bool) -> u64
 // The keys of the first round: layer and line of each node.
 fn line_keys(nodes: &[i64], n: usize, work: &mut [u64], across: bool)
     requires rowed { Rowed nodes.now n }
-    requires n_in_bounds { 3 * n ≤ length work.old }
+    requires room { 3 * n ≤ length work.old }
     ensures { work.new ≡ put work.old 0 (tab (line_key across nodes.now) n) }
 {
     for i in 0..n {
@@ -58,7 +58,7 @@ fn line_keys(nodes: &[i64], n: usize, work: &mut [u64], across: bool)
 // The keys of the second round: the first node of equal layer and line, and the coordinate along it.
 fn along_keys(nodes: &[i64], n: usize, work: &mut [u64], across: bool)
     requires rowed { Rowed nodes.now n }
-    requires n_in_bounds { 3 * n ≤ length work.old }
+    requires room { 3 * n ≤ length work.old }
     requires small { Small (4 * max_slots) (part work.old (n + n) n) }
     ensures { work.new ≡ put work.old 0 (tab (along_key across nodes.now (part work.old (n + n) n)) n) }
 {
@@ -73,7 +73,7 @@ fn along_keys(nodes: &[i64], n: usize, work: &mut [u64], across: bool)
 // Sorts the nodes along their lines, those at one place by number.
 fn sort_lines(nodes: &[i64], n: usize, work: &mut [u64], across: bool)
     requires rowed { Rowed nodes.now n }
-    requires n_in_bounds { 3 * n ≤ length work.old }
+    requires room { 3 * n ≤ length work.old }
     ensures { Ranked across nodes.now work.old work.new n }
 {
     let e = 3 * n;
@@ -87,7 +87,7 @@ fn sort_lines(nodes: &[i64], n: usize, work: &mut [u64], across: bool)
 #[tactic(auto, using(crate::proofs::Order::rank_in, crate::proofs::Order::next_in, crate::proofs::Order::keys_rise, crate::proofs::Order::last_rise, crate::proofs::Order::one_line, crate::proofs::Order::two_lines))]
 fn rise_at(work: &[u64], n: usize, k: usize) -> u64
     requires lined { Lined work.now n }
-    requires k_lt_n { k < n }
+    requires place_there { k < n }
     ensures { result ≡ rise_at (part work.now 0 n) k }
 {
     if n <= k + 1 {
@@ -106,7 +106,9 @@ fn rise_at(work: &[u64], n: usize, k: usize) -> u64
 // For each node, by the order, how far the next one of its line is, and 4 * l behind that how far the one before is.
 fn write_rises(work: &mut [u64], n: usize, l: usize, at: usize)
     requires lined { Lined work.old n }
-    requires n_bound { (n ≤ 4 * l) × (n + n ≤ at) × (at + 8 * l ≤ length work.old) }
+    requires few { n ≤ 4 * l }
+    requires apart { n + n ≤ at }
+    requires room { at + 8 * l ≤ length work.old }
     ensures { Risen work.old work.new n l at }
 {
     let behind = at + 4 * l;
@@ -124,7 +126,8 @@ fn write_rises(work: &mut [u64], n: usize, l: usize, at: usize)
 // The two gaps of each node along columns, or along rows, from `at` on.
 fn gap_lines(nodes: &[i64], n: usize, work: &mut [u64], l: usize, at: usize, across: bool)
     requires noded { Noded nodes.now n l }
-    requires l_bound { (12 * l ≤ at) × (at + 8 * l ≤ length work.old) }
+    requires apart { 12 * l ≤ at }
+    requires room { at + 8 * l ≤ length work.old }
     ensures { Spaced across nodes.now work.old work.new n l at }
 {
     sort_lines(nodes, n, work, across);
@@ -134,7 +137,7 @@ fn gap_lines(nodes: &[i64], n: usize, work: &mut [u64], l: usize, at: usize, acr
 // The four gaps of each node, as whole half ticks, 44 * l on in the work room. Internal.
 pub fn write_gaps(nodes: &[i64], n: usize, work: &mut [u64], l: usize)
     requires noded { Noded nodes.now n l }
-    requires l_in_bounds { 64 * l ≤ length work.old }
+    requires room { 64 * l ≤ length work.old }
     ensures gapped { Gapped nodes.now work.new n l }
     ensures work_len_unchanged { length work.new ≡ length work.old }
 {

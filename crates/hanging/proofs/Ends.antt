@@ -6,7 +6,7 @@ use Rattle.cell.proofs.Contact.{Touch, east, west, north, south, touch→shares,
 use Rattle.table.specs.Mesh.{Cell, at}
 use Rattle.table.specs.Formed.{Formed}
 use Rattle.coarsest.proofs.Least.{level-most}
-use Rattle.net.proofs.Sound.{Positive}
+use Rattle.net.specs.Laws.{HasArea}
 use Rattle.hanging.specs.Strip.{LeafOf, OneStrip, Even, Balanced, Conformed}
 use Rattle.hanging.specs.Nodes.{End, lower, upper, EndOrMiddle, Corner, OnSides}
 use Rattle.hanging.proofs.Axis.{Meet, meet-along, Across, same, above, below, meet-across, inside_one, inside-none, end-or, end-only}
@@ -14,7 +14,7 @@ use Rattle.hanging.proofs.Apart.{Overlap, leaves-apart}
 use Rattle.hanging.proofs.Placed.{cell-positive, Steps, cell-units, cell-steps}
 
 -- a box with a corner strictly inside a side of another overlaps that one or shares an edge with it
-meets-along : (a b : Box) (x y : ℕ) → Positive a → Positive b → Corner b x y → End a.y0 a.y1 y → a.x0 < x → x < a.x1 → Overlap a b ⊎ Touch a b
+meets-along : (a b : Box) (x y : ℕ) → HasArea a → HasArea b → Corner b x y → End a.y0 a.y1 y → a.x0 < x → x < a.x1 → Overlap a b ⊎ Touch a b
 meets-along a b x y p q c e l h = go (meet-across a.y0 a.y1 b.y0 b.y1 y p.1 q.1 e c.upright)
   where
     m : Meet a.x0 a.x1 b.x0 b.x1
@@ -25,7 +25,7 @@ meets-along a b x y p q c e l h = go (meet-across a.y0 a.y1 b.y0 b.y1 y p.1 q.1 
     go (above d) = inr (north d m)
     go (below d) = inr (south d m)
 
-meets-up : (a b : Box) (x y : ℕ) → Positive a → Positive b → Corner b x y → End a.x0 a.x1 x → a.y0 < y → y < a.y1 → Overlap a b ⊎ Touch a b
+meets-up : (a b : Box) (x y : ℕ) → HasArea a → HasArea b → Corner b x y → End a.x0 a.x1 x → a.y0 < y → y < a.y1 → Overlap a b ⊎ Touch a b
 meets-up a b x y p q c e l h = go (meet-across a.x0 a.x1 b.x0 b.x1 x p.0 q.0 e c.across)
   where
     m : Meet a.y0 a.y1 b.y0 b.y1

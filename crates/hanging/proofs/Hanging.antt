@@ -15,7 +15,7 @@ use Rattle.hanging.specs.Strip.{LeafOf, OneStrip, Balanced}
 use Rattle.hanging.specs.Nodes.{lower, upper, EndOrMiddle, end, middle, Corner, OnSides, EdgeOf, Held, first, last, halved, HangsNot}
 use Rattle.hanging.proofs.Ends.{on-balanced}
 
--- no node of the polygon, a corner of one of its leaves, hangs on a side of one of its leaves
+-- `NoneHangs` of the specs, of a piece and by recursion
 abbrev pub NoneHangs : Net → Piece → Type 0
 NoneHangs n q = All (λ (r : Box). All (HangsNot n q.poly r) (corners_of q)) q.leaves
 

@@ -6,4 +6,4 @@ pub mod Ends
 pub mod Hanging
 pub mod Evens
 pub mod Runs
-pub mod Laws
+pub mod Tables

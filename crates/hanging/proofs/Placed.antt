@@ -8,7 +8,7 @@ use Rattle.coarsest.specs.Names.{Route, place}
 use Rattle.coarsest.proofs.Find.{named, tells}
 use Rattle.coarsest.proofs.Least.{level-most}
 use Rattle.coarsest.proofs.Sides.{Span, cell-sides}
-use Rattle.net.proofs.Sound.{Positive}
+use Rattle.net.specs.Laws.{HasArea}
 use Rattle.hanging.specs.Strip.{RootOf, OneStrip}
 use Rattle.hanging.proofs.Axis.{Spot, cut, unit, unit-half}
 use Rattle.hanging.proofs.Apart.{root-of}
@@ -16,7 +16,7 @@ use Rattle.hanging.proofs.Apart.{root-of}
 span_less : (n a b : ℕ) → Span n a b → a < b
 span_less n a b s = let e = s.1 in let p : 0 < suc s.0 * 2 ^ n = mul-pos (omega arith) (pow_pos n) in omega arith
 
-pub cell-positive : (M : ℕ) (t : List Cell) → Formed M t → (i : ℕ) → i < length t → Positive (at t i).box
+pub cell-positive : (M : ℕ) (t : List Cell) → Formed M t → (i : ℕ) → i < length t → HasArea (at t i).box
 cell-positive M t formed i h =
     let s = cell-sides M t formed i h in
     (span_less (M + 1 - (at t i).level) (at t i).box.x0 (at t i).box.x1 s.0, span_less (M + 1 - (at t i).level) (at t i).box.y0 (at t i).box.y1 s.1)

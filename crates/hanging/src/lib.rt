@@ -1,3 +1,5 @@
-// No node hangs: definitions in specs/, laws in proofs/. There is no code.
+//! No node hangs: definitions in specs/, laws in proofs/ and, as contracts, in `laws`. There is no code.
 
 #![tactic(auto)]
+
+pub mod laws;

@@ -20,7 +20,8 @@ const WIDE: u64 = 274877906944;
 #[tactic(auto, using(crate::proofs::Items::corner_low), unfolding(crate::specs::Items::corner_of))]
 fn corner_of(corners: &[u64], n: usize, l: usize, i: usize, s: usize) -> usize
     requires cornering { Cornering corners.now n l }
-    requires i_bound { (i < 4 * l + n) × (s < 4) }
+    requires item_there { i < 4 * l + n }
+    requires corner { s < 4 }
     ensures { (result ≡ corner_of corners.now l i s) × (result < n) }
 {
     if i < 4 * l {
@@ -33,7 +34,8 @@ fn corner_of(corners: &[u64], n: usize, l: usize, i: usize, s: usize) -> usize
 // How far along between a and b side q has its middle: halfway, or at one end.
 #[tactic(auto, unfolding(crate::specs::Items::middle_of))]
 fn middle(a: u64, b: u64, q: usize) -> u64
-    requires { (a < wide) × (b < wide) }
+    requires from_narrow { a < wide }
+    requires to_narrow { b < wide }
     ensures { (result ≡ middle_of a b q) × (result < wide) }
 {
     if q < 2 {
@@ -49,7 +51,7 @@ fn middle(a: u64, b: u64, q: usize) -> u64
 fn x_of(nodes: &[i64], n: usize, corners: &[u64], l: usize, i: usize) -> u64
     requires noded { Noded nodes.now n l }
     requires cornering { Cornering corners.now n l }
-    requires i_bound { i < 4 * l + n }
+    requires item_there { i < 4 * l + n }
     ensures { (result ≡ (item_in nodes.now corners.now l i).x) × (result < wide) }
 {
     let a = node_rows::x_at(nodes, corner_of(corners, n, l, i, 0));
@@ -62,7 +64,7 @@ fn x_of(nodes: &[i64], n: usize, corners: &[u64], l: usize, i: usize) -> u64
 fn y_of(nodes: &[i64], n: usize, corners: &[u64], l: usize, i: usize) -> u64
     requires noded { Noded nodes.now n l }
     requires cornering { Cornering corners.now n l }
-    requires i_bound { i < 4 * l + n }
+    requires item_there { i < 4 * l + n }
     ensures { (result ≡ (item_in nodes.now corners.now l i).y) × (result < wide) }
 {
     let a = node_rows::y_at(nodes, corner_of(corners, n, l, i, 0));
@@ -74,7 +76,7 @@ fn y_of(nodes: &[i64], n: usize, corners: &[u64], l: usize, i: usize) -> u64
 fn keys_x(nodes: &[i64], n: usize, corners: &[u64], work: &mut [u64], l: usize)
     requires noded { Noded nodes.now n l }
     requires cornering { Cornering corners.now n l }
-    requires n_in_bounds { 3 * (4 * l + n) ≤ length work.old }
+    requires room { 3 * (4 * l + n) ≤ length work.old }
     ensures { work.new ≡ put work.old 0 (tab (key_x nodes.now corners.now l) (4 * l + n)) }
 {
     let m = 4 * l + n;
@@ -88,8 +90,8 @@ fn keys_x(nodes: &[i64], n: usize, corners: &[u64], work: &mut [u64], l: usize)
 fn keys_y(nodes: &[i64], n: usize, corners: &[u64], work: &mut [u64], l: usize)
     requires noded { Noded nodes.now n l }
     requires cornering { Cornering corners.now n l }
-    requires n_in_bounds { 3 * (4 * l + n) ≤ length work.old }
-    requires n_value { part work.old (2 * (4 * l + n)) (4 * l + n) ≡ tab (first_of (keys_x nodes.now corners.now l (4 * l + n))) (4 * l + n) }
+    requires room { 3 * (4 * l + n) ≤ length work.old }
+    requires firsts_there { part work.old (2 * (4 * l + n)) (4 * l + n) ≡ tab (first_of (keys_x nodes.now corners.now l (4 * l + n))) (4 * l + n) }
     ensures { work.new ≡ put work.old 0 (place_keys nodes.now corners.now l (4 * l + n)) }
 {
     let m = 4 * l + n;
@@ -105,7 +107,7 @@ fn keys_y(nodes: &[i64], n: usize, corners: &[u64], work: &mut [u64], l: usize)
 fn sort_x(nodes: &[i64], n: usize, corners: &[u64], work: &mut [u64], l: usize)
     requires noded { Noded nodes.now n l }
     requires cornering { Cornering corners.now n l }
-    requires n_in_bounds { 3 * (4 * l + n) ≤ length work.old }
+    requires room { 3 * (4 * l + n) ≤ length work.old }
     ensures { Answered work.old work.new (4 * l + n) (first_of (keys_x nodes.now corners.now l (4 * l + n))) }
 {
     let m = 4 * l + n;
@@ -118,8 +120,8 @@ fn sort_x(nodes: &[i64], n: usize, corners: &[u64], work: &mut [u64], l: usize)
 fn sort_y(nodes: &[i64], n: usize, corners: &[u64], work: &mut [u64], l: usize)
     requires noded { Noded nodes.now n l }
     requires cornering { Cornering corners.now n l }
-    requires n_in_bounds { 3 * (4 * l + n) ≤ length work.old }
-    requires n_value { part work.old (2 * (4 * l + n)) (4 * l + n) ≡ tab (first_of (keys_x nodes.now corners.now l (4 * l + n))) (4 * l + n) }
+    requires room { 3 * (4 * l + n) ≤ length work.old }
+    requires firsts_there { part work.old (2 * (4 * l + n)) (4 * l + n) ≡ tab (first_of (keys_x nodes.now corners.now l (4 * l + n))) (4 * l + n) }
     ensures { Answered work.old work.new (4 * l + n) (last_of (place_keys nodes.now corners.now l (4 * l + n))) }
 {
     let m = 4 * l + n;
@@ -133,7 +135,7 @@ fn sort_y(nodes: &[i64], n: usize, corners: &[u64], work: &mut [u64], l: usize)
 fn size_of(nodes: &[i64], n: usize, corners: &[u64], l: usize, i: usize) -> u64
     requires noded { Noded nodes.now n l }
     requires cornering { Cornering corners.now n l }
-    requires i_bound { i < 4 * l + n }
+    requires item_there { i < 4 * l + n }
     ensures { result ≡ size_of (way_of (i % 4)) (box_in nodes.now corners.now l i) }
 {
     let a = corner_of(corners, n, l, i, 0);
@@ -150,8 +152,8 @@ fn size_of(nodes: &[i64], n: usize, corners: &[u64], l: usize, i: usize) -> u64
 fn raise_sides(nodes: &[i64], n: usize, corners: &[u64], work: &mut [u64], l: usize)
     requires noded { Noded nodes.now n l }
     requires cornering { Cornering corners.now n l }
-    requires l_in_bounds { 64 * l ≤ length work.old }
-    requires n_value { part work.old (2 * (4 * l + n)) (4 * l + n) ≡ tab (last_of (place_keys nodes.now corners.now l (4 * l + n))) (4 * l + n) }
+    requires room { 64 * l ≤ length work.old }
+    requires lasts_there { part work.old (2 * (4 * l + n)) (4 * l + n) ≡ tab (last_of (place_keys nodes.now corners.now l (4 * l + n))) (4 * l + n) }
     ensures { (ss : List Float) → Raised nodes.now corners.now ss work.old work.new n l (4 * l) }
 {
     let m = 4 * l;

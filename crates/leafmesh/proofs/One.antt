@@ -1,5 +1,5 @@
 -- The contracts of the exported calls, and of the calls beneath them, permit one answer each. An export's contract gives the whole answer;
--- of the others, any two answers of which the same is said are one. (Contact, table, even, power and the checks have this law beside them.)
+-- of the others, any two answers of which the same is said are one. (Contact, table, even, power, network and the checks have this law beside them.)
 -- Assumes nothing.
 use Rattle.std.proofs.Common.{ℕ, ◌≡◌, refl, sym, ◌∙◌, List, [], ◌∷◌, get_or, Result}
 use Rattle.refusals.specs.declared.Refusal.{Refusal}
@@ -10,8 +10,6 @@ use Rattle.build.specs.Says.{built_said}
 use Rattle.record.specs.declared.check.Read.{Read}
 use Rattle.record.specs.Answers.{numbers}
 use Rattle.board.specs.Reading.{read_said}
-use Rattle.unweighted.specs.declared.Counts.{Counts}
-use Rattle.network.specs.Says.{netted_said}
 use Rattle.writing.specs.Written.{write_said}
 
 -- where the contract is `r ≡ outcome_of ..` or the like
@@ -36,9 +34,3 @@ one-read = one-said (λ r. numbers r.settings r.counts) read_from (λ r. refl)
 
 pub one_written : (what : Said) (r q : Result ℕ Refusal) → write_said r ≡ what → write_said q ≡ what → r ≡ q
 one_written = one-said (λ n. n ∷ []) (λ vs. get_or vs 0 0) (λ n. refl)
-
-abbrev netted : List ℕ → Counts
-netted vs = record { nodes = get_or vs 0 0; edges = get_or vs 1 0; cells = get_or vs 2 0 }
-
-pub one-netted : (what : Said) (r q : Result Counts Refusal) → netted_said r ≡ what → netted_said q ≡ what → r ≡ q
-one-netted = one-said (λ c. c.nodes ∷ c.edges ∷ c.cells ∷ []) netted (λ c. refl)

@@ -2,3 +2,4 @@
 pub mod Outcome
 pub mod Reads
 pub mod Nets
+pub mod Laws

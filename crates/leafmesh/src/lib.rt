@@ -14,6 +14,7 @@ ghost use Rattle.even.specs.Even.{evening_said, even_says, even_row};
 ghost use Rattle.leafmesh.specs.Outcome.{outcome_of, rect_of};
 
 pub mod boards;
+pub mod laws;
 pub mod nets;
 
 use contact::Rect;

@@ -26,8 +26,9 @@ use Rattle.net.proofs.All.{All, all-each}
 use Rattle.net.proofs.All as Each
 use Rattle.net.proofs.Board.{each-length, each_at}
 use Rattle.net.proofs.Flat.{flat-sum}
-use Rattle.net.proofs.Sound.{Positive}
-use Rattle.net.proofs.Nan.{Sized, Fine, Within}
+use Rattle.net.specs.Laws.{HasArea, AllLeaves, IsWithin, widest}
+use Rattle.net.proofs.Faces.{Within}
+use Rattle.net.proofs.Leaves.{all-pieces, BoxWithin, nodes-within}
 use Rattle.places.specs.Places.{wide, box_at, Laid, Holds}
 use Rattle.bare.specs.Slots.{Upright}
 use Rattle.bare.proofs.Bridge.{Board}
@@ -35,7 +36,7 @@ use Rattle.leafrows.specs.Rows.{box_nums, poly_row, box_row, poly_at, polys_of, 
 use Rattle.leafrows.proofs.Ids.{leaf-id}
 use Rattle.leafrows.proofs.Leaves.{leaf_by, net-leaves, count-leaves}
 use Rattle.leafrows.proofs.Sides.{cell-positive}
-use Rattle.leafrows.proofs.Pieces.{all-table, all-tab, all-pieces, fine-pieces, Low, nodes-within}
+use Rattle.leafrows.proofs.Pieces.{all-table, all-tab}
 
 map_at : {A B : Type 0} (f : A → B) (l : List A) (v : ℕ) (a : A) (b : B) → v < length l → get_or (map f l) v b ≡ f (get_or l v a)
 map_at f [] v a b h = absurd (omega arith)
@@ -126,9 +127,9 @@ module _ (t : List ℤ) (n l : ℕ) (polys bs : List ℕ) (R : Filled t n l poly
     pub laid : (w : List ℕ) → 26 * l ≤ length w → Laid bs w l
     laid w h = record { boxes = boxes-size; low = boxes-small; few = few-leaves; room = h }
 
-    box-positive : (v : ℕ) → v < l → Positive (box_at bs v)
+    box-positive : (v : ℕ) → v < l → HasArea (box_at bs v)
     box-positive v h =
-        subst Positive (sym (ap (λ (z : List ℕ). box_at z v) R.boxes ∙ box-at t n v (leaf-in v h)))
+        subst HasArea (sym (ap (λ (z : List ℕ). box_at z v) R.boxes ∙ box-at t n v (leaf-in v h)))
         (cell-positive t n M formed (get_or (order_ids t n) v 0) (leaf-id t n v (leaf-in v h)))
 
     pub upright : Upright bs l
@@ -201,31 +202,27 @@ module _ (t : List ℤ) (n M : ℕ) (layers components : List ℕ) (sheets : Lis
     pub leaf-sum : leaf_sum qs ≡ l
     leaf-sum = flat-sum qs 0 ∙ long
 
--- ---- what the net's laws ask of the pieces
+-- ---- what the net's laws ask of the table and its pieces
 
 module _ (t : List ℤ) (n M : ℕ) (formed : well_formed t n M ≡ true) where
-  cell-low : (i : ℕ) → Low (coordinate + coordinate) (box_of (cell_at t i))
-  cell-low i = let c = read-corners t i in ((omega arith, omega arith), (omega arith, omega arith))
+  cell-low : (i : ℕ) → BoxWithin (coordinate + coordinate) (box_of (cell_at t i))
+  cell-low i = let c = read-corners t i in (omega arith, omega arith, omega arith, omega arith)
 
-  cell-sized : (i : ℕ) → i < n → Sized (box_of (cell_at t i))
-  cell-sized i h =
-      let c = read-corners t i in
-      let p = cell-positive t n M formed i h in
-      ((omega arith, omega arith), (omega arith, omega arith))
+  pub leaves-within : AllLeaves (IsWithin widest) (table t n)
+  leaves-within k d h leaf = Each.all-at (λ (c : Cell). IsWithin widest c.box) d (table t n) k (all-table (λ (c : Cell). IsWithin widest c.box) t n within) h
+    where
+      within : (i : ℕ) → i < n → IsWithin widest (box_of (cell_at t i))
+      within i h = let l = cell-low i in record { area = cell-positive t n M formed i h; east = l.2; north = l.3 }
 
   module _ (ps : List Poly) where
-    pub positive-leaves : All (λ (q : Piece). All Positive q.leaves) (pieces (table t n) ps 0)
-    positive-leaves = all-pieces Positive (table t n) ps 0 (all-table (λ (c : Cell). Positive c.box) t n (cell-positive t n M formed))
-
-    pub sized-leaves : All (λ (q : Piece). All Sized q.leaves) (pieces (table t n) ps 0)
-    sized-leaves = all-pieces Sized (table t n) ps 0 (all-table (λ (c : Cell). Sized c.box) t n cell-sized)
+    pub positive-leaves : All (λ (q : Piece). All HasArea q.leaves) (pieces (table t n) ps 0)
+    positive-leaves = all-pieces HasArea (table t n) ps 0 (all-table (λ (c : Cell). HasArea c.box) t n (cell-positive t n M formed))
 
     pub low-nodes : All (Within (coordinate + coordinate)) (network (table t n) ps).nodes
     unfolding network weigh bare
-    low-nodes = nodes-within (coordinate + coordinate) (pieces (table t n) ps 0) (all-pieces (Low (coordinate + coordinate)) (table t n) ps 0 (all-table (λ (c : Cell). Low (coordinate + coordinate) c.box) t n (λ i h. cell-low i)))
+    low-nodes = nodes-within (coordinate + coordinate) (pieces (table t n) ps 0) (all-pieces (BoxWithin (coordinate + coordinate)) (table t n) ps 0 (all-table (λ (c : Cell). BoxWithin (coordinate + coordinate) c.box) t n (λ i h. cell-low i)))
 
-  pub fine-leaves : (layers components : List ℕ) (sheets : List Float) → ((k : ℕ) → k < length layers → T (positive (get_or sheets k nan))) → All Fine (pieces (table t n) (polys_of layers components sheets) 0)
-  unfolding polys_of
-  fine-leaves layers components sheets s =
-      fine-pieces (table t n) (polys_of layers components sheets) 0 (all-table (λ (c : Cell). Sized c.box) t n cell-sized)
-      (all-tab (λ (p : Poly). T (positive p.sheet)) (poly_at layers components sheets) (length layers) s)
+-- what holds of every polygon's numbers holds of every polygon
+pub polys-all : (Q : Poly → Type 0) (layers components : List ℕ) (sheets : List Float) → ((k : ℕ) → k < length layers → Q (poly_at layers components sheets k)) → All Q (polys_of layers components sheets)
+unfolding polys_of
+polys-all Q layers components sheets h = all-tab Q (poly_at layers components sheets) (length layers) h

@@ -9,7 +9,7 @@ use Rattle.table.specs.Formed.{Born, Split, Formed, well_formed}
 use Rattle.table.proofs.Cells.{length-table, at_table}
 use Rattle.table.proofs.Meshes.{kids-in}
 use Rattle.table.proofs.Wellformed.{formed-facts}
-use Rattle.net.proofs.Sound.{Positive}
+use Rattle.net.specs.Laws.{HasArea}
 
 -- from a to b is a positive multiple of 2 ^ d
 abbrev Side : ℕ → ℕ → ℕ → Type 0
@@ -76,10 +76,10 @@ module _ (M : ℕ) (t : List Cell) (F : Formed M t) where
   cut zero i h l = absurd (omega arith)
   cut (suc k) i h l = cell_cut i l (λ j a b. cut k j (omega arith) b)
 
-  positive : (i : ℕ) → i < length t → Positive (at t i).box
+  positive : (i : ℕ) → i < length t → HasArea (at t i).box
   positive i h = (let c = cut (suc i) i (omega arith) h in (side-positive c.depth (at t i).box.x0 (at t i).box.x1 c.sides.wide, side-positive c.depth (at t i).box.y0 (at t i).box.y1 c.sides.high))
 
-pub cell-positive : (t : List ℤ) (n M : ℕ) → well_formed t n M ≡ true → (i : ℕ) → i < n → Positive (box_of (cell_at t i))
+pub cell-positive : (t : List ℤ) (n M : ℕ) → well_formed t n M ≡ true → (i : ℕ) → i < n → HasArea (box_of (cell_at t i))
 cell-positive t n M e i h =
-    subst (λ (c : Cell). Positive c.box) (at_table t n i h)
+    subst (λ (c : Cell). HasArea c.box) (at_table t n i h)
     (positive M (table t n) (formed-facts t n M e).cells i (rw length-table h))

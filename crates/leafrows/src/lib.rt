@@ -25,8 +25,9 @@ fn put_box(boxes: &mut [u64], at: usize, c: Cell)
 
 // Leaf v, whose id stands in the work row: its box, and its polygon in the place of the id.
 fn put_leaf(t: &[i64], v: usize, boxes: &mut [u64], work: &mut [u64])
-    requires v_in_bounds { (v < length work.old) × (4 * v + 4 ≤ length boxes.old) }
-    requires v_in_bounds_2 { get_or work.old v 0 * 8 + 8 ≤ length t.now }
+    requires leaf_there { v < length work.old }
+    requires box_room { 4 * v + 4 ≤ length boxes.old }
+    requires cell_there { get_or work.old v 0 * 8 + 8 ≤ length t.now }
     ensures boxes_after { boxes.new ≡ put boxes.old (4 * v) (box_nums (cell_at t.now (get_or work.old v 0))) }
     ensures work_after { work.new ≡ set work.old v (cell_at t.now (get_or work.old v 0)).poly }
 {
@@ -39,8 +40,10 @@ fn put_leaf(t: &[i64], v: usize, boxes: &mut [u64], work: &mut [u64])
 // The leaves by polygon, then id: the polygon of each in front of the work row, its box in the row of boxes. Internal:
 // the slots are in the row, there are l leaves, and the rows have room for them.
 pub fn fill_leaves(t: &[i64], n: usize, l: usize, boxes: &mut [u64], work: &mut [u64])
-    requires n_in_bounds { (n * 8 ≤ length t.now) × (l ≡ length (order_ids t.now n)) }
-    requires l_in_bounds { (4 * l ≤ length boxes.old) × (l ≤ length work.old) }
+    requires cells_there { n * 8 ≤ length t.now }
+    requires leaves_counted { l ≡ length (order_ids t.now n) }
+    requires box_room { 4 * l ≤ length boxes.old }
+    requires work_room { l ≤ length work.old }
     ensures boxes_after { boxes.new ≡ put boxes.old 0 (box_row t.now n) }
     ensures work_after { work.new ≡ put work.old 0 (poly_row t.now n) }
 {

@@ -7,7 +7,8 @@ use crate::{edge_line, leaf_line, node_line};
 
 // The cells of the first n ids of the order.
 pub fn leaf_lines(out: &mut [u8], at: usize, table: &[i64], order: &[u64], n: usize) -> usize
-    requires { (at + leaf_most * n ≤ length out.old) × Slotted table.now order.now n }
+    requires room { at + leaf_most * n ≤ length out.old }
+    requires slotted { Slotted table.now order.now n }
     ensures upper_bound { result ≤ at + leaf_most * n }
     ensures puts { Puts at (leaf_lines table.now order.now n)
         out.old result out.new }
@@ -20,7 +21,8 @@ pub fn leaf_lines(out: &mut [u8], at: usize, table: &[i64], order: &[u64], n: us
 }
 
 pub fn node_lines(out: &mut [u8], at: usize, nodes: &[i64], n: usize) -> usize
-    requires { (at + node_most * n ≤ length out.old) × (4 * n ≤ length nodes.now) }
+    requires room { at + node_most * n ≤ length out.old }
+    requires nodes_there { 4 * n ≤ length nodes.now }
     ensures upper_bound { result ≤ at + node_most * n }
     ensures puts { Puts at (node_lines nodes.now n) out.old result out.new }
 {
@@ -33,7 +35,9 @@ pub fn node_lines(out: &mut [u8], at: usize, nodes: &[i64], n: usize) -> usize
 
 // The edges, with their conductances.
 pub fn edge_lines(out: &mut [u8], at: usize, ends: &[u64], gs: &[f64], n: usize) -> usize
-    requires { (at + edge_most * n ≤ length out.old) × (2 * n ≤ length ends.now) × (n ≤ length gs.now) }
+    requires room { at + edge_most * n ≤ length out.old }
+    requires ends_there { 2 * n ≤ length ends.now }
+    requires conductances_there { n ≤ length gs.now }
     ensures upper_bound { result ≤ at + edge_most * n }
     ensures puts { Puts at (edge_lines ends.now gs.now n)
         out.old result out.new }

@@ -8,6 +8,7 @@ ghost use Rattle.lines.specs.Text.{totals_most, leaf_most, node_most, edge_most,
 ghost use Rattle.lines.specs.Lines.{leaf_line, node_line, edge_line};
 
 pub mod all;
+pub mod laws;
 mod put;
 
 pub fn totals_line(
@@ -32,7 +33,8 @@ pub fn totals_line(
 
 // The cell in slot `id` of a table.
 pub fn leaf_line(out: &mut [u8], at: usize, t: &[i64], id: u64) -> usize
-    requires { (at + leaf_most ≤ length out.old) × (id * 8 + 8 ≤ length t.now) }
+    requires room { at + leaf_most ≤ length out.old }
+    requires cell_there { id * 8 + 8 ≤ length t.now }
     ensures upper_bound { result ≤ at + leaf_most }
     ensures puts { Puts at (leaf_line t.now id) out.old result out.new }
 {
@@ -47,7 +49,8 @@ pub fn leaf_line(out: &mut [u8], at: usize, t: &[i64], id: u64) -> usize
 
 // Node i of a net.
 pub fn node_line(out: &mut [u8], at: usize, nodes: &[i64], i: usize) -> usize
-    requires { (at + node_most ≤ length out.old) × (4 * i + 4 ≤ length nodes.now) }
+    requires room { at + node_most ≤ length out.old }
+    requires node_there { 4 * i + 4 ≤ length nodes.now }
     ensures upper_bound { result ≤ at + node_most }
     ensures puts { Puts at (node_line nodes.now i) out.old result out.new }
 {
@@ -59,7 +62,9 @@ pub fn node_line(out: &mut [u8], at: usize, nodes: &[i64], i: usize) -> usize
 
 // Edge j of a net, with its conductance.
 pub fn edge_line(out: &mut [u8], at: usize, ends: &[u64], gs: &[f64], j: usize) -> usize
-    requires { (at + edge_most ≤ length out.old) × (2 * j + 2 ≤ length ends.now) × (j < length gs.now) }
+    requires room { at + edge_most ≤ length out.old }
+    requires ends_there { 2 * j + 2 ≤ length ends.now }
+    requires conductance_there { j < length gs.now }
     ensures upper_bound { result ≤ at + edge_most }
     ensures puts { Puts at (edge_line ends.now gs.now j)
         out.old result out.new }

@@ -15,7 +15,7 @@ use Rattle.net.proofs.Keys.{both_of}
 use Rattle.net.proofs.All.{In}
 use Rattle.places.specs.Places.{node_nums, end_nums}
 use Rattle.made.proofs.Places.{top, Tells, found, joined_of}
-use Rattle.made.proofs.Pieces.{BoxWithin}
+use Rattle.net.proofs.Leaves.{BoxWithin}
 
 -- ---- the same side from its other end
 joined_back : (ns : List Node) (es : List Edge) (a b : Node) → Joined ns es a b → Joined ns es b a

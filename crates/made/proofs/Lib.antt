@@ -3,5 +3,5 @@ pub mod Places
 pub mod Pieces
 pub mod Clear
 pub mod Sound
-pub mod Laws
+pub mod Clean
 pub mod Cases

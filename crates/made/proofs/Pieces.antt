@@ -4,7 +4,7 @@ use Rattle.cell.specs.Boxes.{Box}
 use Rattle.cell.specs.Cells.{box_of}
 use Rattle.cell.proofs.Offsets.{off-le}
 use Rattle.table.specs.Slots.{cell_at}
-use Rattle.table.specs.Mesh.{Cell, at, is_none, table}
+use Rattle.table.specs.Mesh.{Cell, at, past, is_none, table}
 use Rattle.table.proofs.Cells.{length-table, at_table}
 use Rattle.net.specs.Net.{find, has, weld, each, Poly, Node, Piece, same_node, leaves_of, pieces, node_at, corners_at, corners_of, nodes_from, number, bare, weigh, network}
 use Rattle.net.specs.Hang.{so_far}
@@ -13,8 +13,9 @@ use Rattle.net.proofs.Keys.{both, both_of}
 use Rattle.net.proofs.Weld.{weld-nil, weld-old, weld-new}
 use Rattle.net.proofs.All.{All, all-by, all_nil, all-weld, all-each, all-each-by, In, weld-more}
 use Rattle.net.proofs.Pieces.{all_corners, nodes-weld}
-use Rattle.net.proofs.Nan.{Within}
-use Rattle.made.specs.Made.{poly_at, Apart, AllApart}
+use Rattle.net.proofs.Faces.{Within}
+use Rattle.net.proofs.Leaves.{all-from, all-pieces, polys-pieces, nodes-all, BoxWithin, nodes-within}
+use Rattle.made.specs.Made.{no_poly, poly_at, Apart, AllApart}
 use Rattle.made.proofs.Places.{top}
 
 -- ---- the leaves of a polygon
@@ -28,17 +29,7 @@ unfolding leaves_of
 leaves-no c cs k e = rw (e, leaves_of)
 
 module _ (P : Box → Type 0) (k : ℕ) where
-  -- what holds of every cell's box, and what of one leaf's
-  pub leaves_all : (cs : List Cell) → ((i : ℕ) → i < length cs → P (at cs i).box) → All P (leaves_of cs k)
-  unfolding All leaves_of
-  leaves_all [] h = tt
-  leaves_all (c ∷ cs) h =
-      let rest = leaves_all cs (λ i l. h (suc i) (omega arith)) in
-      ⊎_elim
-      (λ e. subst (All P) (sym (leaves-yes c cs k e)) (h 0 (omega arith), rest))
-      (λ e. subst (All P) (sym (leaves-no c cs k e)) rest)
-      (test (is_none c.kids && eqb c.polygon k))
-
+  -- what holds of every leaf of a polygon holds of each
   pub leaf-in : (cs : List Cell) → All P (leaves_of cs k) → (i : ℕ) → i < length cs → (at cs i).kids ≡ None → (at cs i).polygon ≡ k → P (at cs i).box
   unfolding All
   leaf-in [] a i h e f = absurd (omega arith)
@@ -54,43 +45,13 @@ module _ (P : Box → Type 0) (k : ℕ) where
 
 -- ---- the pieces
 
-abbrev pub piece_of : List Cell → Poly → ℕ → Piece
-piece_of cs p k = record { poly = p; leaves = leaves_of cs k }
-
--- the polygon k, those before it and those behind it
-pub pieces-split : (cs : List Cell) (ps : List Poly) (j k : ℕ) → k < length ps
-    → pieces cs ps j ≡ pieces cs (take k ps) j ++ (piece_of cs (poly_at ps k) (j + k) ∷ pieces cs (drop (suc k) ps) (suc (j + k)))
-unfolding pieces
-pieces-split cs [] j k h = absurd (omega arith)
-pieces-split cs (p ∷ ps) j zero h = ap (λ (z : ℕ). piece_of cs p z ∷ pieces cs ps (suc z)) (plus j)
-  where
-    plus : (j : ℕ) → j ≡ j + 0
-    plus j = omega arith
-pieces-split cs (p ∷ ps) j (suc k) h =
-    ap {B = List Piece} (λ l. piece_of cs p j ∷ l)
-    (pieces-split cs ps (suc j) k (omega arith)
-    ∙ ap (λ (z : ℕ). pieces cs (take k ps) (suc j) ++ (piece_of cs (poly_at ps k) z ∷ pieces cs (drop (suc k) ps) (suc z))) (over j k))
-  where
-    over : (j k : ℕ) → suc j + k ≡ j + suc k
-    over j k = omega arith
-
 pub pieces-polys : (Q : Poly → Type 0) (cs : List Cell) (ps : List Poly) (j : ℕ) → ((i : ℕ) → i < length ps → Q (poly_at ps i)) → All (λ (q : Piece). Q q.poly) (pieces cs ps j)
-unfolding All pieces
-pieces-polys Q cs [] j h = tt
-pieces-polys Q cs (p ∷ ps) j h = (h 0 (omega arith), pieces-polys Q cs ps (suc j) (λ i l. h (suc i) (omega arith)))
+pieces-polys Q cs ps j h = polys-pieces Q cs ps j (all-from Q no_poly ps h)
 
 pub pieces-leaves : (P : Box → Type 0) (cs : List Cell) (ps : List Poly) (j : ℕ) → ((i : ℕ) → i < length cs → P (at cs i).box) → All (λ (q : Piece). All P q.leaves) (pieces cs ps j)
-unfolding All pieces
-pieces-leaves P cs [] j h = tt
-pieces-leaves P cs (p ∷ ps) j h = (leaves_all P j cs h, pieces-leaves P cs ps (suc j) h)
+pieces-leaves P cs ps j h = all-pieces P cs ps j (all-from (λ (c : Cell). P c.box) past cs h)
 
 -- ---- the nodes
-
--- what holds of the corners of every piece holds of every node
-pub nodes-all : (Q : Node → Type 0) (qs : List Piece) → All (λ (q : Piece). All Q (corners_of q)) qs → All Q (nodes_from [] qs)
-nodes-all Q qs h =
-    subst (All Q) (sym (nodes-weld [] qs))
-    (all-weld Q same_node [] (all_corners qs) (all_nil Q) (all-each-by (λ (q : Piece). All Q (corners_of q)) Q corners_of qs (λ q c. c) h))
 
 -- a node's layer and component are a polygon's
 pub nodes-polys : (Q : ℕ → ℕ → Type 0) (qs : List Piece) → All (λ (q : Piece). Q q.poly.layer q.poly.component) qs → All (λ (m : Node). Q m.layer m.component) (nodes_from [] qs)
@@ -102,20 +63,6 @@ nodes-polys Q qs h =
   where
     corners : (p : Poly) (r : Box) → Q p.layer p.component → All (λ (m : Node). Q m.layer m.component) (corners_at p r)
     corners p r i = unfold All in (i, (i, (i, (i, tt))))
-
--- a box whose coordinates are at most M, and the nodes at its corners
-abbrev pub BoxWithin : ℕ → Box → Type 0
-BoxWithin M r = (r.x0 ≤ M) × (r.y0 ≤ M) × (r.x1 ≤ M) × (r.y1 ≤ M)
-
-pub nodes-within : (M : ℕ) (qs : List Piece) → All (λ (q : Piece). All (BoxWithin M) q.leaves) qs → All (Within M) (nodes_from [] qs)
-unfolding corners_of
-nodes-within M qs h =
-    nodes-all (Within M) qs
-    (all-by (λ (q : Piece). All (BoxWithin M) q.leaves) (λ (q : Piece). All (Within M) (each (corners_at q.poly) q.leaves)) qs
-    (λ q l. all-each-by (BoxWithin M) (Within M) (corners_at q.poly) q.leaves (λ r b. corners q.poly r b) l) h)
-  where
-    corners : (p : Poly) (r : Box) → BoxWithin M r → All (Within M) (corners_at p r)
-    corners p r b = unfold All in ((b.0, b.1), ((b.2, b.1), ((b.2, b.3), ((b.0, b.3), tt))))
 
 -- a node is not of another polygon
 other : (p q : Poly) (x y : ℕ) (m : Node) → Apart p q → m.layer ≡ q.layer → m.component ≡ q.component → same_node m (node_at p x y) ≡ false
@@ -182,7 +129,7 @@ kept pre q qs h x y i = (before, ap (λ (z : List Node). number z m) (all-nodes 
 pub behind : (cs : List Cell) (ps : List Poly) (j k : ℕ) → AllApart ps → k < length ps → All (λ (q : Piece). Apart (poly_at ps k) q.poly) (pieces cs (drop (suc k) ps) j)
 behind cs ps j k a h =
     pieces-polys (Apart (poly_at ps k)) cs (drop (suc k) ps) j
-    (λ i l. subst (Apart (poly_at ps k)) (sym (get_or-drop (suc k) ps i _)) (a k (suc k + i) (omega arith) (omega (arith, length-drop (suc k) ps))))
+    (λ i l. subst (Apart (poly_at ps k)) (sym (get_or-drop (suc k) ps i _)) (a k (suc k + i) no_poly (omega arith) (omega (arith, length-drop (suc k) ps))))
 
 -- ---- the net of a row
 

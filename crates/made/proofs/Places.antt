@@ -13,7 +13,7 @@ use Rattle.net.proofs.Find.{find-hit}
 use Rattle.net.proofs.Keys.{both, both_of}
 use Rattle.net.proofs.All.{All, all-at}
 use Rattle.net.proofs.Sound.{node-is}
-use Rattle.net.proofs.Nan.{Within}
+use Rattle.net.proofs.Faces.{Within}
 use Rattle.places.specs.Places.{node_nums, end_nums}
 use Rattle.made.proofs.Rows.{nodes-count, layer-at, component-at, x-at, y-at, ends-long, from_at_lem, to-at}
 

@@ -16,9 +16,9 @@ use Rattle.sound_net.proofs.Tests.{yes, same}
 use Rattle.sound_net.proofs.Sound.{net-sound}
 use Rattle.net.specs.Net.{each, Poly, Node, Edge, Patch, nth, nowhere, pieces, Cornered, Ends, One, network}
 use Rattle.net.proofs.All.{All, all-at}
-use Rattle.net.proofs.Nan.{Within}
-use Rattle.net.proofs.Sound.{Positive}
-use Rattle.net.proofs.Laws.{ends, cells}
+use Rattle.net.proofs.Faces.{Within}
+use Rattle.net.specs.Laws.{HasArea}
+use Rattle.net.proofs.Every.{ends, cells}
 use Rattle.hanging.proofs.Placed.{cell-positive}
 use Rattle.places.specs.Places.{node_nums, corner_nums, end_nums}
 use Rattle.made.specs.Made.{poly_at, InRange, rows_of}
@@ -137,7 +137,7 @@ module _ (t : List ℤ) (n M : ℕ) (ps : List Poly) (formed : well_formed t n M
       let cs = (network (table t n) ps).patches in
       let layered : All NodeIn ns = subst (All NodeIn) (sym (nodes-are (table t n) ps)) (nodes-polys (λ l c. (l < 2 ^ 16) × (c < 2 ^ 32)) (pieces (table t n) ps 0)
       (pieces-polys (λ (p : Poly). (p.layer < 2 ^ 16) × (p.component < 2 ^ 32)) (table t n) ps 0 (λ k h. (let r = range k h in (r.layer, r.component))))) in
-      let positive = pieces-leaves Positive (table t n) ps 0 (cell-positive M (table t n) (formed-facts t n M formed).cells) in
+      let positive = pieces-leaves HasArea (table t n) ps 0 (cell-positive M (table t n) (formed-facts t n M formed).cells) in
       let a = length-map es (λ (e : Edge). e.g) in
       let b = length-map cs (λ (c : Patch). c.sheet) in
       record {

@@ -1,5 +1,5 @@
 -- The rows of numbers that hold a made net, and the rows of its polygons' layers and components. Definitions only.
-use Rattle.std.specs.Prelude.{List, map, ◌≡◌, ℕ, ◌^◌, ◌<◌, ℤ, Float, length, get_or}
+use Rattle.std.specs.Prelude.{List, map, ◌≡◌, ℕ, ◌^◌, ◌<◌, ℤ, Float, get_or, AllPairs}
 use Rattle.sound_net.specs.Nets.{Net as Rows, net_of}
 use Rattle.net.specs.Net.{each, Poly, Net, One}
 use Rattle.places.specs.Places.{node_nums, corner_nums, end_nums}
@@ -25,7 +25,7 @@ Apart p q = p.layer ≡ q.layer → p.component ≡ q.component → ⊥
 
 -- no two polygons have the same layer and component
 abbrev pub AllApart : List Poly → Type 0
-AllApart ps = (j k : ℕ) → j < k → k < length ps → Apart (poly_at ps j) (poly_at ps k)
+AllApart ps = AllPairs Apart ps
 
 -- the rules' ranges: a layer of 16 bits, a component of 32
 pub record InRange (p : Poly) : Type 0 where

@@ -4,7 +4,9 @@ pub mod Keys
 pub mod All
 pub mod Pieces
 pub mod Sound
-pub mod Nan
+pub mod Faces
+pub mod Leaves
+pub mod Conductances
 pub mod Gaps
 pub mod Rows
 pub mod Last
@@ -14,5 +16,5 @@ pub mod Flat
 pub mod Upto
 pub mod Hang
 pub mod Distinct
-pub mod Laws
+pub mod Every
 pub mod Cases

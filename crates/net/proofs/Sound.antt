@@ -7,6 +7,7 @@ use borrow.Author.Tests.{lt-leb}
 use Rattle.cell.specs.Boxes.{Box, mid}
 use Rattle.table.specs.Mesh.{Cell, is_none}
 use Rattle.net.specs.Net.{find, has, weld, each, Poly, Node, Edge, Piece, same_node, same_pair, node_at, sw_of, se_of, ne_of, nw_of, corners_at, corners_of, nodes_from, number, nth, nowhere, patch_at, One, Half, ◌·◌, ◌÷◌, across, upright, join, side_of, sides_at, edges_of, edges_from, patches_from, leaves_of, pieces, Cornered, Ends, one_if, leaf_count, leaf_sum}
+use Rattle.net.specs.Laws.{HasArea}
 use Rattle.net.proofs.Find.{order, find-hit}
 use Rattle.net.proofs.Keys.{both, both_of}
 use Rattle.net.proofs.Pieces.{all_corners, nodes-weld}
@@ -88,10 +89,7 @@ edges-ends n (q ∷ qs) =
 
 -- ---- the corners of cells
 
-abbrev pub Positive : Box → Type 0
-Positive r = (r.x0 < r.x1) × (r.y0 < r.y1)
-
-patch-cornered : (n more : List Node) (p : Poly) (r : Box) → Positive r → All (In same_node n) (corners_at p r) → Cornered (n ++ more) (patch_at n p r)
+patch-cornered : (n more : List Node) (p : Poly) (r : Box) → HasArea r → All (In same_node n) (corners_at p r) → Cornered (n ++ more) (patch_at n p r)
 unfolding All
 patch-cornered n more p r s h =
     let l = length-append n more in
@@ -119,7 +117,7 @@ patch-cornered n more p r s h =
       layer-nw = ap (λ (z : Node). z.layer) nw ∙ sym (ap (λ (z : Node). z.layer) sw);
     }
 
-pub patches-cornered : (n : List Node) (qs : List Piece) → All (λ (q : Piece). All Positive q.leaves) qs → All (Cornered (nodes_from n qs)) (patches_from n qs)
+pub patches-cornered : (n : List Node) (qs : List Piece) → All (λ (q : Piece). All HasArea q.leaves) qs → All (Cornered (nodes_from n qs)) (patches_from n qs)
 unfolding All patches_from nodes_from
 patches-cornered n [] h = tt
 patches-cornered n (q ∷ qs) h =
@@ -128,8 +126,8 @@ patches-cornered n (q ∷ qs) h =
     let C : Box → Type 0 = λ (b : Box). All (In same_node m) (corners_at q.poly b) in
     all_append (Cornered (nodes_from m qs)) (map (patch_at m q.poly) q.leaves) (patches_from m qs)
     (subst (λ (z : List Node). All (Cornered z) (map (patch_at m q.poly) q.leaves)) (sym r.1)
-    (all-map-by (λ (b : Box). Positive b × C b) (Cornered (m ++ r.0)) (patch_at m q.poly) q.leaves
-    (λ b t. patch-cornered m r.0 q.poly b t.0 t.1) (all_both Positive C q.leaves h.0 (piece-in n q))))
+    (all-map-by (λ (b : Box). HasArea b × C b) (Cornered (m ++ r.0)) (patch_at m q.poly) q.leaves
+    (λ b t. patch-cornered m r.0 q.poly b t.0 t.1) (all_both HasArea C q.leaves h.0 (piece-in n q))))
     (patches-cornered m qs h.1)
 
 -- ---- counts

@@ -1,6 +1,6 @@
 -- Boards, with the net that the oracle (the original Rust, and the rules read on its own) makes of each; coordinates are 2 ^ 36 more than
 -- the oracle's. And the test that the definitions make the same, number for number and bit for bit.
-use Rattle.std.specs.Prelude.{Bool, true, false, ◌&&◌, List, [], ◌∷◌, map, ℕ, eqb, Option, None, Some}
+use Rattle.std.specs.Prelude.{Bool, true, false, ◌&&◌, List, [], ◌∷◌, map, ℕ, eqb, Option, None, Some, IsTrue}
 use Rattle.std.specs.Float.{binary64}
 use Rattle.std.specs.Float.Ieee.{of_bits, to_bits}
 use Rattle.table.specs.Mesh.{Cell}
@@ -70,8 +70,8 @@ worked = record {
 }
 
 -- two polygons of one layer and component, an odd gap; a later polygon's node leaves an earlier edge whole
-unfoldable pub odd-gaps : Board
-odd-gaps = record {
+unfoldable pub odd_gaps : Board
+odd_gaps = record {
   cells =
       cell 68719476736 68719476736 68719476738 68719476738 0 None None 0
       ∷ cell 68719476736 68719476737 68719476738 68719476739 0 None None 1
@@ -160,8 +160,8 @@ oblong = record {
 }
 
 -- the midpoint's extent goes to the last numbered node only (random, seed 10201)
-unfoldable pub random-a : Board
-random-a = record {
+unfoldable pub last_at_midpoint : Board
+last_at_midpoint = record {
   cells =
       cell 68719476756 68719476744 68719476760 68719476752 0 None None 0
       ∷ cell 68719476748 68719476748 68719476756 68719476756 0 None None 2
@@ -174,8 +174,8 @@ random-a = record {
 }
 
 -- an extent is never made smaller (random, seed 1869)
-unfoldable pub random-b : Board
-random-b = record {
+unfoldable pub extent_kept : Board
+extent_kept = record {
   cells =
       cell 68719476732 68719476740 68719476740 68719476748 0 None None 0
       ∷ cell 68719476728 68719476740 68719476736 68719476744 0 None None 2
@@ -187,8 +187,8 @@ random-b = record {
 }
 
 -- a node of another layer hangs on no cell (random, seed 848)
-unfoldable pub random-c : Board
-random-c = record {
+unfoldable pub other_layer : Board
+other_layer = record {
   cells =
       cell 68719476740 68719476728 68719476748 68719476736 0 None None 3
       ∷ cell 68719476740 68719476732 68719476748 68719476736 0 None None 2
@@ -201,8 +201,8 @@ random-c = record {
 }
 
 -- a pair in two polygons, an odd coordinate (random, seed 1359)
-unfoldable pub random-d : Board
-random-d = record {
+unfoldable pub shared_pair : Board
+shared_pair = record {
   cells =
       cell 68719476735 68719476741 68719476743 68719476749 0 None None 3
       ∷ cell 68719476740 68719476744 68719476744 68719476752 0 None (Some 3) 2
@@ -220,5 +220,43 @@ random-d = record {
   edges = edge 0 1 0x4000000000000000 ∷ edge 3 2 0x3ff0000000000000 ∷ edge 0 3 0x3ff0000000000000 ∷ edge 1 2 0x4000000000000000 ∷ edge 4 5 0x3f606028aeca121f ∷ edge 7 6 0x3f706028aeca121f ∷ edge 4 7 0x3f58903d062f1b2e ∷ edge 5 6 0x3f506028aeca121f ∷ edge 5 8 0x3f606028aeca121f ∷ edge 6 9 0x3f706028aeca121f ∷ edge 8 9 0x3f406028aeca121f ∷ edge 11 10 0x3f606028aeca121f ∷ edge 7 11 0x3f406028aeca121f ∷ edge 6 10 0x3f506028aeca121f ∷ edge 10 12 0x3f606028aeca121f ∷ edge 9 12 0x3f406028aeca121f ∷ edge 13 14 0x4060e45306eb3e45 ∷ edge 16 15 0x4060e45306eb3e45 ∷ edge 13 16 0x4060e45306eb3e45 ∷ edge 14 15 0x4060e45306eb3e45 ∷ edge 17 18 0x4060e45306eb3e45 ∷ edge 20 19 0x4060e45306eb3e45 ∷ edge 17 20 0x4060e45306eb3e45 ∷ edge 18 19 0x4060e45306eb3e45 ∷ edge 21 22 0x4050e45306eb3e45 ∷ edge 23 0 0x4070e45306eb3e45 ∷ edge 0 1 0x4000000000000000 ∷ edge 21 23 0x4060e45306eb3e45 ∷ edge 22 1 0x4070e45306eb3e45 ∷ [];
 }
 
+-- of two cells that hang on one node the larger counts, not the first. Made by
+--   cargo run --offline --example board -- largest_hangs 0,0,1.0 1,0,1.0 0,0,1.0 1,1,1.0 -- 12,2,16,6,3 12,3,14,5,1 8,4,12,6,3
+-- in oracle/
+unfoldable pub largest_hangs : Board
+largest_hangs = record {
+  cells =
+      cell 68719476748 68719476738 68719476752 68719476742 0 None None 3
+      ∷ cell 68719476748 68719476739 68719476750 68719476741 0 None None 1
+      ∷ cell 68719476744 68719476740 68719476748 68719476742 0 None None 3
+      ∷ [];
+  polys = poly 0 0 0x3ff0000000000000 ∷ poly 1 0 0x3ff0000000000000 ∷ poly 0 0 0x3ff0000000000000 ∷ poly 1 1 0x3ff0000000000000 ∷ [];
+  nodes = node 1 0 68719476748 68719476739 ∷ node 1 0 68719476750 68719476739 ∷ node 1 0 68719476750 68719476741 ∷ node 1 0 68719476748 68719476741 ∷ node 1 1 68719476748 68719476738 ∷ node 1 1 68719476752 68719476738 ∷ node 1 1 68719476752 68719476742 ∷ node 1 1 68719476748 68719476742 ∷ node 1 1 68719476744 68719476740 ∷ node 1 1 68719476748 68719476740 ∷ node 1 1 68719476744 68719476742 ∷ [];
+  patches = patch 0 1 2 3 0x3ff0000000000000 ∷ patch 4 5 6 7 0x3ff0000000000000 ∷ patch 8 9 7 10 0x3ff0000000000000 ∷ [];
+  edges = edge 0 1 0x3fd0000000000000 ∷ edge 3 2 0x3fd0000000000000 ∷ edge 0 3 0x3fe0000000000000 ∷ edge 1 2 0x3fe0000000000000 ∷ edge 4 5 0x3fc0000000000000 ∷ edge 7 6 0x3fc0000000000000 ∷ edge 4 9 0x4000000000000000 ∷ edge 9 7 0x4000000000000000 ∷ edge 5 6 0x3fe0000000000000 ∷ edge 8 9 0x3fc0000000000000 ∷ edge 10 7 0x3fc0000000000000 ∷ edge 8 10 0x3ff0000000000000 ∷ [];
+}
+
+-- what hangs on a node counts beside a gap, too, and not only where there is none. Made by
+--   cargo run --offline --example board -- gap_and_hung 0,0,1.0 0,0,1.0 0,0,1.0 -- 0,-6,4,-4,2 1,-4,5,0,1 0,-6,2,-2,0
+-- in oracle/
+unfoldable pub gap_and_hung : Board
+gap_and_hung = record {
+  cells =
+      cell 68719476736 68719476730 68719476740 68719476732 0 None None 2
+      ∷ cell 68719476737 68719476732 68719476741 68719476736 0 None None 1
+      ∷ cell 68719476736 68719476730 68719476738 68719476734 0 None None 0
+      ∷ [];
+  polys = poly 0 0 0x3ff0000000000000 ∷ poly 0 0 0x3ff0000000000000 ∷ poly 0 0 0x3ff0000000000000 ∷ [];
+  nodes = node 0 0 68719476736 68719476730 ∷ node 0 0 68719476738 68719476730 ∷ node 0 0 68719476738 68719476734 ∷ node 0 0 68719476736 68719476734 ∷ node 0 0 68719476737 68719476732 ∷ node 0 0 68719476741 68719476732 ∷ node 0 0 68719476741 68719476736 ∷ node 0 0 68719476737 68719476736 ∷ node 0 0 68719476740 68719476730 ∷ node 0 0 68719476740 68719476732 ∷ node 0 0 68719476736 68719476732 ∷ [];
+  patches = patch 0 1 2 3 0x3ff0000000000000 ∷ patch 4 5 6 7 0x3ff0000000000000 ∷ patch 0 8 9 10 0x3ff0000000000000 ∷ [];
+  edges = edge 0 1 0x3fe0000000000000 ∷ edge 3 2 0x3fe0000000000000 ∷ edge 0 3 0x3fd0000000000000 ∷ edge 1 2 0x3fd0000000000000 ∷ edge 4 5 0x3fe0000000000000 ∷ edge 7 6 0x3fe0000000000000 ∷ edge 4 7 0x3fd8000000000000 ∷ edge 5 6 0x3fc0000000000000 ∷ edge 0 1 0x3fe0000000000000 ∷ edge 1 8 0x3ff0000000000000 ∷ edge 10 9 0x3fd0000000000000 ∷ edge 0 10 0x3fe0000000000000 ∷ edge 8 9 0x3fe0000000000000 ∷ [];
+}
+
 unfoldable pub boards : List Board
-boards = worked ∷ odd-gaps ∷ components ∷ twice ∷ hanging ∷ one_place ∷ oblong ∷ random-a ∷ random-b ∷ random-c ∷ random-d ∷ []
+boards =
+    worked ∷ odd_gaps ∷ components ∷ twice ∷ hanging ∷ one_place ∷ oblong ∷ last_at_midpoint ∷ extent_kept ∷ other_layer ∷ shared_pair ∷ largest_hangs
+    ∷ gap_and_hung ∷ []
+
+-- the definitions make of the boards the nets that the original makes, number for number and bit for bit
+abbrev pub BoardsAgree : Type 0
+BoardsAgree = IsTrue (all_agree boards)

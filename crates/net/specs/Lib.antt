@@ -3,3 +3,4 @@ pub mod First
 pub mod Flat
 pub mod Hang
 pub mod Boards
+pub mod Laws

@@ -1,3 +1,4 @@
 pub mod Judging
 pub mod Whole
 pub mod Verdict
+pub mod Accepted

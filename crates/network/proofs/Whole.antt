@@ -11,7 +11,7 @@ use Rattle.rows.specs.Contract.{Small}
 use Rattle.rows.proofs.Parts.{put-again}
 use Rattle.net.specs.Net.{each, Node, Edge, Patch, Piece, nodes_from, edges_from, patches_from, pieces, network, weigh, bare, weighed}
 use Rattle.net.proofs.All.{All, all-by}
-use Rattle.net.proofs.Nan.{Within}
+use Rattle.net.proofs.Faces.{Within}
 use Rattle.net.proofs.Sound.{edges-ends, patches-cornered}
 use Rattle.places.specs.Places.{node_nums, corner_nums, end_nums}
 use Rattle.bare.proofs.Bridge.{Board}

@@ -1,5 +1,5 @@
 // What is judged before the first number of a net is written.
-ghost use Rattle.std.specs.Prelude.{◌≡◌, ◌*◌, ◌≤◌, length};
+ghost use Rattle.std.specs.Prelude.{◌≡◌, ◌*◌, ◌^◌, ◌<◌, ◌≤◌, length};
 ghost use Rattle.refusals.specs.Said.{Said};
 ghost use Rattle.leafrows.specs.Rows.{polys_below};
 ghost use Rattle.network.specs.Says.{rows_fit, roomy, sheets_from, sheet_fault};
@@ -31,7 +31,8 @@ pub fn rows_fit(
     corners: usize,
     cells: usize,
 ) -> bool
-    requires { (conductances * 2 ≤ 18446744073709551615) × (cells * 4 ≤ 18446744073709551615) }
+    requires few_edges { conductances * 2 < 2 ^ 64 }
+    requires few_cells { cells * 4 < 2 ^ 64 }
     ensures { result ≡ rows_fit layers components sheets nodes ends conductances corners cells }
 {
     ((components == layers) & (sheets == layers))

@@ -10,6 +10,7 @@ ghost use Rattle.leafrows.specs.Rows.{Given};
 ghost use Rattle.network.specs.Says.{polygons, rows, net_of, filled, counted, counts_said, netted_said, network_says, network_leaves, Roomy};
 
 pub mod judge;
+pub mod laws;
 
 use refusals::{Refusal, limits};
 use table::Head;
@@ -31,11 +32,12 @@ fn fill(
     work: &mut [u64],
 ) -> Counts
     requires given { Given t.now head.count head.max_level layers.now components.now sheets.now }
-    requires l_value { (l ≡ length (leaf_ids t.now head.count)) × (length components.now ≡ length layers.now) }
+    requires leaves_counted { l ≡ length (leaf_ids t.now head.count) }
+    requires one_component_a_layer { length components.now ≡ length layers.now }
     requires roomy { Roomy l (rows nodes.old ends.old conductances.old corners.old cells.old work.old) }
-    ensures result_value { counts_said result
+    ensures counts { counts_said result
         ≡ counted (net_of t.now head.count (polygons layers.now components.now sheets.now)) }
-    ensures work_after { rows nodes.new ends.new conductances.new corners.new cells.new work.new
+    ensures rows { rows nodes.new ends.new conductances.new corners.new cells.new work.new
         ≡ filled (net_of t.now head.count (polygons layers.now components.now sheets.now))
         (rows nodes.old ends.old conductances.old corners.old cells.old work.old) }
 {
@@ -81,10 +83,10 @@ pub fn network(
     cells: &mut [f64],
     work: &mut [u64],
 ) -> Result<Counts, Refusal>
-    ensures result_value { netted_said result
+    ensures answer { netted_said result
         ≡ network_says t.now head.count head.max_level (polygons layers.now components.now sheets.now)
         (rows nodes.old ends.old conductances.old corners.old cells.old work.old) }
-    ensures work_after { rows nodes.new ends.new conductances.new corners.new cells.new work.new
+    ensures rows { rows nodes.new ends.new conductances.new corners.new cells.new work.new
         ≡ network_leaves t.now head.count head.max_level (polygons layers.now components.now sheets.now)
         (rows nodes.old ends.old conductances.old corners.old cells.old work.old) }
 {

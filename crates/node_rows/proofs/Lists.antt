@@ -11,7 +11,7 @@ use Rattle.rows.specs.Parts.{tab}
 use Rattle.rows.proofs.Fill.{tab-at, tab-only, tab-same}
 use Rattle.net.specs.Net.{each, Node, Patch, Edge, nth, nowhere, weighed}
 use Rattle.net.proofs.All.{All, all-at, all_nil, all_one, all_append}
-use Rattle.net.proofs.Nan.{Within}
+use Rattle.net.proofs.Faces.{Within}
 use Rattle.places.specs.Places.{node_nums, corner_nums}
 use Rattle.node_rows.specs.Rows.{node_in, nodes_in, patch_in, patches_in, edge_in}
 

@@ -18,8 +18,8 @@ const WIDE: u64 = 1 << 38;
 
 // The first polygon of the same layer and component as polygon k.
 fn class_of(layers: &[u16], components: &[u32], k: usize) -> usize
-    requires components_len { length components.now ≡ length layers.now }
-    requires k_in_bounds { k < length layers.now }
+    requires one_component_a_layer { length components.now ≡ length layers.now }
+    requires polygon_there { k < length layers.now }
     ensures { result ≡ class_of layers.now components.now k }
 {
     let a = layers[k];
@@ -34,8 +34,8 @@ fn class_of(layers: &[u16], components: &[u32], k: usize) -> usize
 
 // The class of each leaf behind the polygons.
 fn class_row(layers: &[u16], components: &[u32], work: &mut [u64], l: usize)
-    requires components_len { length components.now ≡ length layers.now }
-    requires l_in_bounds { l + l ≤ length work.old }
+    requires one_component_a_layer { length components.now ≡ length layers.now }
+    requires room { l + l ≤ length work.old }
     requires small { Small (length layers.now) (part work.old 0 l) }
     ensures { work.new ≡ put work.old l (tab (λ v. class_of layers.now components.now (get_or work.old v 0)) l) }
 {
@@ -62,7 +62,7 @@ fn side_of(m: usize, i: usize) -> usize
 
 // The x of place s of leaf v.
 fn place_x(boxes: &[u64], v: usize, s: usize) -> u64
-    requires v_in_bounds { 4 * v + 4 ≤ length boxes.now }
+    requires box_there { 4 * v + 4 ≤ length boxes.now }
     requires small { Small wide boxes.now }
     ensures { result ≡ place_x (box_at boxes.now v) s }
 {
@@ -77,7 +77,7 @@ fn place_x(boxes: &[u64], v: usize, s: usize) -> u64
 }
 
 fn place_y(boxes: &[u64], v: usize, s: usize) -> u64
-    requires v_in_bounds { 4 * v + 4 ≤ length boxes.now }
+    requires box_there { 4 * v + 4 ≤ length boxes.now }
     requires small { Small wide boxes.now }
     ensures { result ≡ place_y (box_at boxes.now v) s }
 {
@@ -92,18 +92,22 @@ fn place_y(boxes: &[u64], v: usize, s: usize) -> u64
 }
 
 fn x_of(boxes: &[u64], l: usize, i: usize) -> u64
-    requires boxes_len { (length boxes.now ≡ 4 * l) × (i < 8 * l) }
+    requires a_box_each { length boxes.now ≡ 4 * l }
+    requires place_there { i < 8 * l }
     requires small { Small wide boxes.now }
-    ensures { (result ≡ x_of boxes.now (4 * l) i) × (result < wide) }
+    ensures value { result ≡ x_of boxes.now (4 * l) i }
+    ensures narrow { result < wide }
 {
     let m = 4 * l;
     place_x(boxes, leaf_of(m, i), side_of(m, i))
 }
 
 fn y_of(boxes: &[u64], l: usize, i: usize) -> u64
-    requires boxes_len { (length boxes.now ≡ 4 * l) × (i < 8 * l) }
+    requires a_box_each { length boxes.now ≡ 4 * l }
+    requires place_there { i < 8 * l }
     requires small { Small wide boxes.now }
-    ensures { (result ≡ y_of boxes.now (4 * l) i) × (result < wide) }
+    ensures value { result ≡ y_of boxes.now (4 * l) i }
+    ensures narrow { result < wide }
 {
     let m = 4 * l;
     place_y(boxes, leaf_of(m, i), side_of(m, i))
@@ -166,7 +170,8 @@ pub fn number_places(
     l: usize,
 ) -> usize
     requires laid { Laid boxes.now work.old l }
-    requires components_len { (length components.now ≡ length layers.now) × (length layers.now ≤ max_polygons) }
+    requires one_component_a_layer { length components.now ≡ length layers.now }
+    requires few_polygons { length layers.now ≤ max_polygons }
     requires small { Small (length layers.now) (part work.old 0 l) }
     ensures { Numbered (place_keys layers.now components.now (part work.old 0 l) boxes.now l) (part work.old 0 l) work.new l result }
 {
@@ -206,9 +211,10 @@ fn write_node(
     at: usize,
 )
     requires laid { Laid boxes.now work.now l }
-    requires components_len { (length components.now ≡ length layers.now) × (i < 4 * l) }
+    requires one_component_a_layer { length components.now ≡ length layers.now }
+    requires corner_there { i < 4 * l }
     requires small { Small (length layers.now) (part work.now 0 l) }
-    requires at_in_bounds { at + 4 ≤ length nodes.old }
+    requires room { at + 4 ≤ length nodes.old }
     ensures { nodes.new ≡ put nodes.old at (node_nums (node_of layers.now components.now (part work.now 0 l) boxes.now l i)) }
 {
     let k = work[leaf_of(4 * l, i)] as usize;
@@ -230,9 +236,10 @@ pub fn write_nodes(
     nodes: &mut [i64],
 ) -> usize
     requires laid { Laid boxes.now work.now l }
-    requires components_len { (length components.now ≡ length layers.now) × (16 * l ≤ length nodes.old) }
+    requires one_component_a_layer { length components.now ≡ length layers.now }
+    requires room { 16 * l ≤ length nodes.old }
     requires small { Small (length layers.now) (part work.now 0 l) }
-    requires l_value { part work.now (18 * l) (4 * l) ≡ tab (number_by (place_keys layers.now components.now (part work.now 0 l) boxes.now l)) (4 * l) }
+    requires numbered { part work.now (18 * l) (4 * l) ≡ tab (number_by (place_keys layers.now components.now (part work.now 0 l) boxes.now l)) (4 * l) }
     ensures { (result ≡ rank (place_keys layers.now components.now (part work.now 0 l) boxes.now l) (4 * l)) × (nodes.new ≡ put nodes.old 0 (each (λ i. node_nums (node_of layers.now components.now (part work.now 0 l) boxes.now l i)) (news (place_keys layers.now components.now (part work.now 0 l) boxes.now l) (4 * l)))) }
 {
     let from = 18 * l;

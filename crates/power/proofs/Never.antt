@@ -17,6 +17,7 @@ use Rattle.sound_net.proofs.Tests.{yes}
 use Rattle.power.specs.declared.Slope.{Slope}
 use Rattle.power.specs.Formulas.{power_of}
 use Rattle.power.specs.Powers.{value_at, values_at, grad_at, power_at, listed, in_ranges, power_says, power_row}
+use Rattle.power.specs.Laws.{PowersAreNonNegative}
 use Rattle.power.proofs.Listed.{listed-length, listed_at}
 use Rattle.power.proofs.Verdict.{ranged, sloped, done}
 
@@ -139,3 +140,10 @@ powers-nonneg n us answers a c h =
     (subst (λ (x : Float). T (nonneg x))
     (sym (get_or-append (listed f m) (drop m answers) nan c (rw (listed-length f m) h) ∙ listed_at f m c nan h))
     (cell-nonneg n us (yes k.sound) (yes k.fit) c h))
+
+T-true : (b : Bool) → T b → b ≡ true
+T-true true h = refl
+T-true false h = absurd h
+
+pub none-negative : PowersAreNonNegative
+none-negative n us lent a c h = T-true (nonneg (get_or (power_row n us lent) c nan)) (powers-nonneg n us lent a c h)

@@ -11,6 +11,8 @@ ghost use Rattle.sound_net.specs.Facts.{Gap};
 ghost use Rattle.power.specs.Formulas.{slope_of, power_of};
 ghost use Rattle.power.specs.Powers.{value_at, values_at, powered, in_ranges, power_said, power_says, power_row, Sloped};
 
+pub mod laws;
+
 use refusals::Refusal;
 
 // What a cell's slope is worked out from: the potentials at SW, SE, NE, NW and the sides in ticks.
@@ -27,7 +29,8 @@ pub struct Values {
 impl Values {
     // A cell's slope and extents from its values. Internal: the sides are those of a sound cell.
     fn grad(self) -> Slope
-        requires { (self.width < 2 ^ 53) × (self.height < 2 ^ 53) }
+        requires width { self.width < 2 ^ 53 }
+        requires height { self.height < 2 ^ 53 }
         ensures { result ≡ slope_of self.u0 self.u1 self.u2 self.u3 (metres_of self.width) (metres_of self.height) }
     {
         let dx = cell::ticks::metres(self.width);
@@ -60,7 +63,8 @@ impl Slope {
 
 // The ticks from one number of the row to a larger one. Internal: both are coordinates in range.
 fn gap(nodes: &[i64], i: usize, j: usize) -> u64
-    requires i_in_bounds { (i < length nodes.now) × (j < length nodes.now) }
+    requires from_there { i < length nodes.now }
+    requires to_there { j < length nodes.now }
     requires gap { Gap (get_or nodes.now j (pos 0) -ℤ get_or nodes.now i (pos 0)) }
     ensures { result ≡ nat_abs (get_or nodes.now j (pos 0) -ℤ get_or nodes.now i (pos 0)) }
 {
@@ -155,8 +159,10 @@ pub fn cell_power(
     potentials: &[f64],
     answers: &mut [f64],
 ) -> Result<(), Refusal>
-    ensures said { power_said result ≡ power_says (net_of nodes.now ends.now conductances.now corners.now sheets.now) potentials.now answers.old }
-    ensures row { answers.new ≡ power_row (net_of nodes.now ends.now conductances.now corners.now sheets.now) potentials.now answers.old }
+    ensures answer { power_said result
+        ≡ power_says (net_of nodes.now ends.now conductances.now corners.now sheets.now) potentials.now answers.old }
+    ensures row { answers.new
+        ≡ power_row (net_of nodes.now ends.now conductances.now corners.now sheets.now) potentials.now answers.old }
 {
     if !sound_net::is_sound(nodes, ends, conductances, corners, sheets) {
         return Err(Refusal::BadTable);

@@ -110,7 +110,8 @@ fn are_known(count: usize, sw: usize, se: usize, ne: usize, nw: usize) -> bool
 
 // Whether the one node is to the west and to the south of the other. Internal: both stand in the row.
 fn is_southwest(nodes: &[i64], sw: usize, ne: usize) -> bool
-    requires { (sw < node_count nodes.now) × (ne < node_count nodes.now) }
+    requires southwest_there { sw < node_count nodes.now }
+    requires northeast_there { ne < node_count nodes.now }
     ensures { result ≡ (int_lt (x_at nodes.now sw) (x_at nodes.now ne) && int_lt (y_at nodes.now sw) (y_at nodes.now ne)) }
 {
     nodes[sw * 4 + 2] < nodes[ne * 4 + 2] && nodes[sw * 4 + 3] < nodes[ne * 4 + 3]
@@ -118,7 +119,8 @@ fn is_southwest(nodes: &[i64], sw: usize, ne: usize) -> bool
 
 // 0 exactly if two numbers of the row are equal. Internal: both stand in the row.
 fn differ(nodes: &[i64], i: usize, j: usize) -> i64
-    requires { (i < length nodes.now) × (j < length nodes.now) }
+    requires first_there { i < length nodes.now }
+    requires second_there { j < length nodes.now }
     ensures { eq_z result (pos 0) ≡ eq_z (slice_index_or nodes.now i (pos 0)) (slice_index_or nodes.now j (pos 0)) }
 {
     nodes[i] ^ nodes[j]
@@ -127,8 +129,13 @@ fn differ(nodes: &[i64], i: usize, j: usize) -> i64
 // 0 exactly if the nodes of the south and of the north side agree in y, and those of the east and of the west side in x. Internal:
 // they stand in the row.
 fn misfit(nodes: &[i64], sw: usize, se: usize, ne: usize, nw: usize) -> i64
-    requires { (sw < node_count nodes.now) × (se < node_count nodes.now) × (ne < node_count nodes.now) × (nw < node_count nodes.now) }
-    ensures { eq_z result (pos 0) ≡ (eq_z (y_at nodes.now se) (y_at nodes.now sw) && eq_z (x_at nodes.now ne) (x_at nodes.now se) && eq_z (y_at nodes.now ne) (y_at nodes.now nw) && eq_z (x_at nodes.now nw) (x_at nodes.now sw)) }
+    requires southwest_there { sw < node_count nodes.now }
+    requires southeast_there { se < node_count nodes.now }
+    requires northeast_there { ne < node_count nodes.now }
+    requires northwest_there { nw < node_count nodes.now }
+    ensures { eq_z result (pos 0)
+        ≡ (eq_z (y_at nodes.now se) (y_at nodes.now sw) && eq_z (x_at nodes.now ne) (x_at nodes.now se)
+        && eq_z (y_at nodes.now ne) (y_at nodes.now nw) && eq_z (x_at nodes.now nw) (x_at nodes.now sw)) }
 {
     differ(nodes, se * 4 + 3, sw * 4 + 3)
         | differ(nodes, ne * 4 + 2, se * 4 + 2)

@@ -13,7 +13,8 @@ use Rattle.net.specs.Flat.{Leaf, leaf, leaf_at, no_leaf, leaves_from}
 use Rattle.net.proofs.All.{All, all_nil, all_cons, all-at, all_left, all_right, all-weld, all-each-by}
 use Rattle.net.proofs.Pieces.{all_corners, nodes-weld}
 use Rattle.net.proofs.Flat.{flat-sum}
-use Rattle.net.proofs.Sound.{Positive, edges-ends, patches-cornered, nodes-count, edges-count}
+use Rattle.net.specs.Laws.{HasArea}
+use Rattle.net.proofs.Sound.{edges-ends, patches-cornered, nodes-count, edges-count}
 use Rattle.places.specs.Places.{box_at, place_keys, corner_nums, end_nums}
 use Rattle.places.proofs.Places.{keys-long}
 use Rattle.bare.specs.Slots.{Upright}
@@ -77,7 +78,7 @@ module _ {lay cmp : List ℕ} {sheets : List Float} {polys bs : List ℕ} {l : �
 
   -- the rules: "SW, SE, NE, NW of a rectangle with positive sides"
   pub cells-cornered : Upright bs l → All (Cornered (nodes_from [] qs)) (patches_from [] qs)
-  cells-cornered U = patches-cornered [] qs (by-leaves (λ p. Positive) (λ v h. (U.across v h, U.up v h)))
+  cells-cornered U = patches-cornered [] qs (by-leaves (λ p. HasArea) (λ v h. (U.across v h, U.up v h)))
 
   -- each node's layer is one of the polygons' layers, and each coordinate one of the boxes'
   pub nodes-fit : (m b : ℕ) → Small m lay → Small b bs → All (Noded m b) (nodes_from [] qs)

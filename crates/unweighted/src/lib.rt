@@ -32,9 +32,10 @@ fn write_places(
     nodes: &mut [i64],
 ) -> usize
     requires laid { Laid boxes.now work.old l }
-    requires components_len { (length components.now ≡ length layers.now) × (length layers.now ≤ max_polygons) }
+    requires one_component_a_layer { length components.now ≡ length layers.now }
+    requires few_polygons { length layers.now ≤ max_polygons }
     requires small { Small (length layers.now) (part work.old 0 l) }
-    requires l_in_bounds { 16 * l ≤ length nodes.old }
+    requires room { 16 * l ≤ length nodes.old }
     ensures { Placed layers.now components.now boxes.now work.old work.new l result nodes.old nodes.new }
 {
     places::number_places(layers, components, boxes, work, l);
@@ -54,7 +55,8 @@ fn write_slots(
     requires slotted { Slotted (take (26 * l) work.now) l }
     requires small { Small (length sheets.now) (polys_in (take (26 * l) work.now) l) }
     requires parted { Parted (take (26 * l) work.now) work.now l }
-    requires l_in_bounds { (16 * l ≤ length ends.old) × (8 * l ≤ length conductances.old) }
+    requires end_room { 16 * l ≤ length ends.old }
+    requires conductance_room { 8 * l ≤ length conductances.old }
     ensures { Edged sheets.now boxes.now (take (26 * l) work.now) l result ends.old ends.new conductances.old conductances.new }
 {
     let rows = &work[..26 * l];
@@ -66,7 +68,8 @@ fn write_slots(
 fn write_cells(sheets: &[f64], rows: &[u64], l: usize, corners: &mut [u64], cells: &mut [f64])
     requires slotted { Slotted rows.now l }
     requires small { Small (length sheets.now) (polys_in rows.now l) }
-    requires l_in_bounds { (4 * l ≤ length corners.old) × (l ≤ length cells.old) }
+    requires corner_room { 4 * l ≤ length corners.old }
+    requires cell_room { l ≤ length cells.old }
     ensures { (corners.new ≡ put corners.old 0 (tab (λ i. get_or (nums_in rows.now l) i 0) (4 * l))) × (cells.new ≡ put cells.old 0 (tab (λ v. get_or sheets.now (get_or (polys_in rows.now l) v 0) nan) l)) }
 {
     bare::cells::write_sheets(sheets, rows, l, cells);
@@ -88,7 +91,11 @@ pub fn write_net(
     cells: &mut [f64],
 ) -> Counts
     requires ready { Ready layers.now components.now sheets.now (take (4 * l) corners.old) work.old l }
-    requires l_in_bounds { (16 * l ≤ length nodes.old) × (16 * l ≤ length ends.old) × (8 * l ≤ length conductances.old) × (4 * l ≤ length corners.old) × (l ≤ length cells.old) }
+    requires node_room { 16 * l ≤ length nodes.old }
+    requires end_room { 16 * l ≤ length ends.old }
+    requires conductance_room { 8 * l ≤ length conductances.old }
+    requires corner_room { 4 * l ≤ length corners.old }
+    requires cell_room { l ≤ length cells.old }
     ensures counted { (qs : List Piece) → Board layers.now components.now sheets.now (part work.old 0 l) (take (4 * l) corners.old) l qs → Counted qs l result.nodes result.edges result.cells × Netted qs nodes.old nodes.new ends.old ends.new conductances.old conductances.new corners.old corners.new cells.old cells.new }
     ensures work_len_unchanged { length work.new ≡ length work.old }
 {

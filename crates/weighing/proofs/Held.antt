@@ -8,7 +8,7 @@ use Rattle.rows.specs.Parts.{part, put, tab}
 use Rattle.rows.proofs.Parts.{part-all, part-put, put-again}
 use Rattle.net.specs.Net.{each, Node, Patch, Edge, Cornered, Ends, nth, nowhere, weighed}
 use Rattle.net.proofs.All.{All, all-at}
-use Rattle.net.proofs.Nan.{Within}
+use Rattle.net.proofs.Faces.{Within}
 use Rattle.places.specs.Places.{node_nums, corner_nums, end_nums}
 use Rattle.node_rows.specs.Rows.{node_in, nodes_in}
 use Rattle.node_rows.proofs.Lists.{node_at, item-at, items-fit, nodes-are, patches-are, edges_are, weights-are}

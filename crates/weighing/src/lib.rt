@@ -19,9 +19,10 @@ pub fn apply_weights(
     g: &mut [f64],
 )
     requires net_rows { NetRows nodes.now n corners.now sheets.now ends.now k l }
-    requires l_in_bounds { (64 * l ≤ length work.old) × (k ≤ length g.old) }
-    ensures g_after { g.new ≡ put g.old 0 (tab (weight_in nodes.now n corners.now sheets.now l ends.now g.old) k) }
-    ensures work_after { work.new ≡ replicate (length work.old) 0 }
+    requires work_room { 64 * l ≤ length work.old }
+    requires conductance_room { k ≤ length g.old }
+    ensures conductances { g.new ≡ put g.old 0 (tab (weight_in nodes.now n corners.now sheets.now l ends.now g.old) k) }
+    ensures work_cleared { work.new ≡ replicate (length work.old) 0 }
 {
     let e = 3 * (4 * l + k);
     gaps::write_gaps(nodes, n, work, l);

@@ -7,7 +7,7 @@ use lib.Ieee.Positive.{positive, positive_of_value, mul_at}
 use Rattle.refusals.specs.Limits.{coordinate}
 use Rattle.net.specs.Net.{Node, Edge, Patch, nth, lesser_of, apart, face, distance, num, halves, Half, ◌·◌}
 use Rattle.net.specs.Flat.{pick_num}
-use Rattle.net.proofs.Nan.{face-low, distance-low}
+use Rattle.net.proofs.Faces.{face-low, distance-low}
 use Rattle.node_rows.specs.Rows.{nodes_in, way_of, Extended}
 use Rattle.node_rows.proofs.Lists.{node_at, nodes-within}
 use Rattle.weights.specs.Weigh.{flat_in, lesser_at, face_in, distance_in}

@@ -5,7 +5,7 @@ use Rattle.rows.proofs.Fill.{length-tab, tab-at, tab-append}
 use Rattle.net.specs.Net.{each, Edge, Patch, sheet_of}
 use Rattle.net.specs.First.{key, first_of, sides_of}
 use Rattle.net.proofs.Board.{each-length, each_at}
-use Rattle.net.proofs.Laws.{sheet-first, sheet-none}
+use Rattle.net.proofs.Every.{sheet-first, sheet-none}
 use Rattle.net.proofs.Keys as Keys
 use Rattle.places.specs.Places.{corner_nums}
 use Rattle.bare.specs.Slots.{many}

@@ -9,7 +9,8 @@ ghost use Rattle.weights.specs.Sides.{pair_end, pair_key, pair_keys, Paired};
 #[tactic(auto, using(crate::proofs::Pairs::end_low), unfolding(crate::specs::Sides::pair_end))]
 fn pair_end(corners: &[u64], ends: &[u64], l: usize, k: usize, i: usize, e: usize) -> u64
     requires paired { Paired corners.now ends.now l k }
-    requires i_bound { (i < 4 * l + k) × (e < 2) }
+    requires pair_there { i < 4 * l + k }
+    requires end { e < 2 }
     ensures { (result ≡ pair_end corners.now ends.now l i e) × (result < many) }
 {
     if i < 4 * l {
@@ -22,7 +23,7 @@ fn pair_end(corners: &[u64], ends: &[u64], l: usize, k: usize, i: usize, e: usiz
 #[tactic(auto, unfolding(crate::specs::Sides::pair_key))]
 fn pair_key(corners: &[u64], ends: &[u64], l: usize, k: usize, i: usize) -> u64
     requires paired { Paired corners.now ends.now l k }
-    requires i_bound { i < 4 * l + k }
+    requires pair_there { i < 4 * l + k }
     ensures { result ≡ pair_key corners.now ends.now l i }
 {
     let a = pair_end(corners, ends, l, k, i, 0);
@@ -32,7 +33,7 @@ fn pair_key(corners: &[u64], ends: &[u64], l: usize, k: usize, i: usize) -> u64
 
 fn side_keys(corners: &[u64], ends: &[u64], work: &mut [u64], l: usize, k: usize)
     requires paired { Paired corners.now ends.now l k }
-    requires k_in_bounds { 4 * l + k ≤ length work.old }
+    requires room { 4 * l + k ≤ length work.old }
     ensures { work.new ≡ put work.old 0 (pair_keys corners.now ends.now l k) }
 {
     let n = 4 * l + k;
@@ -44,7 +45,7 @@ fn side_keys(corners: &[u64], ends: &[u64], work: &mut [u64], l: usize, k: usize
 // The first pair that is the same as each pair stands behind the keys and their order. Internal.
 pub fn sort_sides(corners: &[u64], ends: &[u64], work: &mut [u64], l: usize, k: usize)
     requires paired { Paired corners.now ends.now l k }
-    requires k_in_bounds { 3 * (4 * l + k) ≤ length work.old }
+    requires room { 3 * (4 * l + k) ≤ length work.old }
     ensures { part work.new (2 * (4 * l + k)) (4 * l + k) ≡ tab (first_of (pair_keys corners.now ends.now l k)) (4 * l + k) }
 {
     let n = 4 * l + k;

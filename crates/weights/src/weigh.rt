@@ -10,7 +10,8 @@ use node_rows::{x_at, y_at};
 
 // The lesser extent of nodes a and b, of the extents that stand from `from` on.
 fn lesser_at(work: &[u64], from: usize, a: usize, b: usize) -> u64
-    requires { (from + a < length work.now) × (from + b < length work.now) }
+    requires from_there { from + a < length work.now }
+    requires to_there { from + b < length work.now }
     ensures { result ≡ min (get_or work.now (from + a) 0) (get_or work.now (from + b) 0) }
 {
     work[from + a].min(work[from + b])
@@ -19,9 +20,12 @@ fn lesser_at(work: &[u64], from: usize, a: usize, b: usize) -> u64
 // In half ticks, by the extents up and down of a flat edge, and right and left of any other.
 #[tactic(auto, unfolding(crate::specs::Weigh::face_in))]
 fn face_of(nodes: &[i64], work: &[u64], l: usize, a: usize, b: usize) -> u64
-    requires a_in_bounds { (4 * a + 4 ≤ length nodes.now) × (4 * b + 4 ≤ length nodes.now) }
-    requires a_bound { (a < 4 * l) × (b < 4 * l) × (64 * l ≤ length work.now) }
-    requires b_bound { face_in nodes.now work.now l a b < 2 ^ 53 }
+    requires from_there { 4 * a + 4 ≤ length nodes.now }
+    requires to_there { 4 * b + 4 ≤ length nodes.now }
+    requires from_low { a < 4 * l }
+    requires to_low { b < 4 * l }
+    requires extents_there { 64 * l ≤ length work.now }
+    requires face_small { face_in nodes.now work.now l a b < 2 ^ 53 }
     ensures { result ≡ face_in nodes.now work.now l a b }
 {
     if y_at(nodes, a) == y_at(nodes, b) {
@@ -34,7 +38,8 @@ fn face_of(nodes: &[i64], work: &[u64], l: usize, a: usize, b: usize) -> u64
 // In ticks.
 #[tactic(auto, unfolding(crate::specs::Weigh::distance_in))]
 fn distance_of(nodes: &[i64], a: usize, b: usize) -> u64
-    requires { (4 * a + 4 ≤ length nodes.now) × (4 * b + 4 ≤ length nodes.now) }
+    requires from_there { 4 * a + 4 ≤ length nodes.now }
+    requires to_there { 4 * b + 4 ≤ length nodes.now }
     ensures { result ≡ distance_in nodes.now a b }
 {
     if y_at(nodes, a) == y_at(nodes, b) {
@@ -47,7 +52,8 @@ fn distance_of(nodes: &[i64], a: usize, b: usize) -> u64
 // Two roundings, of the product and of the quotient: binary64 has the half of a face and a distance.
 #[tactic(auto, using(crate::proofs::Faces::half_is), unfolding(net::specs::Net::weight))]
 fn weight_of(g: f64, face: u64, distance: u64, sheet: f64) -> f64
-    requires { (face < 2 ^ 53) × (distance < 2 ^ 53) }
+    requires face_small { face < 2 ^ 53 }
+    requires distance_small { distance < 2 ^ 53 }
     ensures { result ≡ weight g face distance (Some sheet) }
 {
     if face == 0 {
@@ -72,7 +78,7 @@ fn weigh_edge(
     g: f64,
 ) -> f64
     requires ready { Ready nodes.now n corners.now sheets.now ends.now k work.now l }
-    requires j_lt_k { j < k }
+    requires edge_there { j < k }
     ensures { result ≡ (weighed (nodes_in nodes.now n) (patches_in corners.now sheets.now l) (edge_of ends.now j g)).g }
 {
     let m = 4 * l;
@@ -105,7 +111,7 @@ pub fn weigh_edges(
     g: &mut [f64],
 )
     requires ready { Ready nodes.now n corners.now sheets.now ends.now k work.now l }
-    requires k_in_bounds { k ≤ length g.old }
+    requires room { k ≤ length g.old }
     ensures { g.new ≡ put g.old 0 (tab (weight_in nodes.now n corners.now sheets.now l ends.now g.old) k) }
 {
     for j in 0..k {

@@ -5,4 +5,4 @@ pub returns : goal.returns
 returns c =
     let w = c.requires.walkable in
     rw (c.is_some.ensures, c.find.ensures.found, w.pairs.keys, c.pair_key.ensures)
-    (joined-is c.args.ends.now c.args.n w.few w.edge c.args.a c.args.b c.requires.a_lt_n.0 c.requires.a_lt_n.1)
+    (joined-is c.args.ends.now c.args.n w.few w.edge c.args.a c.args.b c.requires.from_there c.requires.to_there)

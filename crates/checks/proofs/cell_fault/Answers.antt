@@ -16,5 +16,5 @@ returns c =
     let w = s.work.now in
     let leaf = eq-eqb _ _ (rw c.cell_at-c.ensures at c.if-c-ne-NO_CELL.false) in
     rw (c.leaf_fault.ensures, c.find-class.ensures.found, c.class_of-k.ensures, c.cell_at-c.ensures)
-    (cell_same s.own s.nodes.now s.ends.now w c.requires.ranged.0 c.requires.ranged.1 s.t.now
+    (cell_same s.own s.nodes.now s.ends.now w c.requires.ranged c.requires.indexed s.t.now
     s.layers.now s.components.now s.i (c.type_inv.components (cell_at s.t.now s.i).poly).fits leaf)

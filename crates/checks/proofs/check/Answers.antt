@@ -14,22 +14,21 @@ index-requires-clause-ranged c =
     ranged (net_of a.nodes.now a.ends.now a.conductances.now a.corners.now a.sheets.now)
     (sym c.is_sound.ensures ∙ c.if-not-is_sound.false) (roomy-facts _ _ _ c.requires).0
 
-pub index-requires-clause-ends_in_bounds : goal.index-requires-clause-ends_in_bounds
-index-requires-clause-ends_in_bounds c = (roomy-facts _ _ _ c.requires).1
+pub index-requires-clause-room : goal.index-requires-clause-room
+index-requires-clause-room c = (roomy-facts _ _ _ c.requires).1
 
-pub walk-fault-requires-clause-n_in_bounds : goal.walk-fault-requires-clause-n_in_bounds
-walk-fault-requires-clause-n_in_bounds c =
+pub walk-fault-requires-clause-cells_there : goal.walk-fault-requires-clause-cells_there
+walk-fault-requires-clause-cells_there c =
     formed-within _ _ _ (sym c.well_formed-2.ensures ∙ c.if-not-well_formed.false)
 
 pub walk-fault-requires-clause-ranged : goal.walk-fault-requires-clause-ranged
 walk-fault-requires-clause-ranged c =
     let a = c.args in
-    let r = ranged (net_of a.nodes.now a.ends.now a.conductances.now a.corners.now a.sheets.now)
-    (sym c.is_sound.ensures ∙ c.if-not-is_sound.false) (roomy-facts _ _ _ c.requires).0 in
-    (r, c.index.ensures)
+    ranged (net_of a.nodes.now a.ends.now a.conductances.now a.corners.now a.sheets.now)
+    (sym c.is_sound.ensures ∙ c.if-not-is_sound.false) (roomy-facts _ _ _ c.requires).0
 
-pub walk-fault-requires-clause-by_index : goal.walk-fault-requires-clause-by_index
-walk-fault-requires-clause-by_index c =
+pub walk-fault-requires-clause-placed : goal.walk-fault-requires-clause-placed
+walk-fault-requires-clause-placed c =
     let a = c.args in
     placed a.own a.t.now a.head.count a.layers.now a.components.now
     (sym c.polygons_fit.ensures ∙ c.if-not-polygons_fit.false)

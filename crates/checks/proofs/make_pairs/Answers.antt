@@ -7,4 +7,4 @@ use Rattle.checks.proofs.make_pairs.Goals as goal
 pub returns : goal.returns
 returns c =
     made_of (pair_keys c.args.ends.now) c.args.work.now _ c.sort_block.new.work c.args.at (length c.args.ends.now / 2)
-    (pairs-long c.args.ends.now) c.requires.ends_in_bounds c.put_pairs.ensures c.sort_block.ensures
+    (pairs-long c.args.ends.now) c.requires.room c.put_pairs.ensures c.sort_block.ensures

@@ -7,4 +7,4 @@ loop-i-init c = fill_begins {A = ℕ} 0 c.args.work.now 0 0 _ (omega arith)
 
 pub loop-i-preserved : goal.loop-i-preserved
 loop-i-preserved c =
-    front-turn 0 _ _ _ c.requires.nodes_in_bounds _ _ c.loop-i.invariant c.loop-i-test.true _ c.class_key.ensures
+    front-turn 0 _ _ _ c.requires.room _ _ c.loop-i.invariant c.loop-i-test.true _ c.class_key.ensures

@@ -39,21 +39,21 @@ loop-i-init c =
 
 pub overflow_mul-work : goal.overflow_mul-work
 overflow_mul-work c =
-    let r = c.requires.nodes_bound in
-    let h = first-low _ _ _ _ _ _ _ r.0 r.1 c.loop-i-test.true c.loop-i.invariant c.requires.small in
+    let r = c.requires in
+    let h = first-low _ _ _ _ _ _ _ r.apart r.room c.loop-i-test.true c.loop-i.invariant c.requires.small in
     record { fits = omega arith }
 
 pub overflow_add-work-in-loop-i : goal.overflow_add-work-in-loop-i
 overflow_add-work-in-loop-i c =
-    let r = c.requires.nodes_bound in
-    let h = first-low _ _ _ _ _ _ _ r.0 r.1 c.loop-i-test.true c.loop-i.invariant c.requires.small in
+    let r = c.requires in
+    let h = first-low _ _ _ _ _ _ _ r.apart r.room c.loop-i-test.true c.loop-i.invariant c.requires.small in
     let e = height (get_or c.args.nodes.now (c.loop-i.i * 4 + c.args.f) (pos 0)) (search rules) c.offset-v.ensures in
     let b = off-le (get_or c.args.nodes.now (c.loop-i.i * 4 + c.args.f) (pos 0)) in
     record { fits = omega arith }
 
 pub loop-i-preserved : goal.loop-i-preserved
 loop-i-preserved c =
-    let r = c.requires.nodes_bound in
-    let e = first-is _ _ _ _ _ _ _ r.0 r.1 c.loop-i-test.true c.loop-i.invariant in
-    fill-turn 0 _ _ _ _ r.1 _ _ c.loop-i.invariant c.loop-i-test.true _
+    let r = c.requires in
+    let e = first-is _ _ _ _ _ _ _ r.apart r.room c.loop-i-test.true c.loop-i.invariant in
+    fill-turn 0 _ _ _ _ r.room _ _ c.loop-i.invariant c.loop-i-test.true _
     (ap₂ (λ (x y : ℕ). x * wide + y) e (height _ (search rules) c.offset-v.ensures))

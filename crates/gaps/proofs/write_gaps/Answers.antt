@@ -5,4 +5,4 @@ pub returns-clause-gapped : goal.returns-clause-gapped
 returns-clause-gapped c =
     let a = c.args in
     let r = c.requires in
-    (all-gapped a.nodes.now _ _ _ a.n a.l r.noded.most r.l_in_bounds c.gap_lines.ensures c.gap_lines-2.ensures).0
+    (all-gapped a.nodes.now _ _ _ a.n a.l r.noded.most r.room c.gap_lines.ensures c.gap_lines-2.ensures).0

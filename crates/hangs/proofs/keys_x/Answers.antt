@@ -9,14 +9,14 @@ use Rattle.hangs.proofs.keys_x.Goals as goal
 pub loop-i-init : goal.loop-i-init
 loop-i-init c =
     let a = c.args in
-    let r = c.requires.n_in_bounds in
+    let r = c.requires.room in
     fill_begins 0 _ 0 (4 * a.l + a.n) (key_x a.nodes.now a.corners.now a.l) (omega arith)
 
 pub loop-i-preserved : goal.loop-i-preserved
 unfolding key_x
 loop-i-preserved c =
     let a = c.args in
-    let r = c.requires.n_in_bounds in
+    let r = c.requires.room in
     let layer =
     c.layer_at-k.ensures
     ∙ (ap (λ (z : ℕ). (node_in a.nodes.now z).layer) c.corner_of.ensures.0
@@ -28,5 +28,5 @@ pub returns : goal.returns
 returns c =
     let a = c.args in
     fill-ends 0 _ 0 (4 * a.l + a.n) (key_x a.nodes.now a.corners.now a.l)
-    (let r = c.requires.n_in_bounds in omega arith) _ _ c.loop-i.invariant c.loop-i.auto.i-end
+    (let r = c.requires.room in omega arith) _ _ c.loop-i.invariant c.loop-i.auto.i-end
     c.loop-i-test.false

@@ -17,16 +17,16 @@ first-is : (c : In-loop-i)
 first-is c =
     let a = c.args in
     let t = c.loop-i-test.true in
-    let r = c.requires.n_in_bounds in
+    let r = c.requires.room in
     fill-above 0 _ 0 (4 * a.l + a.n) (key_y (firsts a.nodes.now a.corners.now a.l a.n) a.nodes.now a.corners.now a.l)
     (omega arith) _ _ c.loop-i.invariant c.loop-i.auto.i-end _ (omega arith)
-    ∙ answer_at _ (4 * a.l + a.n) (first_of (keys_x a.nodes.now a.corners.now a.l (4 * a.l + a.n))) c.requires.n_value
+    ∙ answer_at _ (4 * a.l + a.n) (first_of (keys_x a.nodes.now a.corners.now a.l (4 * a.l + a.n))) c.requires.firsts_there
     _ t
 
 pub loop-i-init : goal.loop-i-init
 loop-i-init c =
     let a = c.args in
-    let r = c.requires.n_in_bounds in
+    let r = c.requires.room in
     fill_begins 0 _ 0 (4 * a.l + a.n) (key_y (firsts a.nodes.now a.corners.now a.l a.n) a.nodes.now a.corners.now a.l)
     (omega arith)
 
@@ -44,7 +44,7 @@ unfolding key_y
 loop-i-preserved c =
     let a = c.args in
     let t = c.loop-i-test.true in
-    let r = c.requires.n_in_bounds in
+    let r = c.requires.room in
     let value = ap₂ (λ (u w : ℕ). u * wide + w) (first-is (goal.at.loop-i-preserved c).In-loop-i) c.y_of.ensures.0 in
     front-turn 0 _ (4 * a.l + a.n) (key_y (firsts a.nodes.now a.corners.now a.l a.n) a.nodes.now a.corners.now a.l)
     (omega arith) _ _ c.loop-i.invariant t _ value
@@ -53,7 +53,7 @@ pub returns : goal.returns
 unfolding place_keys
 returns c =
     let a = c.args in
-    let r = c.requires.n_in_bounds in
+    let r = c.requires.room in
     fill-ends 0 _ 0 (4 * a.l + a.n) (key_y (firsts a.nodes.now a.corners.now a.l a.n) a.nodes.now a.corners.now a.l)
     (omega arith) _ _ c.loop-i.invariant
     c.loop-i.auto.i-end c.loop-i-test.false

@@ -12,14 +12,14 @@ answer : (c : In-loop-i)
 answer c =
     let a = c.args in
     let r = c.requires in
-    raise-answer a.nodes.now a.corners.now a.n a.l r.noded r.cornering a.work.now r.l_in_bounds [] _ _
-    (c.loop-i.invariant []) c.loop-i-test.true r.n_value
+    raise-answer a.nodes.now a.corners.now a.n a.l r.noded r.cornering a.work.now r.room [] _ _
+    (c.loop-i.invariant []) c.loop-i-test.true r.lasts_there
 
 pub loop-i-init : goal.loop-i-init
 loop-i-init c =
     let a = c.args in
     let r = c.requires in
-    raise-begins a.nodes.now a.corners.now a.n a.l r.noded r.cornering a.work.now r.l_in_bounds
+    raise-begins a.nodes.now a.corners.now a.n a.l r.noded r.cornering a.work.now r.room
 
 pub prove-unreachable-requires : goal.prove-unreachable-requires
 prove-unreachable-requires c =
@@ -34,10 +34,10 @@ loop-i-preserved c = λ ss.
     let d = answer (goal.at.loop-i-preserved c).In-loop-i in
     elim c.if-m-j.branch [
       | then-m-j w ↦ rw w.work-is (raise-some a.nodes.now a.corners.now a.n a.l r.noded r.cornering a.work.now
-          r.l_in_bounds ss _ _ (c.loop-i.invariant ss) c.loop-i-test.true _ d w.if-m-j.true _
+          r.room ss _ _ (c.loop-i.invariant ss) c.loop-i-test.true _ d w.if-m-j.true _
           (w.max.ensures ∙ ap (max _) w.size_of.ensures))
       | else-m-j w ↦ rw w.work-is (raise-none a.nodes.now a.corners.now a.n a.l r.noded r.cornering a.work.now
-          r.l_in_bounds ss _ _ (c.loop-i.invariant ss) c.loop-i-test.true _ d w.if-m-j.false)
+          r.room ss _ _ (c.loop-i.invariant ss) c.loop-i-test.true _ d w.if-m-j.false)
     ]
 
 pub returns : goal.returns

@@ -8,7 +8,7 @@ use Rattle.hangs.proofs.sort_x.Goals as goal
 pub firsts-requires-clause-small : goal.firsts-requires-clause-small
 firsts-requires-clause-small c =
     let a = c.args in
-    (sort-requires a.work.now (4 * a.l + a.n) (key_x a.nodes.now a.corners.now a.l) c.requires.n_in_bounds _
+    (sort-requires a.work.now (4 * a.l + a.n) (key_x a.nodes.now a.corners.now a.l) c.requires.room _
     c.keys_x.ensures (2 ^ 54)
     (λ i h. key-x-small a.nodes.now a.corners.now a.l i a.n c.requires.noded c.requires.cornering h)).1
 
@@ -16,5 +16,5 @@ pub returns : goal.returns
 unfolding keys_x
 returns c =
     let a = c.args in
-    answered a.work.now (4 * a.l + a.n) (key_x a.nodes.now a.corners.now a.l) c.requires.n_in_bounds _ c.keys_x.ensures
+    answered a.work.now (4 * a.l + a.n) (key_x a.nodes.now a.corners.now a.l) c.requires.room _ c.keys_x.ensures
     first_of _ c.firsts.ensures

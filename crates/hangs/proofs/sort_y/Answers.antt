@@ -15,7 +15,7 @@ lasts-requires-clause-small c =
     let p = c.requires.noded.most in
     let ks = keys_x a.nodes.now a.corners.now a.l m in
     let fs = tab (first_of ks) m in
-    (sort-requires a.work.now m (key_y fs a.nodes.now a.corners.now a.l) c.requires.n_in_bounds _ c.keys_y.ensures
+    (sort-requires a.work.now m (key_y fs a.nodes.now a.corners.now a.l) c.requires.room _ c.keys_y.ensures
     (2 ^ 55)
     (λ i h. key-y-small a.nodes.now a.corners.now a.l i fs (let q = first_small ks m i h in omega arith))).1
 
@@ -25,5 +25,5 @@ returns c =
     let a = c.args in
     let m = 4 * a.l + a.n in
     let fs = tab (first_of (keys_x a.nodes.now a.corners.now a.l m)) m in
-    answered a.work.now m (key_y fs a.nodes.now a.corners.now a.l) c.requires.n_in_bounds _ c.keys_y.ensures last_of _
+    answered a.work.now m (key_y fs a.nodes.now a.corners.now a.l) c.requires.room _ c.keys_y.ensures last_of _
     c.lasts.ensures

@@ -19,5 +19,5 @@ loop-i-preserved c =
     let e = c.leaf_of.ensures in
     let l = e.low (omega arith) in
     let k = i.kept c.leaf_of.result (omega arith) ∙ ap (λ (v : ℕ). get_or (part a.work.now a.l a.l) v 0) e.value in
-    let q = ap₂ (λ (u w : ℕ). u * wide + w) k c.x_of.ensures.0 in
+    let q = ap₂ (λ (u w : ℕ). u * wide + w) k c.x_of.ensures.value in
     filling-turn _ _ (8 * a.l) _ _ _ _ (omega arith) (omega arith) (inl (omega arith)) c.requires.small _ _ i t _ q

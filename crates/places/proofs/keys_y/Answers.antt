@@ -14,5 +14,5 @@ loop-i-preserved c =
     let r = c.requires.laid.room in
     let i = c.loop-i.invariant in
     let t = c.loop-i-test.true in
-    let q = ap₂ (λ (u w : ℕ). u * wide + w) (i.kept c.loop-i.i t) c.y_of.ensures.0 in
+    let q = ap₂ (λ (u w : ℕ). u * wide + w) (i.kept c.loop-i.i t) c.y_of.ensures.value in
     filling-turn _ _ (8 * c.args.l) _ _ _ _ (omega arith) (omega arith) (inr (omega arith)) c.requires.small _ _ i t _ q

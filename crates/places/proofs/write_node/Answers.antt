@@ -29,7 +29,7 @@ offset_bounds-components-k c =
     let r = c.requires in
     let e = c.leaf_of.ensures.low (omega arith) in
     let k = low c.args.work.now _ _ c.leaf_of.result r.laid.room r.small (omega arith) in
-    let n = r.components_len.0 in
+    let n = r.one_component_a_layer in
     let g = c.well_formed in
     omega arith
 
@@ -38,7 +38,7 @@ bounds-components-k c =
     let r = c.requires in
     let e = c.leaf_of.ensures.low (omega arith) in
     let k = low c.args.work.now _ _ c.leaf_of.result r.laid.room r.small (omega arith) in
-    let n = r.components_len.0 in
+    let n = r.one_component_a_layer in
     omega arith
 
 -- the four numbers are those of the node
@@ -65,5 +65,5 @@ returns c =
     (four
     (to_z_pos w64 hl ∙ ap (λ (n : ℕ). pos (get_or a.layers.now n 0)) k)
     (to_z_pos w64 hc ∙ ap (λ (n : ℕ). pos (get_or a.components.now n 0)) k)
-    (to_z-of_z fx ∙ (c.ticks-x.ensures ∙ ap on c.x_of.ensures.0))
-    (to_z-of_z fy ∙ (c.ticks-y.ensures ∙ ap on c.y_of.ensures.0)))
+    (to_z-of_z fx ∙ (c.ticks-x.ensures ∙ ap on c.x_of.ensures.value))
+    (to_z-of_z fy ∙ (c.ticks-y.ensures ∙ ap on c.y_of.ensures.value)))

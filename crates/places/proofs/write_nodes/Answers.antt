@@ -19,7 +19,7 @@ number_at w ks l i e t =
     ∙ (ap (λ (z : List ℕ). get_or z i 0) e ∙ tab-at (number_by ks) (4 * l) i 0 t)
 
 pub loop-i-init : goal.loop-i-init
-loop-i-init c = writing_begins _ _ 4 (4 * c.args.l) (λ i. refl) _ (omega (arith, c.requires.components_len.1))
+loop-i-init c = writing_begins _ _ 4 (4 * c.args.l) (λ i. refl) _ (omega (arith, c.requires.room))
 
 pub loop-i-preserved : goal.loop-i-preserved
 loop-i-preserved c =
@@ -27,9 +27,9 @@ loop-i-preserved c =
     let r = c.requires in
     let t = c.loop-i-test.true in
     let i = c.loop-i.invariant in
-    let n = number_at _ _ _ _ r.l_value t in
+    let n = number_at _ _ _ _ r.numbered t in
     let long = keys-long a.layers.now a.components.now (part a.work.now 0 a.l) a.boxes.now a.l in
-    let room : 4 * a.l * 4 ≤ length a.nodes.now = omega (arith, r.components_len.1) in
+    let room : 4 * a.l * 4 ≤ length a.nodes.now = omega (arith, r.room) in
     elim c.if-work-from.branch [
       | then-work-from w ↦
           let new = next-new _ _ (sym n ∙ (w.if-work-from.true ∙ i.count)) (omega arith) in
@@ -56,6 +56,6 @@ loop-i-preserved c =
 
 pub returns : goal.returns
 returns c =
-    let r = c.requires.components_len.1 in
+    let r = c.requires.room in
     let s = c.loop-i.auto.i-end in
     writing-ends _ _ 4 (4 * c.args.l) (λ i. refl) _ (omega arith) _ _ _ c.loop-i.invariant s c.loop-i-test.false

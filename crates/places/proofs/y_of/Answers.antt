@@ -9,4 +9,4 @@ returns c =
     let p = c.requires in
     let e : c.place_y.result ≡ y_of c.args.boxes.now (4 * c.args.l) c.args.i =
     rw (c.place_y.ensures, c.side_of.ensures, c.leaf_of.ensures.value) in
-    (e, rw e (y-low c.args.boxes.now _ _ p.boxes_len.0 p.small p.boxes_len.1))
+    record { value = e; narrow = rw e (y-low c.args.boxes.now _ _ p.a_box_each p.small p.place_there) }

@@ -20,7 +20,7 @@ put_lines-requires-clause-net_rows c =
     let k = c.network-net.auto in
     let d = c.in-Ok in
     net-rows a.t a.table.now a.order.now p d.c (rows v.nodes v.ends v.conductances v.corners v.cells v.work)
-    d.ensures.result_value d.ensures.work_after (k.nodes ∙ length-replicate {A = ℤ} (16 * leaf_room) (pos 0))
+    d.ensures.answer d.ensures.rows (k.nodes ∙ length-replicate {A = ℤ} (16 * leaf_room) (pos 0))
     (k.ends ∙ length-replicate {A = ℕ} (16 * leaf_room) 0)
     (k.conductances ∙ length-replicate {A = Float} (8 * leaf_room) (of_bits binary64 0))
 
@@ -30,7 +30,7 @@ returns-in-Err-clause-puts c =
     let p = polygons a.layers.now a.components.now a.sheets.now in
     let x = c.in-Err.why in
     renamed 0 a.out.now (said_text (refusal x)) (table_text a.t.count a.t.max_level a.t.splits a.table.now a.order.now p)
-    (refused-net a.t a.table.now a.order.now p x c.in-Err.ensures.result_value) c.refuse.ensures.puts
+    (refused-net a.t a.table.now a.order.now p x c.in-Err.ensures.answer) c.refuse.ensures.puts
 
 pub returns-in-Ok-clause-puts : goal.returns-in-Ok-clause-puts
 returns-in-Ok-clause-puts c =
@@ -40,7 +40,7 @@ returns-in-Ok-clause-puts c =
     let k = c.network-net.auto in
     let d = c.in-Ok in
     let e = net-text a.t a.table.now a.order.now p d.c (rows v.nodes v.ends v.conductances v.corners v.cells v.work)
-    d.ensures.result_value d.ensures.work_after (k.nodes ∙ length-replicate {A = ℤ} (16 * leaf_room) (pos 0))
+    d.ensures.answer d.ensures.rows (k.nodes ∙ length-replicate {A = ℤ} (16 * leaf_room) (pos 0))
     (k.ends ∙ length-replicate {A = ℕ} (16 * leaf_room) 0)
     (k.conductances ∙ length-replicate {A = Float} (8 * leaf_room) (of_bits binary64 0))
     c.requires.all in

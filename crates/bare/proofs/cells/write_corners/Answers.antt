@@ -9,5 +9,5 @@ returns c =
     let a = c.args in
     let s = c.requires.slotted in
     let e = c.copy_from_slice.ensures in
-    let n : length c.copy_from_slice.new.self ≡ 4 * a.l = e.len ∙ length-take-le _ _ c.requires.l_in_bounds in
+    let n : length c.copy_from_slice.new.self ≡ 4 * a.l = e.len ∙ length-take-le _ _ c.requires.room in
     front-copied _ _ _ n ∙ ap (put a.corners.now 0) (nums-copied _ _ s _ e.after ∙ nums-tab a.rows.now a.l s)

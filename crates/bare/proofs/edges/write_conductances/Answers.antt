@@ -13,7 +13,7 @@ one w c {g} {g'} p h = put_one w c g h ∙ ap₂ {C = List Float} (λ u z. put w
     once c = omega arith
 
 pub loop-j-init : goal.loop-j-init
-loop-j-init c = writing_begins _ _ 1 (8 * c.args.l) (λ i. refl) _ (omega (arith, c.requires.l_in_bounds))
+loop-j-init c = writing_begins _ _ 1 (8 * c.args.l) (λ i. refl) _ (omega (arith, c.requires.room))
 
 pub loop-j-preserved : goal.loop-j-preserved
 loop-j-preserved c =
@@ -21,7 +21,7 @@ loop-j-preserved c =
     let p = c.requires.parted in
     let i = c.loop-j.invariant in
     let t = c.loop-j-test.true in
-    let room : m * 1 ≤ length c.args.g.now = omega (arith, c.requires.l_in_bounds) in
+    let room : m * 1 ≤ length c.args.g.now = omega (arith, c.requires.room) in
     elim c.if-work-from.branch [
       | then-work-from w ↦
           let n = new-at _ _ _ p _ t w.if-work-from.true in

@@ -9,14 +9,14 @@ pub loop-j-init : goal.loop-j-init
 loop-j-init c =
     let a = c.args in
     let f = weight_in a.nodes.now a.n a.corners.now a.sheets.now a.l a.ends.now a.g.now in
-    let r = c.requires.k_in_bounds in
+    let r = c.requires.room in
     fill_begins nan a.g.now 0 a.k f (omega arith)
 
 pub loop-j-preserved : goal.loop-j-preserved
 loop-j-preserved c =
     let a = c.args in
     let f = weight_in a.nodes.now a.n a.corners.now a.sheets.now a.l a.ends.now a.g.now in
-    let r = c.requires.k_in_bounds in
+    let r = c.requires.room in
     let i = c.loop-j in
     let t = c.loop-j-test.true in
     let n = i.auto.j-end in
@@ -28,6 +28,6 @@ pub returns : goal.returns
 returns c =
     let a = c.args in
     let f = weight_in a.nodes.now a.n a.corners.now a.sheets.now a.l a.ends.now a.g.now in
-    let r = c.requires.k_in_bounds in
+    let r = c.requires.room in
     let i = c.loop-j.invariant in
     fill-ends nan a.g.now 0 a.k f (omega arith) _ _ i c.loop-j.auto.j-end c.loop-j-test.false

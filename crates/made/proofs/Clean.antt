@@ -21,10 +21,14 @@ use Rattle.net.specs.Hang.{so_far, HalvedSides}
 use Rattle.net.proofs.Keys.{both_of}
 use Rattle.net.proofs.All.{All, In}
 use Rattle.net.proofs.Hang.{no-half-hangs}
+use Rattle.net.proofs.Leaves.{piece_of, pieces-at}
+use Rattle.std.proofs.lemmas.Option.{slice_get-get_or}
 use Rattle.net.proofs.Distinct.{no-duplicates}
+use Rattle.made.specs.Laws.{MadeNetsAreSound, ApartPolygonsPass, OnePolygonPasses, OnePolygonConforms}
+use Rattle.std.specs.List.{All as AllAt}
 use Rattle.made.specs.Made.{no_poly, poly_at, layers_of, components_of, AllApart, InRange, node_row, end_row, conductance_row, corner_row, sheet_row, rows_of}
 use Rattle.made.proofs.Places.{own_of, Tells, own-tells, any_tells}
-use Rattle.made.proofs.Pieces.{leaf-in, piece_of, pieces-split, pieces-polys, nodes-polys, kept, behind, nodes-are, cell-within, low}
+use Rattle.made.proofs.Pieces.{leaf-in, pieces-polys, nodes-polys, kept, behind, nodes-are, cell-within, low}
 use Rattle.made.proofs.Clear.{leaf-clear, first-clear}
 use Rattle.made.proofs.Sound.{made-sound}
 
@@ -59,16 +63,16 @@ module _ (t : List ℤ) (n : ℕ) (ps : List Poly) (apart : AllApart ps) (fits :
       pre = pieces (table t n) (take k ps) 0
 
       q : Piece
-      q = piece_of (table t n) (poly_at ps k) (0 + k)
+      q = piece_of (table t n) (poly_at ps k) k
 
       qs : List Piece
-      qs = pieces (table t n) (drop (suc k) ps) (suc (0 + k))
+      qs = pieces (table t n) (drop (suc k) ps) (suc k)
 
       so : List Node
       so = so_far pre q
 
       split : pieces (table t n) ps 0 ≡ pre ++ (q ∷ qs)
-      split = pieces-split (table t n) ps 0 k l
+      split = pieces-at (table t n) ps k (poly_at ps k) (slice_get-get_or ps k no_poly l)
 
       keeps : (x y : ℕ) → In same_node (network (table t n) ps).nodes (node_at (poly_at ps k) x y)
           → In same_node so (node_at (poly_at ps k) x y) × (number (network (table t n) ps).nodes (node_at (poly_at ps k) x y) ≡ number so (node_at (poly_at ps k) x y))
@@ -76,15 +80,15 @@ module _ (t : List ℤ) (n : ℕ) (ps : List Poly) (apart : AllApart ps) (fits :
           subst
           (λ (z : List Node). In same_node z (node_at (poly_at ps k) x y) → In same_node so (node_at (poly_at ps k) x y) × (number z (node_at (poly_at ps k) x y) ≡ number so (node_at (poly_at ps k) x y)))
           (sym (nodes-are (table t n) ps ∙ ap (nodes_from []) split))
-          (kept pre q qs (behind (table t n) ps (suc (0 + k)) k apart l) x y)
+          (kept pre q qs (behind (table t n) ps (suc k) k apart l) x y)
 
-      polygon : (at (table t n) i).polygon ≡ 0 + k
-      polygon = ap (λ (c : Cell). c.polygon) (at_table t n i h) ∙ (e ∙ sym (zero-add k))
+      polygon : (at (table t n) i).polygon ≡ k
+      polygon = ap (λ (c : Cell). c.polygon) (at_table t n i h) ∙ e
 
       sides : HalvedSides so (network (table t n) ps).edges (poly_at ps k) (box_of (cell_at t i))
       sides =
           subst (λ (c : Cell). HalvedSides so (network (table t n) ps).edges (poly_at ps k) c.box) (at_table t n i h)
-          (leaf-in (HalvedSides so (network (table t n) ps).edges (poly_at ps k)) (0 + k) (table t n) (no-half-hangs (table t n) ps pre q qs split) i
+          (leaf-in (HalvedSides so (network (table t n) ps).edges (poly_at ps k)) k (table t n) (no-half-hangs (table t n) ps pre q qs split) i
           (rw length-table h) (leaf_kids t n i h leaf) polygon)
 
   cell-none : (i : ℕ) → i < n
@@ -134,7 +138,7 @@ module _ (t : List ℤ) (n : ℕ) (ps : List Poly) (apart : AllApart ps) (fits :
 -- one polygon: every cell is of polygon 0
 module _ (t : List ℤ) (n : ℕ) (p : Poly) (fits : (i : ℕ) → i < n → (cell_at t i).poly ≡ 0) where
   alone : AllApart (p ∷ [])
-  alone j k h l = absurd (omega arith)
+  alone j k d h l = absurd (omega arith)
 
   only : (Q : Poly → Type 0) → Q p → (k : ℕ) → k < 1 → Q (poly_at (p ∷ []) k)
   only Q q zero h = q
@@ -172,3 +176,20 @@ module _ (t : List ℤ) (n : ℕ) (p : Poly) (fits : (i : ℕ) → i < n → (ce
       ap (λ (b : Bool). cond b (accepted (net_fault t n net.nodes net.ends)) (refused 7 0))
       (both_of (well_formed t n M) (sound_net net) formed (made-sound t n M (p ∷ []) formed (only InRange range)))
       ∙ ap accepted one-net-fault
+
+-- ---- the laws that src/laws.rt promises
+
+of-all : (ps : List Poly) → AllAt InRange ps → (k : ℕ) → k < length ps → InRange (poly_at ps k)
+of-all ps h k l = h k no_poly l
+
+pub nets-sound : MadeNetsAreSound
+nets-sound t n M ps formed range = made-sound t n M ps formed (of-all ps range)
+
+pub apart-pass : ApartPolygonsPass
+apart-pass t n M ps formed range apart fits = says-made t n ps apart fits M formed (of-all ps range)
+
+pub one-passes : OnePolygonPasses
+one-passes t n M p formed range fits = one-says t n p (λ i h. (let f = fits i h in omega arith)) M formed range
+
+pub one-conforms : OnePolygonConforms
+one-conforms t n M p formed range fits = one-net-says t n p (λ i h. (let f = fits i h in omega arith)) M formed range

@@ -27,13 +27,11 @@ use Rattle.build.proofs.Boards.{sizes}
 use Rattle.build.proofs.Tiling.{RootOk, cell-ok}
 use Rattle.build.proofs.Formed.{slot, passed}
 use Rattle.build.proofs.Wellformed.{built-formed}
-use Rattle.coarsest.specs.Passes.{balance}
-use Rattle.net.specs.Net.{Poly, Piece, pieces, network}
-use Rattle.hanging.specs.Strip.{OneStrip, Grid, Splits}
+use Rattle.hanging.specs.Strip.{OneStrip, Grid}
 use Rattle.hanging.proofs.Runs.{run-strip}
-use Rattle.hanging.proofs.Hanging.{NoneHangs}
 use Rattle.hanging.proofs.Evens.{splits-formed, splits-strip}
-use Rattle.hanging.proofs.Laws.{balance-hangs-not}
+use Rattle.hanging.proofs.Tables.{balance-none}
+use Rattle.built_strip.specs.Laws.{built, BuiltIsOneStrip, BuiltHangsNot}
 use Rattle.built_strip.proofs.Lists.{grid-at, Placed, root-placed}
 
 -- what stands past the last root
@@ -151,21 +149,21 @@ module _ (b : Board) (size : ℕ) (fit : Fit b) (p : ℕ) (below : p < polygons 
 -- ---- an accepted call
 
 module _ (b : Board) (components : List ℕ) (sheets : List Float) (t : List ℤ) (n : ℕ) (e : build_says b components sheets (length t) ≡ accepted (n ∷ [])) where
-  abbrev built : List Mesh.Cell
-  built = table (build_leaves b components sheets t) n
-
   -- what build leaves of a polygon of one strip is one grid
-  pub built-strip : (p : ℕ) → p < polygons b → (s : Strip) → strips_at b p ≡ s ∷ [] → OneStrip built p
+  pub built-strip : (p : ℕ) → p < polygons b → (s : Strip) → strips_at b p ≡ s ∷ [] → OneStrip (table (build_leaves b components sheets t) n) p
   built-strip p below s single =
       let w = passed b components sheets t n e in
       subst (λ (u : List ℤ). OneStrip (table u n) p) (sym w.left)
       (subst (λ (m : ℕ). OneStrip (table (filled b (length t)) m) p) w.count
       (filled-strip b (length t) w.board p below (w.even p below) s single))
 
-  -- so that however it is refined, once the table is balanced no node of it hangs, whatever the other polygons are
-  pub built-hangs-not : (u : List Mesh.Cell) → Splits b.settings.max_level built u → (ps : List Poly) (pre : List Piece) (q : Piece) (qs : List Piece)
-      → pieces (balance b.settings.max_level u) ps 0 ≡ pre ++ (q ∷ qs) → length pre < polygons b → (s : Strip) → strips_at b (length pre) ≡ s ∷ []
-      → NoneHangs (network (balance b.settings.max_level u) ps) q
-  built-hangs-not u made ps pre q qs d below s single =
-      balance-hangs-not b.settings.max_level u (splits-formed b.settings.max_level built (built-formed b components sheets t n e).cells made) ps pre q qs d
-      (splits-strip b.settings.max_level built (length pre) (built-strip (length pre) below s single) made)
+-- ---- the laws that src/laws.rt promises
+
+pub built-one-strip : BuiltIsOneStrip
+built-one-strip b k w = built-strip b.board b.components b.sheets b.lent b.count b.accepting k w.there w.strip w.only
+
+pub built-none-hangs : BuiltHangsNot
+built-none-hangs b t ps k p w made h =
+    let M = b.board.settings.max_level in
+    balance-none M t ps k p (splits-formed M (built b) (built-formed b.board b.components b.sheets b.lent b.count b.accepting).cells made) h
+    (splits-strip M (built b) k (built-one-strip b k w) made)

@@ -1,0 +1,2 @@
+-- What build leaves of a polygon of one strip.
+pub mod Laws
