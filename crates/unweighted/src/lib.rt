@@ -76,8 +76,8 @@ fn write_cells(sheets: &[f64], rows: &[u64], l: usize, corners: &mut [u64], cell
     bare::cells::write_corners(rows, l, corners);
 }
 
-// The net before the weights. Internal: the leaves' polygons stand in front of the work room, and their boxes in front of
-// the row of corners until the cells overwrite them.
+// The net before the weights. Internal: the leaves' polygons stand in front of the work room, and their boxes in
+// front of the row of corners until the cells overwrite them.
 pub fn write_net(
     layers: &[u16],
     components: &[u32],
