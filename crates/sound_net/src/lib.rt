@@ -113,7 +113,8 @@ fn are_known(count: usize, sw: usize, se: usize, ne: usize, nw: usize) -> bool
 fn is_southwest(nodes: &[i64], sw: usize, ne: usize) -> bool
     requires southwest_there { sw < node_count nodes.now }
     requires northeast_there { ne < node_count nodes.now }
-    ensures { result ≡ (int_lt (x_at nodes.now sw) (x_at nodes.now ne) && int_lt (y_at nodes.now sw) (y_at nodes.now ne)) }
+    ensures { result ≡ (int_lt (x_at nodes.now sw) (x_at nodes.now ne) && int_lt (y_at nodes.now sw) (y_at
+        nodes.now ne)) }
 {
     nodes[sw * 4 + 2] < nodes[ne * 4 + 2] && nodes[sw * 4 + 3] < nodes[ne * 4 + 3]
 }
