@@ -58,7 +58,8 @@ pub fn write_ends(rows: &[u64], work: &[u64], l: usize, ends: &mut [u64]) -> usi
     requires slotted { Slotted rows.now l }
     requires parted { Parted rows.now work.now l }
     requires room { 16 * l ≤ length ends.old }
-    ensures { (result ≡ rank (slot_keys rows.now l) (8 * l)) × (ends.new ≡ put ends.old 0 (each (ends_of rows.now l) (news (slot_keys rows.now l) (8 * l)))) }
+    ensures { (result ≡ rank (slot_keys rows.now l) (8 * l)) × (ends.new ≡ put ends.old 0 (each (ends_of
+        rows.now l) (news (slot_keys rows.now l) (8 * l)))) }
 {
     let from = 42 * l;
     let mut c: usize = 0;
@@ -87,7 +88,8 @@ pub fn write_conductances(
     requires small { Small (length sheets.now) (polys_in rows.now l) }
     requires parted { Parted rows.now work.now l }
     requires room { 8 * l ≤ length g.old }
-    ensures { (result ≡ rank (slot_keys rows.now l) (8 * l)) × (g.new ≡ put g.old 0 (each (λ j. slot_g sheets.now boxes.now rows.now l j ∷ []) (news (slot_keys rows.now l) (8 * l)))) }
+    ensures { (result ≡ rank (slot_keys rows.now l) (8 * l)) × (g.new ≡ put g.old 0 (each (λ j. slot_g
+        sheets.now boxes.now rows.now l j ∷ []) (news (slot_keys rows.now l) (8 * l)))) }
 {
     let from = 42 * l;
     let mut c: usize = 0;

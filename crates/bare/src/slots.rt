@@ -73,7 +73,8 @@ pub fn slot_end(rows: &[u64], l: usize, j: usize, e: usize) -> u64
     requires slotted { Slotted rows.now l }
     requires slot_there { j < 8 * l }
     requires end { e < 2 }
-    ensures { (result ≡ slot_end (polys_in rows.now l) (nums_in rows.now l) (mids_in rows.now l) l j e) × (result < many) }
+    ensures { (result ≡ slot_end (polys_in rows.now l) (nums_in rows.now l) (mids_in rows.now l) l j e) ×
+        (result < many) }
 {
     let v = j / 8;
     let q = j % 8 / 2;
@@ -101,7 +102,8 @@ fn slot_key(rows: &[u64], l: usize, j: usize) -> u64
 fn part_keys(work: &mut [u64], l: usize)
     requires room { 50 * l ≤ length work.old }
     requires slotted { Slotted (take (26 * l) work.old) l }
-    ensures { work.new ≡ put work.old (26 * l) (tab (slot_key (polys_in (take (26 * l) work.old) l) (nums_in (take (26 * l) work.old) l) (mids_in (take (26 * l) work.old) l) l) (8 * l)) }
+    ensures { work.new ≡ put work.old (26 * l) (tab (slot_key (polys_in (take (26 * l) work.old) l) (nums_in
+        (take (26 * l) work.old) l) (mids_in (take (26 * l) work.old) l) l) (8 * l)) }
 {
     let (rows, keys) = work.split_at_mut(26 * l);
     for j in 0..8 * l {

@@ -1,5 +1,5 @@
-//! What the contracts of the two checks come to. No function here does anything: it promises a law, which its specs state
-//! and its proof file proves.
+//! What the contracts of the two checks come to. No function here does anything: it promises a law, which its specs
+//! state and its proof file proves.
 
 ghost use Rattle.checks.specs.Laws.{OneAnswer, OneContent};
 

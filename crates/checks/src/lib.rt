@@ -1,7 +1,8 @@
-// The two checks of crate `conforming` with lent work room: each place and each pair is looked for by halving in a row of sorted keys.
+// The two checks of crate `conforming` with lent work room: each place and each pair is looked for by halving in a
+// row of sorted keys.
 //
-// The row of work room, for n nodes and e edges: three blocks of nodes and one of edges, 3 * n and 3 * e long. Where the room is too short,
-// or the nodes are too many for the keys, the walk is the plain one.
+// The row of work room, for n nodes and e edges: three blocks of nodes and one of edges, 3 * n and 3 * e long. Where
+// the room is too short, or the nodes are too many for the keys, the walk is the plain one.
 #![tactic(auto)]
 
 ghost use Rattle.std.specs.Prelude.{◌≡◌, true, ◌&&◌, ℕ, ◌+◌, ◌*◌, ◌/◌, ◌<◌, ◌≤◌, length, get_or, pos};
@@ -93,7 +94,8 @@ fn are_joined(ends: &[u64], work: &[u64], n: usize, a: usize, b: usize) -> bool
     find(work, 9 * n, ends.len() / 2, pair_key(a, b)).is_some()
 }
 
-// The edge from a to b with the middle m, each a column and a height in it. Internal, as all that walks along the sides: the row is indexed.
+// The edge from a to b with the middle m, each a column and a height in it. Internal, as all that walks along the
+// sides: the row is indexed.
 #[tactic(auto, unfolding(crate::specs::Walks::side_in, conforming::specs::Checks::fault))]
 fn side_fault(
     ends: &[u64],
@@ -184,7 +186,8 @@ fn leaf_fault(ends: &[u64], work: &[u64], n: usize, class: Option<usize>, c: Cel
     sides_fault(ends, work, n, west, east, middle, c.y0, c.y1, m.y0)
 }
 
-// Layer and component of polygon p in one number, where a leaf's own are looked for. Internal: then the polygon stands in the rows.
+// Layer and component of polygon p in one number, where a leaf's own are looked for. Internal: then the polygon
+// stands in the rows.
 #[tactic(auto, unfolding(table::specs::Slots::counted))]
 fn class_of(own: bool, layers: &[u16], components: &[u32], p: usize) -> u64
     requires { Placed own layers.now components.now p }
@@ -286,8 +289,8 @@ fn put_classes(own: bool, nodes: &[i64], work: &mut [u64])
     }
 }
 
-// The keys of one round on, to `to`: the last indices of equal key stand at `from`, and number f of each node is a coordinate.
-// Internal: there is room.
+// The keys of one round on, to `to`: the last indices of equal key stand at `from`, and number f of each node is a
+// coordinate. Internal: there is room.
 fn put_finer(nodes: &[i64], f: usize, work: &mut [u64], from: usize, to: usize)
     requires number_of_a_node { f < 4 }
     requires few { node_count nodes.now ≤ max_nodes }
@@ -374,7 +377,8 @@ fn index(own: bool, nodes: &[i64], ends: &[u64], work: &mut [u64])
     make_pairs(ends, work, 9 * n);
 }
 
-// Whether the polygons have a layer and a component each, where a leaf's own are looked for. Internal: the cells stand in the table.
+// Whether the polygons have a layer and a component each, where a leaf's own are looked for. Internal: the cells
+// stand in the table.
 fn polygons_fit(own: bool, t: &[i64], n: usize, layers: &[u16], components: &[u32]) -> bool
     requires { n * 8 ≤ length t.now }
     ensures { result ≡ own_fit own t.now n layers.now components.now }

@@ -1,4 +1,5 @@
-// Whether a net has both halves of every leaf edge with a node at its middle: check_network_conforming of the Rust, and the same by layer.
+// Whether a net has both halves of every leaf edge with a node at its middle: check_network_conforming of the Rust,
+// and the same by layer.
 //
 // The walk is the plain one: no work room is lent, and each place is looked for among all nodes.
 #![tactic(auto)]
@@ -236,7 +237,8 @@ fn polygons_below(t: &[i64], n: usize, count: usize) -> bool
     (0..n).all(|i| table::slots::poly_at(t, i) < count as u64)
 }
 
-// Whether the rows of the polygons are of one length, and no cell names a polygon past the last. Internal: the cells stand in the table.
+// Whether the rows of the polygons are of one length, and no cell names a polygon past the last. Internal: the cells
+// stand in the table.
 #[tactic(auto, unfolding(crate::specs::Checks::polygons_fit))]
 pub fn polygons_fit(t: &[i64], n: usize, layers: &[u16], components: &[u32]) -> bool
     requires { n * 8 ≤ length t.now }

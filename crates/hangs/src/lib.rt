@@ -91,7 +91,8 @@ fn keys_y(nodes: &[i64], n: usize, corners: &[u64], work: &mut [u64], l: usize)
     requires noded { Noded nodes.now n l }
     requires cornering { Cornering corners.now n l }
     requires room { 3 * (4 * l + n) ≤ length work.old }
-    requires firsts_there { part work.old (2 * (4 * l + n)) (4 * l + n) ≡ tab (first_of (keys_x nodes.now corners.now l (4 * l + n))) (4 * l + n) }
+    requires firsts_there { part work.old (2 * (4 * l + n)) (4 * l + n) ≡ tab (first_of (keys_x nodes.now
+        corners.now l (4 * l + n))) (4 * l + n) }
     ensures { work.new ≡ put work.old 0 (place_keys nodes.now corners.now l (4 * l + n)) }
 {
     let m = 4 * l + n;
@@ -121,7 +122,8 @@ fn sort_y(nodes: &[i64], n: usize, corners: &[u64], work: &mut [u64], l: usize)
     requires noded { Noded nodes.now n l }
     requires cornering { Cornering corners.now n l }
     requires room { 3 * (4 * l + n) ≤ length work.old }
-    requires firsts_there { part work.old (2 * (4 * l + n)) (4 * l + n) ≡ tab (first_of (keys_x nodes.now corners.now l (4 * l + n))) (4 * l + n) }
+    requires firsts_there { part work.old (2 * (4 * l + n)) (4 * l + n) ≡ tab (first_of (keys_x nodes.now
+        corners.now l (4 * l + n))) (4 * l + n) }
     ensures { Answered work.old work.new (4 * l + n) (last_of (place_keys nodes.now corners.now l (4 * l + n))) }
 {
     let m = 4 * l + n;
@@ -153,7 +155,8 @@ fn raise_sides(nodes: &[i64], n: usize, corners: &[u64], work: &mut [u64], l: us
     requires noded { Noded nodes.now n l }
     requires cornering { Cornering corners.now n l }
     requires room { 64 * l ≤ length work.old }
-    requires lasts_there { part work.old (2 * (4 * l + n)) (4 * l + n) ≡ tab (last_of (place_keys nodes.now corners.now l (4 * l + n))) (4 * l + n) }
+    requires lasts_there { part work.old (2 * (4 * l + n)) (4 * l + n) ≡ tab (last_of (place_keys nodes.now
+        corners.now l (4 * l + n))) (4 * l + n) }
     ensures { (ss : List Float) → Raised nodes.now corners.now ss work.old work.new n l (4 * l) }
 {
     let m = 4 * l;

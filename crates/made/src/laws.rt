@@ -1,5 +1,5 @@
-//! What the calls that take a net say of one that was made. No function here does anything: each promises a law, which its
-//! specs state and its proof file proves.
+//! What the calls that take a net say of one that was made. No function here does anything: each promises a law,
+//! which its specs state and its proof file proves.
 
 ghost use Rattle.made.specs.Laws.{MadeNetsAreSound, ApartPolygonsPass, OnePolygonPasses, OnePolygonConforms};
 

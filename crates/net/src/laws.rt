@@ -1,5 +1,5 @@
-//! What holds of every net, whatever the table and its polygons are. No function here does anything: each promises a law,
-//! which its specs state and its proof file proves.
+//! What holds of every net, whatever the table and its polygons are. No function here does anything: each promises a
+//! law, which its specs state and its proof file proves.
 
 ghost use Rattle.net.specs.Boards.{BoardsAgree};
 ghost use Rattle.net.specs.Laws.{AtMostFourNodesALeaf, AtMostEightEdgesALeaf, AtMostOneCellALeaf};

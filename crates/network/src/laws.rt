@@ -1,5 +1,5 @@
-//! What the contract of `network` comes to. No function here does anything: each promises a law, which its specs state and
-//! its proof file proves.
+//! What the contract of `network` comes to. No function here does anything: each promises a law, which its specs
+//! state and its proof file proves.
 
 ghost use Rattle.network.specs.Laws.{AcceptedEdgesConduct, AcceptedCellsAreRectangles, OneAnswer, OneContent};
 

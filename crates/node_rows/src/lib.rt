@@ -1,4 +1,5 @@
-// Nodes out of a lent row: four numbers a node, layer, component, x and y. Coordinates are handed out as a cell holds them.
+// Nodes out of a lent row: four numbers a node, layer, component, x and y. Coordinates are handed out as a cell holds
+// them.
 #![tactic(auto)]
 
 ghost use Rattle.std.specs.Prelude.{◌≡◌, ◌+◌, ◌*◌, ◌^◌, ◌<◌, ◌≤◌, length};

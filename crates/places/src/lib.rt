@@ -173,7 +173,8 @@ pub fn number_places(
     requires one_component_a_layer { length components.now ≡ length layers.now }
     requires few_polygons { length layers.now ≤ max_polygons }
     requires small { Small (length layers.now) (part work.old 0 l) }
-    ensures { Numbered (place_keys layers.now components.now (part work.old 0 l) boxes.now l) (part work.old 0 l) work.new l result }
+    ensures { Numbered (place_keys layers.now components.now (part work.old 0 l) boxes.now l) (part work.old 0
+        l) work.new l result }
 {
     let a = l + l;
     let b = 18 * l;
@@ -215,7 +216,8 @@ fn write_node(
     requires corner_there { i < 4 * l }
     requires small { Small (length layers.now) (part work.now 0 l) }
     requires room { at + 4 ≤ length nodes.old }
-    ensures { nodes.new ≡ put nodes.old at (node_nums (node_of layers.now components.now (part work.now 0 l) boxes.now l i)) }
+    ensures { nodes.new ≡ put nodes.old at (node_nums (node_of layers.now components.now (part work.now 0 l)
+        boxes.now l i)) }
 {
     let k = work[leaf_of(4 * l, i)] as usize;
     let a = layers[k] as i64;
@@ -239,8 +241,12 @@ pub fn write_nodes(
     requires one_component_a_layer { length components.now ≡ length layers.now }
     requires room { 16 * l ≤ length nodes.old }
     requires small { Small (length layers.now) (part work.now 0 l) }
-    requires numbered { part work.now (18 * l) (4 * l) ≡ tab (number_by (place_keys layers.now components.now (part work.now 0 l) boxes.now l)) (4 * l) }
-    ensures { (result ≡ rank (place_keys layers.now components.now (part work.now 0 l) boxes.now l) (4 * l)) × (nodes.new ≡ put nodes.old 0 (each (λ i. node_nums (node_of layers.now components.now (part work.now 0 l) boxes.now l i)) (news (place_keys layers.now components.now (part work.now 0 l) boxes.now l) (4 * l)))) }
+    requires numbered { part work.now (18 * l) (4 * l) ≡ tab (number_by (place_keys layers.now components.now
+        (part work.now 0 l) boxes.now l)) (4 * l) }
+    ensures { (result ≡ rank (place_keys layers.now components.now (part work.now 0 l) boxes.now l) (4 * l)) ×
+        (nodes.new ≡ put nodes.old 0 (each (λ i. node_nums (node_of layers.now components.now (part work.now 0
+        l) boxes.now l i)) (news (place_keys layers.now components.now (part work.now 0 l) boxes.now l) (4 *
+        l)))) }
 {
     let from = 18 * l;
     let mut c: usize = 0;

@@ -114,7 +114,8 @@ fn sheets_in_range(sheets: &[f64]) -> bool
     good
 }
 
-// Puts the power of each cell in its answer, two cells a turn: both are loaded before either is divided, so that the divisions go together. Internal: the net is sound, with a potential for each node and room for the answers.
+// Puts the power of each cell in its answer, two cells a turn: both are loaded before either is divided, so that the
+// divisions go together. Internal: the net is sound, with a potential for each node and room for the answers.
 #[tactic(auto, unfolding(crate::specs::Powers::values_at, crate::specs::Powers::listed))]
 fn fill(nodes: &[i64], corners: &[u64], sheets: &[f64], potentials: &[f64], answers: &mut [f64])
     requires room { length sheets.now ≤ length answers.old }

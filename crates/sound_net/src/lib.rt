@@ -15,8 +15,8 @@ const COMPONENTS: i64 = 4294967296;
 // No row has more nodes.
 const MANY: u64 = 1152921504606846976;
 
-// Where numbers are only to be below a power of two, or equal, the walks join their bits and test once, after the last: a test of
-// each number is a branch of each. The other tests leave at the first that fails.
+// Where numbers are only to be below a power of two, or equal, the walks join their bits and test once, after the
+// last: a test of each number is a branch of each. The other tests leave at the first that fails.
 
 // Internal: the node stands in the row.
 fn is_placed(nodes: &[i64], n: usize) -> bool
@@ -72,8 +72,8 @@ fn nodes_are_sound(nodes: &[i64]) -> bool
     pairs_are_sound(nodes, count / 2) && (count % 2 == 0 || node_is_sound(nodes, count - 1))
 }
 
-// What a count lacks of MANY. It is always the difference: the test keeps the compiler from subtracting the count from each number
-// of the walk below and then adding MANY. Internal: no row has more than MANY nodes.
+// What a count lacks of MANY. It is always the difference: the test keeps the compiler from subtracting the count
+// from each number of the walk below and then adding MANY. Internal: no row has more than MANY nodes.
 fn lack(count: usize) -> u64
     requires { count ≤ 2 ^ 60 }
     ensures { result + count ≡ 2 ^ 60 }
@@ -85,8 +85,9 @@ fn lack(count: usize) -> u64
     MANY - c
 }
 
-// Whether each number of the row is below the count: without a branch, so that a machine may take several at a time. A number is
-// below the count exactly if it, and what it makes with what the count lacks of MANY, are below MANY. Internal: no row has more than MANY nodes.
+// Whether each number of the row is below the count: without a branch, so that a machine may take several at a time.
+// A number is below the count exactly if it, and what it makes with what the count lacks of MANY, are below MANY.
+// Internal: no row has more than MANY nodes.
 fn all_below(count: usize, row: &[u64]) -> bool
     requires { count ≤ 2 ^ 60 }
     ensures { result ≡ all_below (λ i. nat_lt (slice_index row.now i) count) (length row.now) }
@@ -112,7 +113,8 @@ fn are_known(count: usize, sw: usize, se: usize, ne: usize, nw: usize) -> bool
 fn is_southwest(nodes: &[i64], sw: usize, ne: usize) -> bool
     requires southwest_there { sw < node_count nodes.now }
     requires northeast_there { ne < node_count nodes.now }
-    ensures { result ≡ (int_lt (x_at nodes.now sw) (x_at nodes.now ne) && int_lt (y_at nodes.now sw) (y_at nodes.now ne)) }
+    ensures { result ≡ (int_lt (x_at nodes.now sw) (x_at nodes.now ne) && int_lt (y_at nodes.now sw) (y_at
+        nodes.now ne)) }
 {
     nodes[sw * 4 + 2] < nodes[ne * 4 + 2] && nodes[sw * 4 + 3] < nodes[ne * 4 + 3]
 }
@@ -126,8 +128,8 @@ fn differ(nodes: &[i64], i: usize, j: usize) -> i64
     nodes[i] ^ nodes[j]
 }
 
-// 0 exactly if the nodes of the south and of the north side agree in y, and those of the east and of the west side in x. Internal:
-// they stand in the row.
+// 0 exactly if the nodes of the south and of the north side agree in y, and those of the east and of the west side in
+// x. Internal: they stand in the row.
 fn misfit(nodes: &[i64], sw: usize, se: usize, ne: usize, nw: usize) -> i64
     requires southwest_there { sw < node_count nodes.now }
     requires southeast_there { se < node_count nodes.now }

@@ -57,7 +57,8 @@ fn write_slots(
     requires parted { Parted (take (26 * l) work.now) work.now l }
     requires end_room { 16 * l ≤ length ends.old }
     requires conductance_room { 8 * l ≤ length conductances.old }
-    ensures { Edged sheets.now boxes.now (take (26 * l) work.now) l result ends.old ends.new conductances.old conductances.new }
+    ensures { Edged sheets.now boxes.now (take (26 * l) work.now) l result ends.old ends.new conductances.old
+        conductances.new }
 {
     let rows = &work[..26 * l];
     bare::edges::write_conductances(sheets, boxes, rows, work, l, conductances);
@@ -70,14 +71,15 @@ fn write_cells(sheets: &[f64], rows: &[u64], l: usize, corners: &mut [u64], cell
     requires small { Small (length sheets.now) (polys_in rows.now l) }
     requires corner_room { 4 * l ≤ length corners.old }
     requires cell_room { l ≤ length cells.old }
-    ensures { (corners.new ≡ put corners.old 0 (tab (λ i. get_or (nums_in rows.now l) i 0) (4 * l))) × (cells.new ≡ put cells.old 0 (tab (λ v. get_or sheets.now (get_or (polys_in rows.now l) v 0) nan) l)) }
+    ensures { (corners.new ≡ put corners.old 0 (tab (λ i. get_or (nums_in rows.now l) i 0) (4 * l))) ×
+        (cells.new ≡ put cells.old 0 (tab (λ v. get_or sheets.now (get_or (polys_in rows.now l) v 0) nan) l)) }
 {
     bare::cells::write_sheets(sheets, rows, l, cells);
     bare::cells::write_corners(rows, l, corners);
 }
 
-// The net before the weights. Internal: the leaves' polygons stand in front of the work room, and their boxes in front of
-// the row of corners until the cells overwrite them.
+// The net before the weights. Internal: the leaves' polygons stand in front of the work room, and their boxes in
+// front of the row of corners until the cells overwrite them.
 pub fn write_net(
     layers: &[u16],
     components: &[u32],
@@ -96,7 +98,10 @@ pub fn write_net(
     requires conductance_room { 8 * l ≤ length conductances.old }
     requires corner_room { 4 * l ≤ length corners.old }
     requires cell_room { l ≤ length cells.old }
-    ensures counted { (qs : List Piece) → Board layers.now components.now sheets.now (part work.old 0 l) (take (4 * l) corners.old) l qs → Counted qs l result.nodes result.edges result.cells × Netted qs nodes.old nodes.new ends.old ends.new conductances.old conductances.new corners.old corners.new cells.old cells.new }
+    ensures counted { (qs : List Piece) → Board layers.now components.now sheets.now (part work.old 0 l) (take
+        (4 * l) corners.old) l qs → Counted qs l result.nodes result.edges result.cells × Netted qs nodes.old
+        nodes.new ends.old ends.new conductances.old conductances.new corners.old corners.new cells.old
+        cells.new }
     ensures work_len_unchanged { length work.new ≡ length work.old }
 {
     let boxes = &corners[..4 * l];

@@ -46,7 +46,8 @@ fn side_keys(corners: &[u64], ends: &[u64], work: &mut [u64], l: usize, k: usize
 pub fn sort_sides(corners: &[u64], ends: &[u64], work: &mut [u64], l: usize, k: usize)
     requires paired { Paired corners.now ends.now l k }
     requires room { 3 * (4 * l + k) ≤ length work.old }
-    ensures { part work.new (2 * (4 * l + k)) (4 * l + k) ≡ tab (first_of (pair_keys corners.now ends.now l k)) (4 * l + k) }
+    ensures { part work.new (2 * (4 * l + k)) (4 * l + k) ≡ tab (first_of (pair_keys corners.now ends.now l k))
+        (4 * l + k) }
 {
     let n = 4 * l + k;
     let e = 3 * n;
