@@ -1,5 +1,5 @@
 //! Marks on ids, one for each eight of them: the leaves that a pass of balance or conform has to look at.
-ghost use Rattle.std.specs.Prelude.{◌≡◌, ℕ, ◌+◌, ◌<◌, ◌≤◌, true, false};
+ghost use Rattle.std.specs.Prelude.{◌≡◌, ℕ, ◌+◌, ◌<◌, ◌≤◌, true, false, IsTrue};
 ghost use Rattle.search.specs.Marks.{Marked, Unmarked, mark_at};
 
 /// One mark for each eight ids of the most slots that a table can have.
@@ -52,6 +52,7 @@ impl Marks {
         ensures past { from ≤ result }
         ensures within { result ≤ stop }
         ensures skipped { Unmarked self.now from result }
+        ensures found { result < stop → IsTrue (mark_at self.now result) }
     {
         let mut id = from;
         while id < stop {
