@@ -228,3 +228,22 @@ module _ {A S : Type 0} (item : S → Codec A) (leaves : A → S) (law : (s : S)
 
 pub counted_lawful : {A : Type 0} (w : Width) → IsWide w → (most : ℕ) → most < 256 ^ byte_len w → (item : Codec A) → IsLawful item → IsLawful (counted w most item)
 counted_lawful w wide most small item law = chained_lawful (λ (_ : Unit {0}). item) (λ _. tt) (λ _. law) w wide most small tt (λ _ x. refl)
+
+-- as many are read as are asked for
+pub many_length : {A S : Type 0} (item : S → Codec A) (leaves : A → S) (seen : S) (n : ℕ) (old : Cursor) {xs : List A} {new : Cursor} → many item leaves seen n old ≡ Ok (xs, new) → length xs ≡ n
+unfolding many
+many_length {A} item leaves seen zero old e = let made : List A × Cursor = ([], old) in ap (λ (x : List A × Cursor). length x.0) (sym (ok_is {x = made} e))
+many_length {A} item leaves seen (suc n) old e =
+    let p = bind_ok ((item seen).reading old) (λ x. many item leaves (leaves x.0) n x.1 >>= λ ys. Ok (x.0 ∷ ys.0, ys.1)) e in
+    let q = bind_ok (many item leaves (leaves p.0.0) n p.0.1) (λ ys. Ok (p.0.0 ∷ ys.0, ys.1)) p.2 in
+    let made : List A × Cursor = (p.0.0 ∷ q.0.0, q.0.1) in
+    ap (λ (x : List A × Cursor). length x.0) (sym (ok_is {x = made} q.2)) ∙ ap suc (many_length item leaves (leaves p.0.0) n p.0.1 q.1)
+
+-- what is read of a range lies in it
+pub ranged_within : (w : Width) (low high : ℕ) (old : Cursor) {n : ℕ} {new : Cursor} → (ranged w low high).reading old ≡ Ok (n, new) → (low ≤ n) × (n ≤ high)
+ranged_within w low high old {n} {new} e =
+    let b = bind_ok (number w old) (λ m. require (leb low m.0 && leb m.0 high) (OutOfRange old.at) (Ok m)) e in
+    let t = require_ok (leb low b.0.0 && leb b.0.0 high) (OutOfRange old.at) (Ok b.0) b.2 in
+    let f = each (leb low b.0.0) (leb b.0.0 high) t.0 in
+    let is : b.0.0 ≡ n = ap (λ (x : ℕ × Cursor). x.0) (ok_is t.1) in
+    subst (λ (m : ℕ). (low ≤ m) × (m ≤ high)) is (leb-true low b.0.0 f.0, leb-true b.0.0 high f.1)
