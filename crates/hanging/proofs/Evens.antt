@@ -10,7 +10,8 @@ use Rattle.coarsest.proofs.Roots.{roots_kept}
 use Rattle.coarsest.proofs.Find.{Named, named, tells, stands_of, find-rooted, is-root, root_is}
 use Rattle.coarsest.proofs.Kept.{evened-from}
 use Rattle.coarsest.proofs.Evened.{evened-roots}
-use Rattle.coarsest.proofs.Ends.{SameRoots, balance-evens, conform-evens}
+use Rattle.coarsest.specs.Laws.{SameRoots}
+use Rattle.coarsest.proofs.Ends.{balance-evens, conform-evens}
 use Rattle.hanging.specs.Strip.{RootOf, OneStrip, Even, Balanced, Conformed, Splits, start, next}
 
 leaf-whole : (t : List Cell) (r : ℕ) (p : Route) (i : ℕ) → find t r p ≡ Some i → (at t i).kids ≡ None → splitting t r p ≡ false
