@@ -176,10 +176,10 @@ pub extern "C" fn leafmesh_refine(
 // Balances the table: value is the number of splits, each four cells more.
 #[unsafe(no_mangle)]
 pub extern "C" fn leafmesh_balance(table: &mut [i64], count: usize, max_level: u64) -> Outcome
-    ensures value { let head = record { count = count; max_level = max_level } in
-        result ≡ outcome_of (even_says Balancing 1 table.old head) }
-    ensures table_after { let head = record { count = count; max_level = max_level } in
-        table.new ≡ even_row Balancing 1 table.old head }
+    ensures value { result ≡ outcome_of (even_says Balancing 1 table.old
+        (record { count = count; max_level = max_level })) }
+    ensures table_after { table.new ≡ even_row Balancing 1 table.old
+        (record { count = count; max_level = max_level }) }
 {
     of_evening(even::balance(table, Head { count, max_level }))
 }
@@ -187,10 +187,10 @@ pub extern "C" fn leafmesh_balance(table: &mut [i64], count: usize, max_level: u
 // The same until no two neighbours differ in level.
 #[unsafe(no_mangle)]
 pub extern "C" fn leafmesh_conform(table: &mut [i64], count: usize, max_level: u64) -> Outcome
-    ensures value { let head = record { count = count; max_level = max_level } in
-        result ≡ outcome_of (even_says Conforming 0 table.old head) }
-    ensures table_after { let head = record { count = count; max_level = max_level } in
-        table.new ≡ even_row Conforming 0 table.old head }
+    ensures value { result ≡ outcome_of (even_says Conforming 0 table.old
+        (record { count = count; max_level = max_level })) }
+    ensures table_after { table.new ≡ even_row Conforming 0 table.old
+        (record { count = count; max_level = max_level }) }
 {
     of_evening(even::conform(table, Head { count, max_level }))
 }
