@@ -63,9 +63,9 @@ module _ (poly : ℕ) (r : Strip) (n : ℕ) where
       let e = step (width r / n) i in
       let before = row-within i in
       let within =
-          All-append (IsWithin (upto r (r.x0 + width r / n * (i + 1)) r.y1)) (row_to poly r n i) (boxed poly (cell_of r n i) ∷ [])
-          (λ m x g. wider _ _ _ (omega arith) (omega arith) (omega arith) (omega arith) (before m x g))
-          (λ m x g. last m x g e) in
+      All-append (IsWithin (upto r (r.x0 + width r / n * (i + 1)) r.y1)) (row_to poly r n i) (boxed poly (cell_of r n i) ∷ [])
+      (λ m x g. wider _ _ _ (omega arith) (omega arith) (omega arith) (omega arith) (before m x g))
+      (λ m x g. last m x g e) in
       rw (← native.Mathlib.Numerals.add-one i) (within k d h)
     where
       last : (k : ℕ) (d : Root) → k < 1 → width r / n * (i + 1) ≡ width r / n * i + width r / n → IsWithin (upto r (r.x0 + width r / n * (i + 1)) r.y1) (get_or (boxed poly (cell_of r n i) ∷ []) k d)
@@ -101,9 +101,9 @@ module _ (poly : ℕ) (s : Strip) (g : Cut) where
       let e = step (height s / g.ny) j in
       let before = grid-within l j in
       let within =
-          All-append (IsWithin (upto s s.x1 (s.y0 + height s / g.ny * (j + 1)))) (grid_to poly s g j) (row_to poly (row_of s g j) g.nx g.nx)
-          (λ m x q. wider _ _ _ (omega arith) (omega arith) (omega arith) (omega arith) (before m x q))
-          (λ m x q. wider _ _ _ (omega arith) (omega arith) (omega arith) (omega arith) (row-in-strip j l m x q)) in
+      All-append (IsWithin (upto s s.x1 (s.y0 + height s / g.ny * (j + 1)))) (grid_to poly s g j) (row_to poly (row_of s g j) g.nx g.nx)
+      (λ m x q. wider _ _ _ (omega arith) (omega arith) (omega arith) (omega arith) (before m x q))
+      (λ m x q. wider _ _ _ (omega arith) (omega arith) (omega arith) (omega arith) (row-in-strip j l m x q)) in
       rw (← native.Mathlib.Numerals.add-one j) (within k d h)
 
   grid-apart : s.x0 ≤ s.x1 → (j : ℕ) → AllPairs Apart (grid_to poly s g j)

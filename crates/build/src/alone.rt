@@ -11,7 +11,11 @@ use refusals::Refusal;
 use strips::walk::WorkRoom;
 
 /// 5 and 6, and then the writing.
-pub fn cut_alone(board: &Judged<'_>, room: &mut WorkRoom, table: &mut [i64]) -> Result<usize, Refusal>
+pub fn cut_alone(
+    board: &Judged<'_>,
+    room: &mut WorkRoom,
+    table: &mut [i64],
+) -> Result<usize, Refusal>
     requires alone { length board.now.outlines.counts.now ≡ 1 }
     requires shape { Tabled table.old }
     ensures answer { let b = board_of board.now.settings board.now.list.now board.now.outlines in

@@ -170,7 +170,13 @@ fn skip(heights: &[u64], k: usize) -> usize
 
 // The next strip of positive width, from an edge of a band on.
 #[inline(always)]
-fn next_strip(points: &[[i64; 2]], heights: &[u64], edges: &[u64], band: usize, edge: usize) -> Ahead
+fn next_strip(
+    points: &[[i64; 2]],
+    heights: &[u64],
+    edges: &[u64],
+    band: usize,
+    edge: usize,
+) -> Ahead
     ensures { ahead points.now heights.now edges.now result ≡ left points.now edges.now edge (drop band heights.now) }
 {
     if heights.len() == 0 {
@@ -238,7 +244,11 @@ impl<'a> Ready<'a> {
         ensures { coming result ≡ strips_of self.now.points.now }
     {
         // A ring of fewer than 3 points has none: the walk starts at its end.
-        let band = if self.points.len() < 3 { self.heights.len() } else { 0 };
+        let band = if self.points.len() < 3 {
+            self.heights.len()
+        } else {
+            0
+        };
         Strips {
             ring: *self,
             band,
@@ -259,7 +269,13 @@ impl<'a> Iterator for Strips<'a> {
 
     #[inline(always)]
     fn next(&mut self) -> Option<Strip> {
-        match next_strip(self.ring.points, self.ring.heights, self.ring.edges, self.band, self.edge) {
+        match next_strip(
+            self.ring.points,
+            self.ring.heights,
+            self.ring.edges,
+            self.band,
+            self.edge,
+        ) {
             Ahead::Found(strip, band, edge) => {
                 self.band = band;
                 self.edge = edge;

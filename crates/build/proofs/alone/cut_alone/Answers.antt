@@ -27,7 +27,7 @@ returns-then-slots-n c =
     let g = c.cutter-cutter.ensures in
     let tally = rw (g.unit, g.cap, g.cell, c.ready.ensures) at c.in-Some.ensures in
     let more : length c.args.table.now / 8 < length (roots_in 0 b.settings.cap (size_at b 0) (strips_of b.points)) =
-        omega (arith, tally.counted, c.if-slots-n.true) in
+    omega (arith, tally.counted, c.if-slots-n.true) in
     record { answer = sym (says-alone b j.fit c.requires.alone _ ∙ rw (tally.even, lt-ltb _ _ more) refl); slots = refl }
 
 pub returns : goal.returns

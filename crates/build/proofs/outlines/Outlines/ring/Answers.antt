@@ -9,8 +9,8 @@ returns c =
     let ends = ring_ends o.counts.now o.points.now c.args.polygon c.requires.inside c.requires.points_fit in
     let left = length-drop c.args.first o.points.now in
     let n : length (take (c.args.first + count - c.args.first) (drop c.args.first o.points.now)) ≡ count =
-        ap (λ (m : ℕ). length (take m (drop c.args.first o.points.now))) (omega arith)
-        ∙ length-take-le count (drop c.args.first o.points.now) (omega (arith, c.requires.starts_here, ends, left)) in
+    ap (λ (m : ℕ). length (take m (drop c.args.first o.points.now))) (omega arith)
+    ∙ length-take-le count (drop c.args.first o.points.now) (omega (arith, c.requires.starts_here, ends, left)) in
     record {
       points = ring-part o.counts.now o.points.now c.args.polygon _ _ c.requires.starts_here refl;
       next = omega (arith, n, sum_more o.counts.now c.args.polygon, c.requires.starts_here);

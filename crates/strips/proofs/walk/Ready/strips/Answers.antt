@@ -11,9 +11,9 @@ returns c =
     let ps = r.points.now in
     let hs = r.heights.now in
     let band : c.if-self-lt3.band ≡ start_band ps hs =
-        elim c.if-self-lt3.branch [
-          | then-self-lt3 w ↦ w.band-is ∙ rw (lt-ltb _ _ w.if-self-lt3.true) refl
-          | else-self-lt3 w ↦ w.band-is ∙ rw (le-ltb _ _ w.if-self-lt3.false) refl
-        ] in
+    elim c.if-self-lt3.branch [
+      | then-self-lt3 w ↦ w.band-is ∙ rw (lt-ltb _ _ w.if-self-lt3.true) refl
+      | else-self-lt3 w ↦ w.band-is ∙ rw (le-ltb _ _ w.if-self-lt3.false) refl
+    ] in
     rw band (started ps r.edges.now hs)
     ∙ ready-strips ps hs r.edges.now (record { few = r.few; heights = r.heights_in_order; edges = r.edges_in_order })
