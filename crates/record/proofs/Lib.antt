@@ -1,7 +1,6 @@
--- Laws of the walk, of bytes that are put in place, and what was written is read again.
-pub mod Storing
-pub mod Sheets
-pub mod Boards
-pub mod Stores
+-- Laws that several proofs cite.
+pub mod Numbers
+pub mod Walks
+pub mod Items
 pub mod Turns
-pub mod Records
+pub mod Each

@@ -1,8 +1,4 @@
--- The board record: its fields and the board, and what reading and writing it says and leaves.
+-- The rules' board record: its fields, the board, and what reading it says.
+pub mod Fields
 pub mod Board
-pub mod Rows
-pub mod Lent
-pub mod Reading
-pub mod Walks
-pub mod Writing
-pub mod Puts
+pub mod Answers

@@ -1,0 +1,5 @@
+-- Laws that several proofs cite.
+pub mod Stores
+pub mod Turns
+pub mod Records
+pub mod Back

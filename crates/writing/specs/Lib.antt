@@ -1,0 +1,3 @@
+-- What writing says and does.
+pub mod Boards
+pub mod Written
