@@ -1,5 +1,7 @@
 -- Boxes, their quadrants and contact, in whole ticks.
 use Rattle.std.specs.Prelude.{ℕ, zero, suc, ◌+◌, ◌/◌, min, max, Bool, ◌&&◌, ◌||◌, ltb, eqb}
+use Rattle.cell.specs.declared.Quadrant.{Quadrant}
+use Rattle.cell.specs.declared.Quadrant.TheVariants.{SouthWest, SouthEast, NorthWest, NorthEast}
 
 pub record Box : Type 0 where
   pub x0 : ℕ
@@ -8,8 +10,20 @@ pub record Box : Type 0 where
   pub y1 : ℕ
 
 -- the four quadrants, in the order of the children's ids
-pub data Quad : Type 0 where
-  sw se nw ne : Quad
+abbrev pub Quad : Type 0
+Quad = Quadrant
+
+pattern abbrev pub sw : Quadrant
+sw = SouthWest
+
+pattern abbrev pub se : Quadrant
+se = SouthEast
+
+pattern abbrev pub nw : Quadrant
+nw = NorthWest
+
+pattern abbrev pub ne : Quadrant
+ne = NorthEast
 
 abbrev pub num : Quad → ℕ
 num sw = 0

@@ -5,11 +5,34 @@
 
 ghost use Rattle.std.specs.Prelude.{◌≡◌, ◌+◌, ◌/◌, ◌<◌};
 ghost use Rattle.refusals.specs.Limits.{widest_level};
-ghost use Rattle.cell.specs.Boxes.{overlaps, shares_edge, quad_at};
+ghost use Rattle.cell.specs.Boxes.{num, overlaps, shares_edge};
 ghost use Rattle.cell.specs.Cells.{box_of, root_of, cut_to, centre, child_of};
 
 pub mod laws;
 pub mod ticks;
+
+/// The four quadrants, in the order of the children's ids.
+#[derive(Clone, Copy, Debug, PartialEq, Eq)]
+pub enum Quadrant {
+    SouthWest,
+    SouthEast,
+    NorthWest,
+    NorthEast,
+}
+
+impl Quadrant {
+    /// How many children come before the one in this quadrant.
+    pub fn number(self) -> usize
+        ensures { result ≡ num self }
+    {
+        match self {
+            Quadrant::SouthWest => 0,
+            Quadrant::SouthEast => 1,
+            Quadrant::NorthWest => 2,
+            Quadrant::NorthEast => 3,
+        }
+    }
+}
 
 /// A cell, by value.
 #[derive(Clone, Copy, Debug, PartialEq, Eq)]
@@ -71,42 +94,46 @@ impl Cell {
         }
     }
 
-    /// The cell cut down to a quadrant: 0 SW, 1 SE, 2 NW, else NE.
-    pub fn quadrant(self, k: u64) -> Cell
-        ensures { result ≡ cut_to (quad_at k) self }
+    /// The cell cut down to a quadrant.
+    pub fn quadrant(self, q: Quadrant) -> Cell
+        ensures { result ≡ cut_to q self }
     {
         let m = self.midpoint();
-        let mut c = self;
-        if k == 0 {
-            c.x1 = m.x0;
-            c.y1 = m.y0;
-            return c;
+        match q {
+            Quadrant::SouthWest => Cell {
+                x1: m.x0,
+                y1: m.y0,
+                ..self
+            },
+            Quadrant::SouthEast => Cell {
+                x0: m.x0,
+                y1: m.y0,
+                ..self
+            },
+            Quadrant::NorthWest => Cell {
+                y0: m.y0,
+                x1: m.x0,
+                ..self
+            },
+            Quadrant::NorthEast => Cell {
+                x0: m.x0,
+                y0: m.y0,
+                ..self
+            },
         }
-        if k == 1 {
-            c.x0 = m.x0;
-            c.y1 = m.y0;
-            return c;
-        }
-        if k == 2 {
-            c.y0 = m.y0;
-            c.x1 = m.x0;
-            return c;
-        }
-        c.x0 = m.x0;
-        c.y0 = m.y0;
-        c
     }
 
-    /// Child k of the cell with this id. Only a cell above the widest level is split.
-    pub fn child(self, id: u64, k: u64) -> Cell
+    /// The child in a quadrant of the cell with this id. Only a cell above the widest level is split.
+    pub fn child(self, id: u64, q: Quadrant) -> Cell
         requires { self.level < widest_level }
-        ensures { result ≡ child_of id (quad_at k) self }
+        ensures { result ≡ child_of id q self }
     {
-        let mut c = self.quadrant(k);
-        c.level = c.level + 1;
-        c.parent = id;
-        c.first = Cell::NO_CELL;
-        c
+        Cell {
+            level: self.level + 1,
+            parent: id,
+            first: Cell::NO_CELL,
+            ..self.quadrant(q)
+        }
     }
 }
 
@@ -137,14 +164,14 @@ mod tests {
         assert_eq!(rt; middle.x0, 4);
         assert_eq!(rt; middle.y1, 4);
         assert_eq!(rt;
-            root.quadrant(1),
+            root.quadrant(Quadrant::SouthEast),
             Cell {
                 x0: 4,
                 y1: 4,
                 ..root
             }
         );
-        let child = root.child(7, 2);
+        let child = root.child(7, Quadrant::NorthWest);
         assert_eq!(rt;
             child,
             Cell {

@@ -58,7 +58,7 @@ module _ (t : List ℤ) (i j k : ℕ) where
   abbrev kid : Held.Cell
   kid = child_of i (quad_at k) (cell_at t i)
 
-  kid-facts : kid_at t i (cell_at t i) j k ≡ true → KidAt t i j k
+  kid-facts : kid_at t i (cell_at t i) j (quad_at k) ≡ true → KidAt t i j k
   unfolding kid_at
   kid-facts e =
       let b0 = same_z (start t j) (on kid.x0) in
@@ -83,7 +83,7 @@ module _ (t : List ℤ) (i j k : ℕ) where
         poly = same_true (number t j 7) (number t i 7) (and_right (b0 && b1 && b2 && b3 && b4 && b5) b7 e);
       }
 
-  facts-kid : KidAt t i j k → kid_at t i (cell_at t i) j k ≡ true
+  facts-kid : KidAt t i j k → kid_at t i (cell_at t i) j (quad_at k) ≡ true
   unfolding kid_at
   facts-kid w =
       simp (
@@ -147,10 +147,10 @@ module _ (t : List ℤ) (M p f : ℕ) where
   unfolding kids_at
   kids-facts e =
       let l = ltb (cell_at t p).level M in
-      let b0 = kid_at t p (cell_at t p) f 0 in
-      let b1 = kid_at t p (cell_at t p) (f + 1) 1 in
-      let b2 = kid_at t p (cell_at t p) (f + 2) 2 in
-      let b3 = kid_at t p (cell_at t p) (f + 3) 3 in
+      let b0 = kid_at t p (cell_at t p) f sw in
+      let b1 = kid_at t p (cell_at t p) (f + 1) se in
+      let b2 = kid_at t p (cell_at t p) (f + 2) nw in
+      let b3 = kid_at t p (cell_at t p) (f + 3) ne in
       let e3 = and_right l (b0 && b1 && b2 && b3) e in
       let e2 = and_left (b0 && b1 && b2) b3 e3 in
       let e1 = and_left (b0 && b1) b2 e2 in (
@@ -158,7 +158,7 @@ module _ (t : List ℤ) (M p f : ℕ) where
         by (and_left b0 b1 e1) (and_right b0 b1 e1) (and_right (b0 && b1) b2 e2) (and_right (b0 && b1 && b2) b3 e3),
       )
     where
-      by : kid_at t p (cell_at t p) f 0 ≡ true → kid_at t p (cell_at t p) (f + 1) 1 ≡ true → kid_at t p (cell_at t p) (f + 2) 2 ≡ true → kid_at t p (cell_at t p) (f + 3) 3 ≡ true
+      by : kid_at t p (cell_at t p) f sw ≡ true → kid_at t p (cell_at t p) (f + 1) se ≡ true → kid_at t p (cell_at t p) (f + 2) nw ≡ true → kid_at t p (cell_at t p) (f + 3) ne ≡ true
           → (k : ℕ) → k < 4 → KidAt t p (f + k) k
       by a b c d zero h = subst (λ (j : ℕ). KidAt t p j 0) (sym (add-zero f)) (kid-facts t p f 0 a)
       by a b c d (suc zero) h = kid-facts t p (f + 1) 1 b

@@ -49,6 +49,9 @@ quad-num se = refl
 quad-num nw = refl
 quad-num ne = refl
 
+-- what the code that puts a child needs
+pub ruleset quadrants = (quad-num, num-below)
+
 no-magnitude : (z : ℤ) → nat_abs z ≡ 0 → z ≡ pos 0
 no-magnitude (pos n) e = ap pos e
 no-magnitude (negsuc n) e = absurd (omega arith)

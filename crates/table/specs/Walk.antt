@@ -3,7 +3,7 @@
 -- the walk goes from each to the next.
 use Rattle.std.specs.Prelude.{ℕ, ◌+◌, ◌^◌, ◌≡◌, Bool, ◌&&◌, ◌||◌, cond, List, ltb, leb, eqb, ℤ, pos}
 use Rattle.refusals.specs.Limits.{max_polygons}
-use Rattle.cell.specs.Boxes.{quad_at}
+use Rattle.cell.specs.Boxes.{Quad, sw, se, nw, ne}
 use Rattle.cell.specs.declared.Cell as Held
 use Rattle.cell.specs.Cells.{no_cell, child_of}
 use Rattle.cell.specs.Ticks.{on}
@@ -14,10 +14,10 @@ use Rattle.table.specs.Formed.{root_ok}
 abbrev pub Power : ℕ → Type 0
 Power step = (k : ℕ) × (step ≡ 2 ^ k)
 
--- slot j holds child k of the cell c in slot i, whatever children it has itself
-unfoldable pub kid_at : List ℤ → ℕ → Held.Cell → ℕ → ℕ → Bool
-kid_at t i c j k =
-    let kid = child_of i (quad_at k) c in
+-- slot j holds the child in a quadrant of the cell c in slot i, whatever children it has itself
+unfoldable pub kid_at : List ℤ → ℕ → Held.Cell → ℕ → Quad → Bool
+kid_at t i c j q =
+    let kid = child_of i q c in
     same_z (start t j) (on kid.x0) && same_z (number t j 1) (on kid.y0) && same_z (number t j 2) (on kid.x1)
     && same_z (number t j 3) (on kid.y1) && same_z (number t j 4) (pos kid.level) && same_z (number t j 5) (pos i)
     && same_z (number t j 7) (number t i 7)
@@ -26,7 +26,7 @@ kid_at t i c j k =
 unfoldable pub kids_at : List ℤ → ℕ → ℕ → ℕ → Bool
 kids_at t M i f =
     let c = cell_at t i in
-    ltb c.level M && (kid_at t i c f 0 && kid_at t i c (f + 1) 1 && kid_at t i c (f + 2) 2 && kid_at t i c (f + 3) 3)
+    ltb c.level M && (kid_at t i c f sw && kid_at t i c (f + 1) se && kid_at t i c (f + 2) nw && kid_at t i c (f + 3) ne)
 
 -- f where it is a slot below n, and otherwise i
 abbrev pub slot_or : ℕ → ℕ → ℕ → ℕ

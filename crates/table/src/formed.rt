@@ -7,8 +7,8 @@ ghost use Rattle.table.specs.Walk.{Power, kid_at, kids_at, slot_or, led_at, root
 
 use crate::Head;
 use crate::slots::{cell_at, first_at, in_slot, is_at, parent_at};
-use cell::Cell;
 use cell::ticks::ticks;
+use cell::{Cell, Quadrant};
 use refusals::limits;
 
 // 2^(m+1), which every side of a root is a multiple of.
@@ -37,16 +37,16 @@ fn root_ok(step: u64, c: Cell) -> bool
     (c.level == 0) & side_ok(step, c.x0, c.x1) & side_ok(step, c.y0, c.y1)
 }
 
-// Whether slot j holds child k of the cell c in slot p. Its numbers are compared as they stand in the row, so they need
+// Whether slot j holds the child in a quadrant of the cell c in slot p. Its numbers are compared as they stand in the row, so they need
 // no test of their own.
 #[tactic(auto, unfolding(crate::specs::Walk::kid_at))]
-fn kid_ok(t: &[i64], p: usize, c: Cell, j: usize, k: u64) -> bool
+fn kid_ok(t: &[i64], p: usize, c: Cell, j: usize, q: Quadrant) -> bool
     requires parent { p * 8 + 8 ≤ length t.now }
     requires child { j * 8 + 8 ≤ length t.now }
     requires finer { c.level < widest_level }
-    ensures { result ≡ kid_at t.now p c j k }
+    ensures { result ≡ kid_at t.now p c j q }
 {
-    let kid = c.child(p as u64, k);
+    let kid = c.child(p as u64, q);
     let b = j * 8;
     let poly = t[p * 8 + 7];
     is_at(t, b, ticks(kid.x0))
@@ -70,10 +70,10 @@ fn kids_ok(t: &[i64], m: u64, p: usize, f: usize) -> bool
     if m <= c.level {
         return false;
     }
-    kid_ok(t, p, c, f, 0)
-        & kid_ok(t, p, c, f + 1, 1)
-        & kid_ok(t, p, c, f + 2, 2)
-        & kid_ok(t, p, c, f + 3, 3)
+    kid_ok(t, p, c, f, Quadrant::SouthWest)
+        & kid_ok(t, p, c, f + 1, Quadrant::SouthEast)
+        & kid_ok(t, p, c, f + 2, Quadrant::NorthWest)
+        & kid_ok(t, p, c, f + 3, Quadrant::NorthEast)
 }
 
 fn slot_or(f: u64, n: usize, i: usize) -> usize

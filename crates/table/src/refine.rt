@@ -1,6 +1,7 @@
 // Splitting one leaf into its four quadrants.
 ghost use Rattle.std.specs.Prelude.{◌≡◌, ◌+◌, ◌*◌, ◌<◌, ◌≤◌, length, IfOk};
 ghost use Rattle.refusals.specs.Limits.{widest_level};
+ghost use Rattle.cell.specs.Boxes.{num};
 ghost use Rattle.table.specs.Slots.{cell_at};
 ghost use Rattle.table.specs.Mesh.{split};
 ghost use Rattle.table.specs.Rows.{IsTable, cells_in};
@@ -10,18 +11,17 @@ use crate::Head;
 use crate::edit::TableMut;
 use crate::formed::well_formed;
 use crate::slots::{cell_at, put_cell, put_first};
-use cell::Cell;
+use cell::{Cell, Quadrant};
 use refusals::Refusal;
 
-// Child k of cell i goes to slot n + k.
-#[tactic(auto, unfolding(crate::specs::Refine::put_kid))]
-fn put_kid(t: &mut [i64], n: usize, i: usize, c: Cell, k: u64)
-    requires quadrant { k < 4 }
+// A child of cell i goes to its slot from n on.
+#[tactic(auto, using(crate::proofs::Wellformed::quadrants), unfolding(crate::specs::Refine::put_kid))]
+fn put_kid(t: &mut [i64], n: usize, i: usize, c: Cell, q: Quadrant)
     requires room { (n + 4) * 8 ≤ length t.old }
     requires finer { c.level < widest_level }
-    ensures { t.new ≡ put_kid t.old n i c k }
+    ensures { t.new ≡ put_kid t.old n i c (num q) }
 {
-    put_cell(t, n + k as usize, c.child(i as u64, k));
+    put_cell(t, n + q.number(), c.child(i as u64, q));
 }
 
 /// Cell i gets four children in the slots from n on.
@@ -33,10 +33,10 @@ pub fn split_cell(t: &mut [i64], n: usize, i: usize)
     ensures { t.new ≡ split_row t.old n i }
 {
     let c = cell_at(t, i);
-    put_kid(t, n, i, c, 0);
-    put_kid(t, n, i, c, 1);
-    put_kid(t, n, i, c, 2);
-    put_kid(t, n, i, c, 3);
+    put_kid(t, n, i, c, Quadrant::SouthWest);
+    put_kid(t, n, i, c, Quadrant::SouthEast);
+    put_kid(t, n, i, c, Quadrant::NorthWest);
+    put_kid(t, n, i, c, Quadrant::NorthEast);
     put_first(t, i, n as u64);
 }
 
