@@ -1,5 +1,5 @@
 -- Fields of a record: whole numbers, big-endian, read at an offset.
-use Rattle.std.specs.Prelude.{ℕ, zero, suc, ◌+◌, ◌*◌, List, [], ◌∷◌, Bool, cond, ◌&&◌, leb, ℤ, length, get_or}
+use Rattle.std.specs.Prelude.{ℕ, zero, suc, ◌+◌, ◌*◌, List, [], ◌∷◌, Bool, cond, ◌&&◌, leb, ℤ, length, get_or, ◌<◌, ◌≤◌, ◌≡◌, Option, Some, None}
 use Rattle.std.specs.Int.{w64}
 use Rattle.std.proofs.Common.{to_z}
 use Rattle.refusals.specs.declared.Refusal.{Refusal}
@@ -34,6 +34,11 @@ several item = many (λ (_ : Unit {0}). item) (λ _. tt) tt
 unfoldable pub big_endian : ℕ → List ℕ → ℕ → ℕ
 big_endian zero s at = 0
 big_endian (suc k) s at = big_endian k s at * 256 + get_or s (at + k) 0
+
+-- the number of k bytes at an offset, or none where the bytes end before
+abbrev pub IsFieldAt : List ℕ → ℕ → ℕ → Option ℕ → Type 0
+IsFieldAt s at k None = length s < at + k
+IsFieldAt s at k (Some v) = (at + k ≤ length s) × (v ≡ big_endian k s at)
 
 -- a field of k bytes. Refusal 2, "a field can't be read whole", with the "offset of that field"
 unfoldable pub field : ℕ → List ℕ → ℕ → Out ℕ

@@ -2,7 +2,7 @@
 ghost use Rattle.std.specs.Prelude.{◌≡◌, ◌+◌, ◌≤◌, length};
 ghost use Rattle.std.specs.Int.{w64};
 ghost use Rattle.std.proofs.Common.{to_z};
-ghost use Rattle.record.specs.Fields.{big_endian};
+ghost use Rattle.record.specs.Fields.{big_endian, IsFieldAt};
 
 // The number of `width` bytes. Internal: they are there, and 64 bits hold them.
 pub fn number(s: &[u8], at: usize, width: usize) -> u64
@@ -15,6 +15,17 @@ pub fn number(s: &[u8], at: usize, width: usize) -> u64
         n = n * 256 + u64::from(s[at + i]);
     }
     n
+}
+
+/// The field of `width` bytes at an offset; none where it is cut short. Internal: of at most 8.
+pub fn field_at(s: &[u8], at: usize, width: usize) -> Option<u64>
+    requires { width ≤ 8 }
+    ensures { IsFieldAt s.now at width result }
+{
+    if s.len() < at || s.len() - at < width {
+        return None;
+    }
+    Some(number(s, at, width))
 }
 
 // 64 bits as a signed number, in two's complement.
