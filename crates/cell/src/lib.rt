@@ -49,7 +49,8 @@ pub struct Cell {
     pub poly: u64,
 }
 
-// The middle of two coordinates, down to the next whole tick. The sum of the two may pass 2^64, so each is halved by itself.
+// The middle of two coordinates, down to the next whole tick. The sum of the two may pass 2^64, so each is halved by
+// itself.
 fn mid(a: u64, b: u64) -> u64
     ensures { result ≡ (a + b) / 2 }
 {

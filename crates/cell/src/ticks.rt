@@ -14,7 +14,8 @@ pub fn in_range(z: i64) -> bool
     (-COORDINATE <= z) & (z <= COORDINATE)
 }
 
-/// A coordinate as a cell holds it. One out of range is taken for the nearest in range, so that nothing is asked of a caller.
+/// A coordinate as a cell holds it. One out of range is taken for the nearest in range, so that nothing is asked of a
+/// caller.
 pub fn offset(z: i64) -> u64
     ensures { result ≡ off z }
 {

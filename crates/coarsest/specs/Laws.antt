@@ -1,4 +1,5 @@
--- The laws of the passes, for both engines and every allowed difference k of levels. crates/coarsest/src/laws.rt promises each.
+-- The laws of the passes, for both engines and every allowed difference k of levels. crates/coarsest/src/laws.rt
+-- promises each.
 use Rattle.std.specs.Prelude.{ℕ, ◌<◌, ◌≡◌, ◌↔◌, ◌||◌, false, List, length}
 use Rattle.table.specs.Mesh.{Cell}
 use Rattle.table.specs.Formed.{Formed}

@@ -1,6 +1,6 @@
 //! Marks on ids, one for each eight of them: the leaves that a pass of balance or conform has to look at.
 ghost use Rattle.std.specs.Prelude.{◌≡◌, ℕ, ◌+◌, ◌<◌, ◌≤◌, true, false, IsTrue};
-ghost use Rattle.search.specs.Marks.{Marked, Unmarked, mark_at};
+ghost use Rattle.search.specs.Marks.{MarksEach, IsOfFour, Unmarked, mark_at};
 
 /// One mark for each eight ids of the most slots that a table can have.
 pub const GROUPS: usize = 2048;
@@ -31,7 +31,7 @@ impl Marks {
     /// Marks the four ids from `first` on.
     pub fn mark_four(&mut self, first: usize)
         requires { first + 3 < 16384 }
-        ensures { Marked (λ a. (first ≤ a) × (a < first + 4)) (λ a. a ≡ a) self.old self.new }
+        ensures { MarksEach (IsOfFour first) self.old self.new }
     {
         self.groups[first / 8] = true;
         self.groups[(first + 3) / 8] = true;
@@ -40,7 +40,7 @@ impl Marks {
     /// Marks one id.
     pub fn mark(&mut self, id: usize)
         requires { id < 16384 }
-        ensures { Marked (λ a. id ≡ a) (λ a. a ≡ a) self.old self.new }
+        ensures { MarksEach (λ a. id ≡ a) self.old self.new }
     {
         self.groups[id / 8] = true;
     }

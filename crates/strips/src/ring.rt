@@ -1,6 +1,7 @@
 // A ring of points, every point joined to the next and the last to the first.
 ghost use Rattle.std.specs.Prelude.{◌≡◌, ◌<◌, ◌^◌, true, ◌&&◌, length};
-ghost use Rattle.strips.specs.Rings.{x_at, y_at, after, edge_at, vertical, slants_at, point_in_range, ring_in_range, ring_slants};
+ghost use Rattle.strips.specs.Rings.{x_at, y_at, after, edge_at, vertical, slants_at, point_in_range, ring_in_range};
+ghost use Rattle.strips.specs.Rings.{ring_slants};
 ghost use Rattle.strips.specs.Levels.{level_at, crosses, apart};
 
 use cell::ticks;
@@ -110,7 +111,8 @@ fn differ(x0: i64, y0: i64, x1: i64, y1: i64) -> bool
 // Whether the edge from point i differs in both. Internal, as the next: coordinates are in range, so that they differ
 // as offset ones do.
 fn slants_at(points: &[[i64; 2]], i: usize) -> bool
-    requires { (i < length points.now) × (ring_in_range points.now ≡ true) }
+    requires inside { i < length points.now }
+    requires in_range { ring_in_range points.now ≡ true }
     ensures { result ≡ slants_at points.now i }
 {
     let j = next_point(points, i);

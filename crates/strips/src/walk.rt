@@ -3,7 +3,8 @@
 ghost use Rattle.std.specs.Prelude.{◌≡◌, ◌+◌, ◌<◌, ◌≤◌, length, drop};
 ghost use Rattle.refusals.specs.Limits.{coordinate, max_points};
 ghost use Rattle.strips.specs.Tally.{Tallied};
-ghost use Rattle.strips.specs.Walk.{heights_of, unsorted_edges, edges_of, Gathered, Prepared, Roomy, Finds, Skips, left, ahead};
+ghost use Rattle.strips.specs.Walk.{heights_of, unsorted_edges, edges_of, Gathered, Prepared, Roomy, Finds, Skips};
+ghost use Rattle.strips.specs.Walk.{left, ahead};
 
 use crate::{ring, tally};
 use cell::ticks;
@@ -74,7 +75,8 @@ enum Ahead {
 // The y values, each that differs once, with how often it stands there. Answers how many differ. Internal: the row is
 // as long as the ring, which is within the limit.
 fn tally_heights(points: &[[i64; 2]], row: &mut [u64]) -> usize
-    requires { (length row.old ≡ length points.now) × (length points.now ≤ max_points) }
+    requires as_long { length row.old ≡ length points.now }
+    requires within_limit { length points.now ≤ max_points }
     ensures { Tallied (heights_of points.now) row.new result }
 {
     let mut k = 0;
@@ -90,7 +92,8 @@ fn tally_heights(points: &[[i64; 2]], row: &mut [u64]) -> usize
 // gone before the walk begins.
 #[inline(never)]
 pub fn sort_heights(points: &[[i64; 2]], row: &mut [u64])
-    requires { (length row.old ≡ length points.now) × (length points.now ≤ max_points) }
+    requires as_long { length row.old ≡ length points.now }
+    requires within_limit { length points.now ≤ max_points }
     ensures { row.new ≡ heights_of points.now }
 {
     let k = tally_heights(points, row);
@@ -140,7 +143,8 @@ fn prepare(points: &[[i64; 2]], heights: &mut [u64], edges: &mut [u64]) -> usize
 // The first edge from j on that spans a band; the number of edges where none does. Internal: the band has a height and
 // is in range.
 fn find(points: &[[i64; 2]], edges: &[u64], j: usize, lo: u64, hi: u64) -> usize
-    requires { (lo < hi) × (hi ≤ coordinate + coordinate) }
+    requires some_height { lo < hi }
+    requires in_range { hi ≤ coordinate + coordinate }
     ensures { Finds points.now lo hi edges.now j result }
 {
     let low = ticks::ticks(lo);

@@ -37,8 +37,8 @@ fn root_ok(step: u64, c: Cell) -> bool
     (c.level == 0) & side_ok(step, c.x0, c.x1) & side_ok(step, c.y0, c.y1)
 }
 
-// Whether slot j holds the child in a quadrant of the cell c in slot p. Its numbers are compared as they stand in the row, so they need
-// no test of their own.
+// Whether slot j holds the child in a quadrant of the cell c in slot p. Its numbers are compared as they stand in the
+// row, so they need no test of their own.
 #[tactic(auto, unfolding(crate::specs::Walk::kid_at))]
 fn kid_ok(t: &[i64], p: usize, c: Cell, j: usize, q: Quadrant) -> bool
     requires parent { p * 8 + 8 ≤ length t.now }

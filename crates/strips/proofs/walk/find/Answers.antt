@@ -14,13 +14,13 @@ returns-then-spans c =
     let s = c.loop-k in
     let e = simp (c.ticks-low.ensures, c.ticks-high.ensures, to_z-of_z (on_fits a.lo), to_z-of_z (on_fits a.hi))
     at c.spans.ensures in
-    let t = e ∙ spans-is a.points.now (get_or a.edges.now s.k 0 % max_points) a.lo a.hi c.requires.0 c.requires.1 in
+    let t = e ∙ spans-is a.points.now (get_or a.edges.now s.k 0 % max_points) a.lo a.hi c.requires.some_height c.requires.in_range in
     record {
       low = omega arith;
       high = omega arith;
       same =
           sym s.invariant
-          ∙ crossed-yes a.points.now a.lo a.hi a.edges.now s.k c.loop-k-test.true c.requires.0
+          ∙ crossed-yes a.points.now a.lo a.hi a.edges.now s.k c.loop-k-test.true c.requires.some_height
           (sym t ∙ c.if-spans.true);
     }
 
@@ -30,8 +30,8 @@ loop-k-preserved c =
     let s = c.loop-k in
     let e = simp (c.ticks-low.ensures, c.ticks-high.ensures, to_z-of_z (on_fits a.lo), to_z-of_z (on_fits a.hi))
     at c.spans.ensures in
-    let t = e ∙ spans-is a.points.now (get_or a.edges.now s.k 0 % max_points) a.lo a.hi c.requires.0 c.requires.1 in
-    crossed-no a.points.now a.lo a.hi a.edges.now s.k c.loop-k-test.true c.requires.0 (sym t ∙ c.if-spans.false)
+    let t = e ∙ spans-is a.points.now (get_or a.edges.now s.k 0 % max_points) a.lo a.hi c.requires.some_height c.requires.in_range in
+    crossed-no a.points.now a.lo a.hi a.edges.now s.k c.loop-k-test.true c.requires.some_height (sym t ∙ c.if-spans.false)
     ∙ s.invariant
 
 pub returns : goal.returns
