@@ -3,6 +3,7 @@ pub mod Orders
 pub mod Tallies
 pub mod Picking
 pub mod Walks
+pub mod Begins
 pub mod Levels
 pub mod Laying
 pub mod Crossing

@@ -37,6 +37,10 @@ pub record Prepared (ps : List (List ℤ)) (hs es : List ℕ) (m : ℕ) : Type 0
   pub heights : Gathered (heights_of ps) hs (length ps)
   pub edges : Gathered (edges_of ps) es m
 
+-- each edge of a list begins at one of n points
+abbrev pub BeginAtPoints : ℕ → List ℕ → Type 0
+BeginAtPoints n es = (k : ℕ) → k < length es → slice_index es k % max_points < n
+
 -- an edge spans a band
 unfoldable pub spans : List (List ℤ) → ℕ → ℕ → ℕ → Bool
 spans ps lo hi e = nat_lt lo hi && reaches lo hi (edge_at ps (e % max_points))

@@ -53,11 +53,11 @@ fn next_point(points: &[[i64; 2]], i: usize) -> usize
 
 // Whether the edge from point i goes from lo, or below, to hi, or above, or the other way, all as lent.
 pub fn spans(points: &[[i64; 2]], i: usize, lo: i64, hi: i64) -> bool
-    requires { i < 2 ^ 63 }
+    requires { i < length points.now }
     ensures { result ≡ crosses lo hi (level_at points.now i) (level_at points.now (after points.now i)) }
 {
     let j = next_point(points, i);
-    crosses(level_at(points, i), level_at(points, j), lo, hi)
+    crosses(points[i][1], points[j][1], lo, hi)
 }
 
 // The edge from point i.

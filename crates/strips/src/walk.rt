@@ -3,8 +3,8 @@
 ghost use Rattle.std.specs.Prelude.{◌≡◌, ◌+◌, ◌<◌, ◌≤◌, length, drop};
 ghost use Rattle.refusals.specs.Limits.{coordinate, max_points};
 ghost use Rattle.strips.specs.Tally.{Tallied};
-ghost use Rattle.strips.specs.Walk.{heights_of, unsorted_edges, edges_of, Gathered, Prepared, Roomy, Finds, Skips};
-ghost use Rattle.strips.specs.Walk.{left, ahead};
+ghost use Rattle.strips.specs.Walk.{heights_of, unsorted_edges, edges_of, Gathered, Prepared, Roomy};
+ghost use Rattle.strips.specs.Walk.{BeginAtPoints, Finds, Skips, left, ahead};
 
 use crate::{ring, tally};
 use cell::ticks;
@@ -140,9 +140,10 @@ fn prepare(points: &[[i64; 2]], heights: &mut [u64], edges: &mut [u64]) -> usize
     m
 }
 
-// The first edge from j on that spans a band; the number of edges where none does. Internal: the band has a height and
-// is in range.
+// The first edge from j on that spans a band; the number of edges where none does. Internal: the edges are the ring's,
+// and the band has a height and is in range.
 fn find(points: &[[i64; 2]], edges: &[u64], j: usize, lo: u64, hi: u64) -> usize
+    requires begin { BeginAtPoints (length points.now) edges.now }
     requires some_height { lo < hi }
     requires in_range { hi ≤ coordinate + coordinate }
     ensures { Finds points.now lo hi edges.now j result }
@@ -181,6 +182,7 @@ fn next_strip(
     band: usize,
     edge: usize,
 ) -> Ahead
+    requires { BeginAtPoints (length points.now) edges.now }
     ensures { ahead points.now heights.now edges.now result ≡ left points.now edges.now edge (drop band heights.now) }
 {
     if heights.len() == 0 {

@@ -8,6 +8,9 @@ use Rattle.strips.proofs.walk.find.Goals as goal
 pub loop-k-init : goal.loop-k-init
 loop-k-init c = refl
 
+pub spans-requires : goal.spans-requires
+spans-requires c = c.requires.begin c.loop-k.k c.loop-k-test.true
+
 pub returns-then-spans : goal.returns-then-spans
 returns-then-spans c =
     let a = c.args in
