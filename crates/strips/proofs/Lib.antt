@@ -8,5 +8,6 @@ pub mod Levels
 pub mod Laying
 pub mod Crossing
 pub mod Evenness
+pub mod Bands
 pub mod Bounds
 pub mod One

@@ -1,6 +1,6 @@
 -- How the code goes over a ring: the y values and the vertical edges are put in order once; each band then takes from
 -- the edges, in their order, those that span it. Internal: the public promise is about Strips alone.
-use Rattle.std.specs.Prelude.{ℕ, ◌+◌, ◌*◌, ◌/◌, ◌%◌, ◌<◌, ◌≤◌, min, ◌≡◌, Bool, ◌&&◌, List, [], ◌∷◌, ◌++◌, map, length}
+use Rattle.std.specs.Prelude.{ℕ, ◌+◌, ◌*◌, ◌/◌, ◌%◌, ◌<◌, ◌≤◌, min, ◌≡◌, ◌⊎◌, Bool, ◌&&◌, List, [], ◌∷◌, ◌++◌, map, length}
 use Rattle.std.specs.Prelude.{take, drop, ℤ, if◌then◌else◌, nat_lt, slice_index}
 use Rattle.refusals.specs.Limits.{coordinate, max_points}
 use Rattle.strips.specs.Sorted.{up_to, picked, sorted}
@@ -40,6 +40,12 @@ pub record Prepared (ps : List (List ℤ)) (hs es : List ℕ) (m : ℕ) : Type 0
 -- each edge of a list begins at one of n points
 abbrev pub BeginAtPoints : ℕ → List ℕ → Type 0
 BeginAtPoints n es = (k : ℕ) → k < length es → slice_index es k % max_points < n
+
+-- no point of the ring lies inside the band from lo to hi, which has a height and is in range
+pub record IsBand (ps : List (List ℤ)) (lo hi : ℕ) : Type 0 where
+  pub tall : lo < hi
+  pub in_range : hi ≤ coordinate + coordinate
+  pub clear : (i : ℕ) → i < length ps → (y_at ps i ≤ lo) ⊎ (hi ≤ y_at ps i)
 
 -- an edge spans a band
 unfoldable pub spans : List (List ℤ) → ℕ → ℕ → ℕ → Bool

@@ -36,11 +36,11 @@ fn level_at(points: &[[i64; 2]], i: usize) -> i64
     points.get(i).map_or(0, |p| p[1])
 }
 
-// Whether a y value is at lo or below, and another at hi or above, one way or the other.
-fn crosses(y0: i64, y1: i64, lo: i64, hi: i64) -> bool
-    ensures { result ≡ crosses lo hi y0 y1 }
+// Whether one of two y values is at lo or below, and the other above it.
+fn crosses(y0: i64, y1: i64, lo: i64) -> bool
+    ensures { result ≡ crosses lo y0 y1 }
 {
-    ((y0 <= lo) & (hi <= y1)) | ((y1 <= lo) & (hi <= y0))
+    (y0 <= lo) ^ (y1 <= lo)
 }
 
 // The point after point i: the first follows the last. Internal, as the next two: i is the number of an edge.
@@ -51,13 +51,14 @@ fn next_point(points: &[[i64; 2]], i: usize) -> usize
     if i + 1 < points.len() { i + 1 } else { 0 }
 }
 
-// Whether the edge from point i goes from lo, or below, to hi, or above, or the other way, all as lent.
-pub fn spans(points: &[[i64; 2]], i: usize, lo: i64, hi: i64) -> bool
+// Whether the edge from point i goes from lo, or below, to above it, or the other way, all as lent. Where no point lies
+// inside a band that begins at lo, the edge spans it.
+pub fn spans(points: &[[i64; 2]], i: usize, lo: i64) -> bool
     requires { i < length points.now }
-    ensures { result ≡ crosses lo hi (level_at points.now i) (level_at points.now (after points.now i)) }
+    ensures { result ≡ crosses lo (level_at points.now i) (level_at points.now (after points.now i)) }
 {
     let j = next_point(points, i);
-    crosses(points[i][1], points[j][1], lo, hi)
+    crosses(points[i][1], points[j][1], lo)
 }
 
 // The edge from point i.

@@ -1,10 +1,10 @@
 // The strips of a ring one after another. The y values and the vertical edges are put in order once; a band then meets
 // the edges that span it from left to right, so that no band sorts anything.
-ghost use Rattle.std.specs.Prelude.{◌≡◌, ◌+◌, ◌<◌, ◌≤◌, length, drop};
-ghost use Rattle.refusals.specs.Limits.{coordinate, max_points};
+ghost use Rattle.std.specs.Prelude.{◌≡◌, ℕ, ◌+◌, ◌<◌, ◌≤◌, length, drop};
+ghost use Rattle.refusals.specs.Limits.{max_points};
 ghost use Rattle.strips.specs.Tally.{Tallied};
 ghost use Rattle.strips.specs.Walk.{heights_of, unsorted_edges, edges_of, Gathered, Prepared, Roomy};
-ghost use Rattle.strips.specs.Walk.{BeginAtPoints, Finds, Skips, left, ahead};
+ghost use Rattle.strips.specs.Walk.{BeginAtPoints, IsBand, Finds, Skips, left, ahead};
 
 use crate::{ring, tally};
 use cell::ticks;
@@ -140,19 +140,16 @@ fn prepare(points: &[[i64; 2]], heights: &mut [u64], edges: &mut [u64]) -> usize
     m
 }
 
-// The first edge from j on that spans a band; the number of edges where none does. Internal: the edges are the ring's,
-// and the band has a height and is in range.
-fn find(points: &[[i64; 2]], edges: &[u64], j: usize, lo: u64, hi: u64) -> usize
-    requires begin { BeginAtPoints (length points.now) edges.now }
-    requires some_height { lo < hi }
-    requires in_range { hi ≤ coordinate + coordinate }
-    ensures { Finds points.now lo hi edges.now j result }
+// The first edge from j on that spans the band from lo on; the number of edges where none does. Internal: the edges are
+// the ring's.
+fn find(points: &[[i64; 2]], edges: &[u64], j: usize, lo: u64) -> usize
+    requires { BeginAtPoints (length points.now) edges.now }
+    ensures { (hi : ℕ) → IsBand points.now lo hi → Finds points.now lo hi edges.now j result }
 {
     let low = ticks::ticks(lo);
-    let high = ticks::ticks(hi);
     for k in j..edges.len() {
         let i = edges[k] % RING_POINTS as u64;
-        if ring::spans(points, i as usize, low, high) {
+        if ring::spans(points, i as usize, low) {
             return k;
         }
     }
@@ -182,7 +179,8 @@ fn next_strip(
     band: usize,
     edge: usize,
 ) -> Ahead
-    requires { BeginAtPoints (length points.now) edges.now }
+    requires begin { BeginAtPoints (length points.now) edges.now }
+    requires heights { heights.now ≡ heights_of points.now }
     ensures { ahead points.now heights.now edges.now result ≡ left points.now edges.now edge (drop band heights.now) }
 {
     if heights.len() == 0 {
@@ -195,8 +193,8 @@ fn next_strip(
         let lo = heights[k];
         let hi = heights[k + 1];
         if (lo < hi) & (hi <= COORDINATES) {
-            let a = find(points, edges, j, lo, hi);
-            let b = find(points, edges, a + 1, lo, hi);
+            let a = find(points, edges, j, lo);
+            let b = find(points, edges, a + 1, lo);
             if b < edges.len() {
                 let x0 = edges[a] / RING_POINTS as u64;
                 let x1 = edges[b] / RING_POINTS as u64;

@@ -10,5 +10,4 @@ returns c =
     let d : FitsSigned w64 (get_or (get_or ps i []) 1 (pos 0)) = search rules in
     let g : FitsSigned w64 (get_or (get_or ps j []) 1 (pos 0)) = search rules in
     let lo : FitsSigned w64 c.args.lo = search rules in
-    let hi : FitsSigned w64 c.args.hi = search rules in
-    c.crosses.ensures ∙ rw (to_z-of_z lo, to_z-of_z hi, to_z-of_z d, to_z-of_z g, c.next_point-j.ensures) refl
+    c.crosses.ensures ∙ rw (to_z-of_z lo, to_z-of_z d, to_z-of_z g, c.next_point-j.ensures) refl

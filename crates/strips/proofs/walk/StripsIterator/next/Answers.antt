@@ -4,8 +4,8 @@ use Rattle.strips.specs.Walk.{left, BeginAtPoints}
 use Rattle.strips.proofs.Begins.{edges-begin}
 use Rattle.strips.proofs.walk.StripsIterator.next.Goals as goal
 
-pub next_strip-requires : goal.next_strip-requires
-next_strip-requires c =
+pub next_strip-requires-clause-begin : goal.next_strip-requires-clause-begin
+next_strip-requires-clause-begin c =
     let r = c.args.self.now.ring in
     subst (λ (es : List ℕ). BeginAtPoints (length r.points.now) es) (sym r.edges_in_order) (edges-begin r.points.now r.few)
 
