@@ -105,7 +105,8 @@ pub fn put_strips(ring: &Ready<'_>, cutter: Cutter, poly: u64, t: &mut [i64], k:
 pub fn put_all(board: &Judged<'_>, room: &mut WorkRoom, t: &mut [i64]) -> usize
     requires { Slotted t.old 0 (length (roots_of (board_of board.now.settings board.now.list.now board.now.outlines))) }
     ensures count { result ≡ length (roots_of (board_of board.now.settings board.now.list.now board.now.outlines)) }
-    ensures slots { t.new ≡ placed t.old 0 (roots_of (board_of board.now.settings board.now.list.now board.now.outlines)) }
+    ensures slots { t.new
+        ≡ placed t.old 0 (roots_of (board_of board.now.settings board.now.list.now board.now.outlines)) }
 {
     let outlines = board.outlines;
     let mut k = 0;
