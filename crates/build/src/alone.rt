@@ -1,4 +1,4 @@
-// A board of one polygon, whose ring is made ready once.
+//! A board of one polygon, whose ring is made ready once.
 ghost use Rattle.std.specs.Prelude.{◌≡◌, ◌/◌, length};
 ghost use Rattle.strips.specs.Said.{if_accepted};
 ghost use Rattle.build.specs.Board.{board_of, roots_of};

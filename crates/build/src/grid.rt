@@ -1,4 +1,4 @@
-// A strip cut into cells.
+//! A strip cut into cells.
 ghost use Rattle.std.specs.Prelude.{◌≡◌, ◌+◌, ◌^◌, ◌≤◌, ◌<◌};
 ghost use Rattle.refusals.specs.Limits.{coordinate, widest_level};
 ghost use Rattle.build.specs.Grid.{held_at, cut_of, even_strip, listed_at, size_of};

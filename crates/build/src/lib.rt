@@ -1,4 +1,4 @@
-// From polygons to roots: from_polygons of the Rust, in whole ticks and into a lent table.
+//! From polygons to roots: from_polygons of the Rust, in whole ticks and into a lent table.
 #![tactic(auto)]
 
 ghost use Rattle.std.specs.Prelude.{◌≡◌, ◌/◌, length};

@@ -1,4 +1,4 @@
-// Base sides judged and roots counted before anything is written. Rings and settings have been judged.
+//! Base sides judged and roots counted before anything is written. Rings and settings have been judged.
 ghost use Rattle.std.specs.Prelude.{◌≡◌, ◌+◌, ◌*◌, ◌≤◌, length};
 ghost use Rattle.refusals.specs.Limits.{max_cap, max_slots};
 ghost use Rattle.strips.specs.Strips.{strips_of};

@@ -1,6 +1,6 @@
-// A cell of the quadtree, by value: QuadCell of the Rust, in whole ticks.
-//
-// A cell's coordinates are offset by 2^36, so that the range is 0 to 2^37 and no coordinate is negative.
+//! A cell of the quadtree, by value: QuadCell of the Rust, in whole ticks.
+//!
+//! A cell's coordinates are offset by 2^36, so that the range is 0 to 2^37 and no coordinate is negative.
 #![tactic(auto)]
 
 ghost use Rattle.std.specs.Prelude.{◌≡◌, ◌+◌, ◌/◌, ◌<◌};

@@ -97,6 +97,13 @@ split_in t (Some i) = not (is_none (at t i).kids)
 unfoldable pub splitting : List Cell → Splitting
 splitting t r p = split_in t (find t r p)
 
+-- a leaf of the table has the box B
+pub record HasLeaf (t : List Cell) (B : Box) : Type 0 where
+  pub id : ℕ
+  pub inside : id < length t
+  pub whole : (at t id).kids ≡ None
+  pub box : (at t id).box ≡ B
+
 -- ---- what balance (k is 1) and conform (k is 0) are to come to
 
 -- the table u, of the same roots, has the coarsest splitting that keeps t's splits

@@ -1,4 +1,4 @@
-// Why a call is refused, and the ranges that its values must keep: once, for every crate.
+//! Why a call is refused, and the ranges that its values must keep: once, for every crate.
 #![tactic(auto)]
 
 ghost use Rattle.std.specs.Prelude.{◌≡◌, ◌<◌};

@@ -1,6 +1,7 @@
 -- How the code goes over a ring: the y values and the vertical edges are put in order once; each band then takes from
 -- the edges, in their order, those that span it. Internal: the public promise is about Strips alone.
-use Rattle.std.specs.Prelude.{ℕ, ◌+◌, ◌*◌, ◌/◌, ◌%◌, ◌<◌, ◌≤◌, min, ◌≡◌, ◌⊎◌, Bool, ◌&&◌, List, [], ◌∷◌, ◌++◌, map, length}
+use Rattle.std.specs.Prelude.{ℕ, ◌+◌, ◌*◌, ◌/◌, ◌%◌, ◌<◌, ◌≤◌, min, ◌≡◌, ◌⊎◌, Bool, ◌&&◌, List, [], ◌∷◌, ◌++◌, map}
+use Rattle.std.specs.Prelude.{length}
 use Rattle.std.specs.Prelude.{take, drop, ℤ, if◌then◌else◌, nat_lt, slice_index}
 use Rattle.refusals.specs.Limits.{coordinate, max_points}
 use Rattle.strips.specs.Sorted.{up_to, picked, sorted}

@@ -1,4 +1,4 @@
-// A ring of points, every point joined to the next and the last to the first.
+//! A ring of points, every point joined to the next and the last to the first.
 ghost use Rattle.std.specs.Prelude.{◌≡◌, ◌<◌, ◌^◌, true, ◌&&◌, length};
 ghost use Rattle.strips.specs.Rings.{x_at, y_at, after, edge_at, vertical, slants_at, point_in_range, ring_in_range};
 ghost use Rattle.strips.specs.Rings.{ring_slants};
@@ -7,7 +7,7 @@ ghost use Rattle.strips.specs.Levels.{level_at, crosses, apart};
 use cell::ticks;
 use refusals::limits::RING_POINTS;
 
-// From one point of a ring to the next.
+/// From one point of a ring to the next.
 #[derive(Clone, Copy)]
 pub struct Edge {
     pub x0: u64,
@@ -16,7 +16,7 @@ pub struct Edge {
     pub y1: u64,
 }
 
-// Coordinates of point i, offset. A point past the end is read as the middle, so that nothing is asked of a caller.
+/// Coordinates of point i, offset. A point past the end is read as the middle, so that nothing is asked of a caller.
 pub fn x_at(points: &[[i64; 2]], i: usize) -> u64
     ensures { result ≡ x_at points.now i }
 {
@@ -51,8 +51,8 @@ fn next_point(points: &[[i64; 2]], i: usize) -> usize
     if i + 1 < points.len() { i + 1 } else { 0 }
 }
 
-// Whether the edge from point i goes from lo, or below, to above it, or the other way, all as lent. Where no point lies
-// inside a band that begins at lo, the edge spans it.
+/// Whether the edge from point i goes from lo, or below, to above it, or the other way, all as lent. Where no point
+/// lies inside a band that begins at lo, the edge spans it.
 pub fn spans(points: &[[i64; 2]], i: usize, lo: i64) -> bool
     requires { i < length points.now }
     ensures { result ≡ crosses lo (level_at points.now i) (level_at points.now (after points.now i)) }
@@ -61,7 +61,7 @@ pub fn spans(points: &[[i64; 2]], i: usize, lo: i64) -> bool
     crosses(points[i][1], points[j][1], lo)
 }
 
-// The edge from point i.
+/// The edge from point i.
 pub fn edge_at(points: &[[i64; 2]], i: usize) -> Edge
     requires { i < 2 ^ 63 }
     ensures { result ≡ edge_at points.now i }
@@ -91,7 +91,7 @@ fn point_in_range(points: &[[i64; 2]], i: usize) -> bool
     ticks::in_range(points[i][0]) & ticks::in_range(points[i][1])
 }
 
-// The rules' ranges for a ring: the number of its points, and each coordinate.
+/// The rules' ranges for a ring: the number of its points, and each coordinate.
 pub fn in_range(points: &[[i64; 2]]) -> bool
     ensures { result ≡ ring_in_range points.now }
 {
@@ -120,7 +120,7 @@ fn slants_at(points: &[[i64; 2]], i: usize) -> bool
     differ(points[i][0], points[i][1], points[j][0], points[j][1])
 }
 
-// Whether some edge differs in both x and y from end to end.
+/// Whether some edge differs in both x and y from end to end.
 pub fn slanted(points: &[[i64; 2]]) -> bool
     requires { ring_in_range points.now ≡ true }
     ensures { result ≡ ring_slants points.now }

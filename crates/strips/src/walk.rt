@@ -1,5 +1,5 @@
-// The strips of a ring one after another. The y values and the vertical edges are put in order once; a band then meets
-// the edges that span it from left to right, so that no band sorts anything.
+//! The strips of a ring one after another. The y values and the vertical edges are put in order once; a band then meets
+//! the edges that span it from left to right, so that no band sorts anything.
 ghost use Rattle.std.specs.Prelude.{◌≡◌, ℕ, ◌+◌, ◌<◌, ◌≤◌, length, drop};
 ghost use Rattle.refusals.specs.Limits.{max_points};
 ghost use Rattle.strips.specs.Tally.{Tallied};
@@ -9,9 +9,6 @@ ghost use Rattle.strips.specs.Walk.{BeginAtPoints, IsBand, Finds, Skips, left, a
 use crate::{ring, tally};
 use cell::ticks;
 use refusals::limits::RING_POINTS;
-
-// The highest offset coordinate.
-pub const COORDINATES: u64 = 1 << 37;
 
 /// A part of a ring's inside, between two heights: a rectangle in offset ticks.
 #[derive(Clone, Copy)]
@@ -88,8 +85,8 @@ fn tally_heights(points: &[[i64; 2]], row: &mut [u64]) -> usize
     k
 }
 
-// The y values in rising order. Internal, as the last. Never inlined, nor is the sort of the edges: their frames are
-// gone before the walk begins.
+/// The y values in rising order. Internal, as the last. Never inlined, nor is the sort of the edges: their frames are
+/// gone before the walk begins.
 #[inline(never)]
 pub fn sort_heights(points: &[[i64; 2]], row: &mut [u64])
     requires as_long { length row.old ≡ length points.now }
@@ -117,7 +114,7 @@ fn gather_edges(points: &[[i64; 2]], row: &mut [u64]) -> usize
     n
 }
 
-// The vertical edges by x. Answers how many there are. Internal.
+/// The vertical edges by x. Answers how many there are. Internal.
 #[inline(never)]
 pub fn sort_edges(points: &[[i64; 2]], row: &mut [u64]) -> usize
     requires { length row.old ≡ length points.now }
@@ -192,7 +189,7 @@ fn next_strip(
     while k < last {
         let lo = heights[k];
         let hi = heights[k + 1];
-        if (lo < hi) & (hi <= COORDINATES) {
+        if (lo < hi) & (hi <= ticks::TOP) {
             let a = find(points, edges, j, lo);
             let b = find(points, edges, a + 1, lo);
             if b < edges.len() {

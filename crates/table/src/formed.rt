@@ -1,5 +1,5 @@
-// The rules' "Well-formed table", tested in one walk over the row. Cells are roots, or children in fours: a four is
-// compared with its parent, whose numbers say what the children's are, and a cell's first child must name it back.
+//! The rules' "Well-formed table", tested in one walk over the row. Cells are roots, or children in fours: a four is
+//! compared with its parent, whose numbers say what the children's are, and a cell's first child must name it back.
 ghost use Rattle.std.specs.Prelude.{◌≡◌, ◌+◌, ◌*◌, ◌/◌, ◌%◌, ◌^◌, ◌<◌, ◌≤◌, length};
 ghost use Rattle.refusals.specs.Limits.{widest_level, max_slots};
 ghost use Rattle.table.specs.Formed.{all_to, zero_at, rest_zero, side_ok, root_ok, cell_ok, shape_ok, well_formed};

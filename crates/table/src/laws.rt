@@ -1,4 +1,4 @@
-// What the calls on a lent table come to.
+//! What the calls on a lent table come to.
 ghost use Rattle.table.specs.Laws.{TestIsDefinition, EachLeafOnce, OrderHasTheLeaves, OrderIsAsLong, OneList};
 ghost use Rattle.table.specs.Laws.{OneRefined};
 

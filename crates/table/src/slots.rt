@@ -1,4 +1,4 @@
-// Cells in the slots of a lent row: loads and stores that ask nothing of the numbers there.
+//! Cells in the slots of a lent row: loads and stores that ask nothing of the numbers there.
 ghost use Rattle.std.specs.Prelude.{◌≡◌, ◌+◌, ◌*◌, ◌<◌, ◌≤◌, length, pos, slice_index_or};
 ghost use Rattle.std.specs.Int.Signed.{non_neg};
 ghost use Rattle.cell.specs.Ticks.{in_range, off, on};
