@@ -1,5 +1,5 @@
 //! A ring of points, every point joined to the next and the last to the first.
-ghost use Rattle.std.specs.Prelude.{◌≡◌, ◌<◌, ◌^◌, true, ◌&&◌, length};
+ghost use Rattle.std.specs.Prelude.{◌≡◌, ◌<◌, ◌^◌, ◌&&◌, IsTrue, length};
 ghost use Rattle.strips.specs.Rings.{x_at, y_at, after, edge_at, vertical, slants_at, point_in_range, ring_in_range};
 ghost use Rattle.strips.specs.Rings.{ring_slants};
 ghost use Rattle.strips.specs.Levels.{level_at, crosses, apart};
@@ -113,7 +113,7 @@ fn differ(x0: i64, y0: i64, x1: i64, y1: i64) -> bool
 // as offset ones do.
 fn slants_at(points: &[[i64; 2]], i: usize) -> bool
     requires inside { i < length points.now }
-    requires in_range { ring_in_range points.now ≡ true }
+    requires in_range { IsTrue (ring_in_range points.now) }
     ensures { result ≡ slants_at points.now i }
 {
     let j = next_point(points, i);
@@ -122,7 +122,7 @@ fn slants_at(points: &[[i64; 2]], i: usize) -> bool
 
 /// Whether some edge differs in both x and y from end to end.
 pub fn slanted(points: &[[i64; 2]]) -> bool
-    requires { ring_in_range points.now ≡ true }
+    requires { IsTrue (ring_in_range points.now) }
     ensures { result ≡ ring_slants points.now }
 {
     let mut found = false;
