@@ -1,6 +1,8 @@
--- The rules' "Boundary cases": what the definitions come to, and what the document says. proofs/Eight.antt holds the two lists together.
--- Rows, rings and rectangles are in the caller's ticks. P7's strips are as the code holds them, 2^36 more.
-use Rattle.std.specs.Prelude.{ℕ, suc, ◌≡◌, ◌+◌, ◌*◌, ◌-◌, Bool, true, false, ◌&&◌, cond, List, [], ◌∷◌, ◌++◌, map, ℤ, pos, Float, replicate}
+-- The rules' "Boundary cases": what the definitions come to, and what the document says. proofs/Eight.antt holds the
+-- two lists together. Rows, rings and rectangles are in the caller's ticks. P7's strips are as the code holds them,
+-- 2^36 more.
+use Rattle.std.specs.Prelude.{ℕ, suc, ◌≡◌, ◌+◌, ◌*◌, ◌-◌, Bool, true, false, ◌&&◌, List, [], ◌∷◌, ◌++◌, map, ℤ, pos}
+use Rattle.std.specs.Prelude.{Float, replicate, if◌then◌else◌}
 use Rattle.std.specs.Int.Signed.{le_z}
 use Rattle.std.specs.Float.{binary64}
 use Rattle.std.specs.Float.Ieee.{to_bits}
@@ -54,16 +56,17 @@ root x0 y0 x1 y1 polygon = pos x0 ∷ pos y0 ∷ pos x1 ∷ pos y1 ∷ pos 0 ∷
 -- P2's input in a row of this many slots: "Roots (0,0,8,8), (8,0,16,8), max_level 2; split 0, then 3". It has 10 cells
 unfoldable pub lent : ℕ → List ℤ
 lent slots =
-    refined_row (refined_row (root 0 0 8 8 0 ++ root 8 0 16 8 1 ++ replicate ((slots - 2) * 8) (pos 0)) (head_of 2 2) 0) (head_of 6 2) 3
+    let roots = root 0 0 8 8 0 ++ root 8 0 16 8 1 ++ replicate ((slots - 2) * 8) (pos 0) in
+    refined_row (refined_row roots (head_of 2 2) 0) (head_of 6 2) 3
 
 unfoldable pub leaves : List Cell → ℕ
 leaves [] = 0
-leaves (c ∷ cs) = cond (is_none c.kids) (suc (leaves cs)) (leaves cs)
+leaves (c ∷ cs) = if is_none c.kids then suc (leaves cs) else leaves cs
 
 -- the ids of the split cells, from i on
 unfoldable pub splits_from : ℕ → List Cell → List ℕ
 splits_from i [] = []
-splits_from i (c ∷ cs) = cond (is_none c.kids) (splits_from (suc i) cs) (i ∷ splits_from (suc i) cs)
+splits_from i (c ∷ cs) = if is_none c.kids then splits_from (suc i) cs else i ∷ splits_from (suc i) cs
 
 abbrev pub rect : ℕ → ℕ → ℕ → ℕ → Rect
 rect a b c d = record { x0 = pos a; y0 = pos b; x1 = pos c; y1 = pos d }
@@ -101,7 +104,8 @@ unfoldable pub expected : List (List ℕ)
 expected =
     -- P1 "Empty table: balance answers 0." Accepted: 0 splits, 0 cells, max_level 2
     (0 ∷ 0 ∷ 0 ∷ 2 ∷ [])
-    -- P2 "Balance splits only 1: 14 cells, 11 leaves." Accepted: 1 split, 14 cells, max_level 2; 0 and 3 were split before
+    -- P2 "Balance splits only 1: 14 cells, 11 leaves." Accepted: 1 split, 14 cells, max_level 2; 0 and 3 were split
+    -- before
     ∷ (0 ∷ 1 ∷ 14 ∷ 2 ∷ [])
     ∷ (0 ∷ 1 ∷ 3 ∷ [])
     ∷ (11 ∷ [])

@@ -1,4 +1,4 @@
-// The rules' boundary cases, P1 to P8, computed of the definitions: specs/ has the cases, proofs/ the one check.
+//! The rules' boundary cases, P1 to P8, computed of the definitions: specs/ has the cases, proofs/ the one check.
 #![tactic(auto)]
 
 ghost use Rattle.boundary.specs.Eight.{BoundaryCases};

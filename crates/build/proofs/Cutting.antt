@@ -38,3 +38,6 @@ listed_on l i layer h n = rw (add-one i, drop-cons l i [] h, borrow.Author.Tests
 pub listed_end : (l : List (List ℕ)) (i layer : ℕ) → length l ≤ i → listed_at (drop i l) layer ≡ 0
 unfolding listed_at
 listed_end l i layer h = rw (drop_of_length-le l {i = i} h) refl
+
+-- what a search of the list comes to, turn by turn
+pub ruleset listing = (listed_here, listed_on, listed_end)

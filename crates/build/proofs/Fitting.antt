@@ -158,7 +158,7 @@ module _ (b : Board) (components : List ℕ) (sheets : List Float) (size : ℕ) 
   points-fit = eqb-true _ _ (and_right (room_shaped size && (eqb (length b.layers) (length b.counts) && (eqb (length components) (length b.counts) && eqb (length sheets) (length b.counts)))) _ shape)
 
   pub fit : settings_ok b ≡ true → (o : Said) (vs : List ℕ) → judge_from sheets b.counts b.points 0 (length b.counts) o ≡ accepted vs → Fit b
-  unfolding settings_ok list_ok
+  unfolding list_ok
   fit e o vs j =
       let n = and_left (numbers_ok b.settings (polygons b)) _ e in
       let l = and_right (numbers_ok b.settings (polygons b)) _ e in

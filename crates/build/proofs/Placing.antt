@@ -1,9 +1,12 @@
 -- Roots placed in the table: their numbers one behind the other, and what is placed later behind what was placed before.
 -- Assumes nothing.
-use Rattle.std.proofs.Common.{ℕ, zero, suc, ◌+◌, ◌-◌, ◌*◌, ◌<◌, ◌≤◌, ◌≡◌, refl, sym, ap, ◌∙◌, List, [], ◌∷◌, ◌++◌, append_assoc, arith, add-one, suc-mul, zero-mul, ⊎_elim, ℤ, pos, length, take, drop, set, length-append, take-append-drop, take_at, drop_at, length-take-le, drop-drop}
+use Rattle.std.proofs.Common.{ℕ, zero, suc, ◌+◌, ◌-◌, ◌*◌, ◌<◌, ◌≤◌, ◌≡◌, refl, sym, ap, ◌∙◌, List, [], ◌∷◌, ◌++◌, append_assoc, arith, min, add-one, suc-mul, zero-mul, ⊎_elim, ℤ, pos, length, take, drop, set, length-append, take-append-drop, take_at, drop_at, length-take-le, drop-drop}
 use Rattle.cell.proofs.Offsets.{below?}
-use Rattle.cell.specs.Cells.{no_cell}
+use lib.Seq.{sets-eq}
+use Rattle.refusals.specs.Limits.{max_polygons}
+use Rattle.cell.specs.Cells.{no_cell, root_of}
 use Rattle.cell.specs.Ticks.{on}
+use Rattle.table.specs.Slots.{stored, kept, put_cell}
 use Rattle.strips.specs.declared.walk.Strip.{Strip}
 use Rattle.build.specs.declared.grid.Cut.{Cut}
 use Rattle.build.specs.Grid.{Root, boxed, row_of, cell_of, row_to, grid_to, roots_in, flat, cut_of}
@@ -46,14 +49,23 @@ placed-more t k m a b e h =
     ends : (k x y z : ℕ) → z ≡ x + y → (k + x) * 8 + y * 8 ≡ (k + z) * 8
     ends k x y z e = omega arith
 
--- a slot written whole
-pub root_placed : (t : List ℤ) (k : ℕ) (s : Strip) (poly : ℕ)
-    → take (k * 8) t ++ ((on s.x0 ∷ on s.y0 ∷ on s.x1 ∷ on s.y1 ∷ pos 0 ∷ pos no_cell ∷ pos no_cell ∷ pos poly ∷ []) ++ drop (k * 8 + 8 - k * 8) (drop (k * 8) t)) ≡ placed t k (boxed poly s ∷ [])
-unfolding placed flat
-root_placed t k s poly =
-    let e : k * 8 + 8 - k * 8 ≡ 8 = omega arith in
-    let d : k * 8 + 8 ≡ (k + 1) * 8 = omega arith in
-    rw (e, drop-drop 8 (k * 8) t, d) refl
+-- a root written as a cell
+pub root_placed : (t : List ℤ) (k : ℕ) (s : Strip) (poly : ℕ) → poly < max_polygons → (k + 1) * 8 ≤ length t
+    → put_cell t k (root_of s.x0 s.y0 s.x1 s.y1 poly) ≡ placed t k (boxed poly s ∷ [])
+unfolding put_cell stored kept placed flat
+root_placed t k s poly few h =
+    let e1 : k * 8 + 1 ≡ suc (k * 8) = omega arith in
+    let e2 : k * 8 + 2 ≡ suc (suc (k * 8)) = omega arith in
+    let e3 : k * 8 + 3 ≡ suc (suc (suc (k * 8))) = omega arith in
+    let e4 : k * 8 + 4 ≡ suc (suc (suc (suc (k * 8)))) = omega arith in
+    let e5 : k * 8 + 5 ≡ suc (suc (suc (suc (suc (k * 8))))) = omega arith in
+    let e6 : k * 8 + 6 ≡ suc (suc (suc (suc (suc (suc (k * 8)))))) = omega arith in
+    let e7 : k * 8 + 7 ≡ suc (suc (suc (suc (suc (suc (suc (k * 8))))))) = omega arith in
+    let p : min poly 9223372036854775807 ≡ poly = omega arith in
+    let d : (k + 1) * 8 ≡ k * 8 + 8 = omega arith in
+    rw (e1, e2, e3, e4, e5, e6, e7, p, d)
+    (sets-eq (on s.x0 ∷ on s.y0 ∷ on s.x1 ∷ on s.y1 ∷ pos 0 ∷ pos no_cell ∷ pos no_cell ∷ pos poly ∷ []) t (k * 8) (omega arith)
+    ∙ append_assoc (take (k * 8) t) _ (drop (k * 8 + 8) t))
 
 pub row_more : (poly : ℕ) (r : Strip) (n i : ℕ) → row_to poly r n (i + 1) ≡ row_to poly r n i ++ (boxed poly (cell_of r n i) ∷ [])
 unfolding row_to

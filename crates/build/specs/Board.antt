@@ -1,5 +1,5 @@
 -- A board as build is given it, and its polygons' rings and roots.
-use Rattle.std.specs.Prelude.{ℕ, zero, suc, ◌+◌, ◌^◌, List, [], ◌++◌, ℤ, length, take, drop, get_or}
+use Rattle.std.specs.Prelude.{ℕ, zero, suc, ◌+◌, ◌^◌, List, [], ◌++◌, ℤ, length, take, drop, slice_index}
 use Rattle.strips.specs.Strips.{strips_of}
 use Rattle.strips.specs.declared.walk.Strip.{Strip}
 use Rattle.build.specs.declared.Settings.{Settings}
@@ -17,7 +17,8 @@ pub record Board : Type 0 where
   pub points : List (List ℤ)
 
 abbrev pub board : Settings → List (List ℕ) → List ℕ → List ℕ → List (List ℤ) → Board
-board s list layers counts points = record { settings = s; list = list; layers = layers; counts = counts; points = points }
+board s list layers counts points =
+    record { settings = s; list = list; layers = layers; counts = counts; points = points }
 
 -- the same of the lent rows
 abbrev pub board_of : Settings → List (List ℕ) → Outlines → Board
@@ -25,11 +26,11 @@ board_of s list o = board s list o.layers.now o.counts.now o.points.now
 
 unfoldable pub sum_to : List ℕ → ℕ → ℕ
 sum_to cs zero = 0
-sum_to cs (suc p) = sum_to cs p + get_or cs p 0
+sum_to cs (suc p) = sum_to cs p + slice_index cs p
 
 -- the points of polygon p: the rings stand one behind the other
 unfoldable pub ring_at : List ℕ → List (List ℤ) → ℕ → List (List ℤ)
-ring_at cs ps p = take (get_or cs p 0) (drop (sum_to cs p) ps)
+ring_at cs ps p = take (slice_index cs p) (drop (sum_to cs p) ps)
 
 abbrev pub polygons : Board → ℕ
 polygons b = length b.counts
@@ -39,7 +40,7 @@ abbrev pub unit : Board → ℕ
 unit b = 2 ^ (b.settings.max_level + 1)
 
 abbrev pub size_at : Board → ℕ → ℕ
-size_at b p = size_of b.list (get_or b.layers p 0) b.settings.target
+size_at b p = size_of b.list (slice_index b.layers p) b.settings.target
 
 abbrev pub strips_at : Board → ℕ → List Strip
 strips_at b p = strips_of (ring_at b.counts b.points p)

@@ -1,5 +1,6 @@
 -- The rules' "Rings to roots", from a strip to its cells.
-use Rattle.std.specs.Prelude.{ℕ, zero, suc, ◌+◌, ◌-◌, ◌*◌, ◌/◌, ◌%◌, min, max, Bool, true, cond, ◌&&◌, List, [], ◌∷◌, ◌++◌, map, eqb, ℤ, pos, get_or}
+use Rattle.std.specs.Prelude.{ℕ, zero, suc, ◌+◌, ◌-◌, ◌*◌, ◌/◌, ◌%◌, min, max, Bool, true, ◌&&◌, List, [], ◌∷◌, ◌++◌}
+use Rattle.std.specs.Prelude.{map, ℤ, pos, ◌==◌, if◌then◌else◌, slice_index}
 use Rattle.cell.specs.Ticks.{on}
 use Rattle.cell.specs.Cells.{no_cell}
 use Rattle.strips.specs.Sorted.{up_to}
@@ -58,7 +59,7 @@ roots_in poly cap c (s ∷ ss) = grid_to poly s (cut_of cap c s) (cut_of cap c s
 
 -- "a base cell side isn't a multiple of 2^(max_level+1) ticks": the side of length w, cut n times, of the unit u
 abbrev pub evenly : ℕ → ℕ → ℕ → Bool
-evenly u n w = eqb (w % (n * u)) 0
+evenly u n w = w % (n * u) == 0
 
 abbrev pub even_strip : ℕ → Cut → Strip → Bool
 even_strip u g s = evenly u g.nx (width s) && evenly u g.ny (height s)
@@ -76,7 +77,7 @@ flat (r ∷ rs) =
 -- "cell of a layer: 0 or unlisted: use the target"
 unfoldable pub listed_at : List (List ℕ) → ℕ → ℕ
 listed_at [] layer = 0
-listed_at (e ∷ l) layer = cond (eqb (get_or e 0 0) layer) (get_or e 1 0) (listed_at l layer)
+listed_at (e ∷ l) layer = if slice_index e 0 == layer then slice_index e 1 else listed_at l layer
 
 abbrev pub size_of : List (List ℕ) → ℕ → ℕ → ℕ
-size_of l layer target = cond (eqb (listed_at l layer) 0) target (listed_at l layer)
+size_of l layer target = if listed_at l layer == 0 then target else listed_at l layer

@@ -1,5 +1,6 @@
 -- Laws of build. Each is the contract of a function of src/laws.rt.
-use Rattle.std.specs.Prelude.{ℕ, ◌+◌, ◌-◌, ◌*◌, ◌<◌, ◌≤◌, ◌≡◌, true, List, [], ◌∷◌, length, None, Result, ℤ, Float, All, AllPairs}
+use Rattle.std.specs.Prelude.{ℕ, ◌+◌, ◌-◌, ◌*◌, ◌<◌, ◌≤◌, ◌≡◌, true, List, [], ◌∷◌, length, None, Result, ℤ, Float, All}
+use Rattle.std.specs.Prelude.{AllPairs}
 use Rattle.refusals.specs.declared.Refusal.{Refusal}
 use Rattle.refusals.specs.Said.{accepted}
 use Rattle.table.specs.Mesh.{at, table}
@@ -16,7 +17,8 @@ pub record Outcome : Type 0 where
   pub table : List ℤ
 
 -- the contract of `build` allows it for this board and this table
-pub record IsAllowed (b : Board) (components : List ℕ) (sheets : List Float) (before : List ℤ) (outcome : Outcome) : Type 0 where
+pub record IsAllowed (b : Board) (components : List ℕ) (sheets : List Float) (before : List ℤ) (outcome : Outcome)
+    : Type 0 where
   pub said : built_said outcome.answer ≡ build_says b components sheets (length before)
   pub left : outcome.table ≡ build_leaves b components sheets before
 

@@ -1,5 +1,7 @@
 -- What build says of a board and a room, in the rules' order, and what it leaves in the table.
-use Rattle.std.specs.Prelude.{ℕ, zero, suc, ◌+◌, ◌-◌, ◌*◌, ◌/◌, ◌%◌, ◌^◌, Bool, true, cond, ◌&&◌, List, [], ◌∷◌, ◌++◌, ltb, leb, eqb, ℤ, pos, Float, length, get_or, replicate, Result, Ok, Err, ⊤}
+use Rattle.std.specs.Prelude.{ℕ, zero, suc, ◌+◌, ◌-◌, ◌*◌, ◌/◌, ◌%◌, ◌^◌, Bool, true, ◌&&◌, List, [], ◌∷◌, ◌++◌, ℤ, pos}
+use Rattle.std.specs.Prelude.{Float, length, replicate, Result, Ok, Err, ⊤, ◌==◌, if◌then◌else◌, nat_lt, nat_le}
+use Rattle.std.specs.Prelude.{slice_index_or, slice_index}
 use Rattle.std.specs.Float.{nan}
 use Rattle.refusals.specs.Limits.{widest_level, max_cap, max_cell, max_layers, max_polygons, max_slots}
 use Rattle.refusals.specs.declared.Refusal.{Refusal}
@@ -15,69 +17,73 @@ built_said = said (λ n. n ∷ [])
 
 -- 7: "the shape of the room or point counts that don't add up to the point row", or polygon rows of unequal length
 abbrev pub room_shaped : ℕ → Bool
-room_shaped size = eqb (size % 8) 0 && leb (size / 8) max_slots
+room_shaped size = size % 8 == 0 && nat_le (size / 8) max_slots
 
 unfoldable pub rows_shaped : List ℕ → List ℕ → List Float → List ℕ → List (List ℤ) → ℕ → Bool
 rows_shaped layers components sheets counts points size =
     room_shaped size
-    && (eqb (length layers) (length counts) && (eqb (length components) (length counts) && eqb (length sheets) (length counts)))
-    && eqb (sum_to counts (length counts)) (length points)
+    && (length layers == length counts && (length components == length counts && length sheets == length counts))
+    && sum_to counts (length counts) == length points
 
 -- 3: settings. Each layer of the list has 16 bits and is above the one before
 abbrev pub layer_in : List (List ℕ) → ℕ → ℕ
-layer_in l i = get_or (get_or l i []) 0 0
+layer_in l i = slice_index (slice_index_or l i []) 0
 
 abbrev pub entry_ok : List (List ℕ) → ℕ → Bool
 entry_ok l i =
-    (ltb (layer_in l i) (2 ^ 16) && leb (get_or (get_or l i []) 1 0) max_cell)
-    && cond (eqb i 0) true (ltb (layer_in l (i - 1)) (layer_in l i))
+    (nat_lt (layer_in l i) (2 ^ 16) && nat_le (slice_index (slice_index_or l i []) 1) max_cell)
+    && (if i == 0 then true else nat_lt (layer_in l (i - 1)) (layer_in l i))
 
 unfoldable pub entries_ok : List (List ℕ) → ℕ → Bool
 entries_ok l zero = true
 entries_ok l (suc i) = entries_ok l i && entry_ok l i
 
 unfoldable pub list_ok : List (List ℕ) → Bool
-list_ok l = leb (length l) max_layers && entries_ok l (length l)
+list_ok l = nat_le (length l) max_layers && entries_ok l (length l)
 
 abbrev pub numbers_ok : Settings → ℕ → Bool
 numbers_ok s n =
-    ((leb s.max_level widest_level && leb n max_polygons) && (leb 1 s.cap && leb s.cap max_cap))
-    && (leb 1 s.target && leb s.target max_cell)
+    ((nat_le s.max_level widest_level && nat_le n max_polygons) && (nat_le 1 s.cap && nat_le s.cap max_cap))
+    && (nat_le 1 s.target && nat_le s.target max_cell)
 
 -- 3, place 0: "settings (the polygon count among them)"
-unfoldable pub settings_ok : Board → Bool
+abbrev pub settings_ok : Board → Bool
 settings_ok b = numbers_ok b.settings (polygons b) && list_ok b.list
 
 -- "polygon by polygon 3 before 4": the n polygons from p on, and then `otherwise`
 unfoldable pub judge_from : List Float → List ℕ → List (List ℤ) → ℕ → ℕ → Said → Said
 judge_from rs cs ps p zero otherwise = otherwise
 judge_from rs cs ps p (suc n) otherwise =
-    cond (in_sheet (get_or rs p nan)) (judged p (ring_at cs ps p) (judge_from rs cs ps (suc p) n otherwise)) (refused 3 p)
+    if in_sheet (slice_index_or rs p nan) then judged p (ring_at cs ps p) (judge_from rs cs ps (suc p) n otherwise)
+    else refused 3 p
 
 -- "then 5", at the lowest polygon that has an uneven side
 unfoldable pub even_from : Board → ℕ → ℕ → Said → Said
 even_from b p zero otherwise = otherwise
 even_from b p (suc n) otherwise =
-    cond (all_even (unit b) b.settings.cap (size_at b p) (strips_at b p)) (even_from b (suc p) n otherwise) (refused 5 p)
+    if all_even (unit b) b.settings.cap (size_at b p) (strips_at b p) then even_from b (suc p) n otherwise
+    else refused 5 p
 
 -- "then 6": more roots than slots. Otherwise their number
 abbrev pub room_for : ℕ → ℕ → Said
-room_for slots n = cond (ltb slots n) (refused 6 0) (accepted (n ∷ []))
+room_for slots n = if nat_lt slots n then refused 6 0 else accepted (n ∷ [])
 
 unfoldable pub build_says : Board → List ℕ → List Float → ℕ → Said
 build_says b components sheets size =
-    cond (rows_shaped b.layers components sheets b.counts b.points size)
-    (cond (settings_ok b)
-    (judge_from sheets b.counts b.points 0 (polygons b) (even_from b 0 (polygons b) (room_for (size / 8) (length (roots_of b)))))
-    (refused 3 0))
-    (refused 7 0)
+    if rows_shaped b.layers components sheets b.counts b.points size then
+    (if settings_ok b then
+    judge_from sheets b.counts b.points 0 (polygons b)
+    (even_from b 0 (polygons b) (room_for (size / 8) (length (roots_of b))))
+    else refused 3 0)
+    else refused 7 0
 
 -- the roots, and zeros behind them
 unfoldable pub filled : Board → ℕ → List ℤ
 filled b size = flat (roots_of b) ++ replicate (size - length (roots_of b) * 8) (pos 0)
 
 unfoldable pub build_leaves : Board → List ℕ → List Float → List ℤ → List ℤ
-build_leaves b components sheets table = if_accepted (build_says b components sheets (length table)) (filled b (length table)) table
+build_leaves b components sheets table =
+    if_accepted (build_says b components sheets (length table)) (filled b (length table)) table
 
 -- what an answer of `judge` says: nothing, or its refusal
 abbrev pub fault : Result ⊤ Refusal → Said → Said

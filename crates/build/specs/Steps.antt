@@ -1,5 +1,6 @@
 -- What the steps of the code promise one another. Internal.
-use Rattle.std.specs.Prelude.{ℕ, ◌+◌, ◌-◌, ◌*◌, ◌/◌, ◌%◌, ◌^◌, ◌<◌, ◌≤◌, min, ◌≡◌, true, false, cond, List, ◌++◌, ltb, ℤ, pos, length, take, drop, replicate, Option, Some, None, Result, Ok, Err}
+use Rattle.std.specs.Prelude.{ℕ, ◌+◌, ◌-◌, ◌*◌, ◌/◌, ◌%◌, ◌^◌, ◌<◌, ◌≤◌, min, ◌≡◌, true, false, List, ◌++◌, ℤ, pos}
+use Rattle.std.specs.Prelude.{length, take, drop, replicate, Option, Some, None, Result, Ok, Err, if◌then◌else◌, nat_lt}
 use Rattle.refusals.specs.Limits.{widest_level, max_cap, max_cell, max_points, max_polygons, max_slots}
 use Rattle.strips.specs.declared.walk.Strip.{Strip}
 use Rattle.build.specs.declared.grid.Cut.{Cut}
@@ -33,7 +34,7 @@ pub record Slotted (t : List ℤ) (k n : ℕ) : Type 0 where
   pub few : length t ≤ max_slots * 8
 
 abbrev pub more_of : ℕ → ℕ → ℕ → ℕ
-more_of slots sum n = cond (ltb slots sum) sum (sum + n)
+more_of slots sum n = if nat_lt slots sum then sum else sum + n
 
 -- two counts that are the same unless both are past the slots
 abbrev pub SameTo : ℕ → ℕ → ℕ → Type 0
@@ -78,7 +79,7 @@ pub record Tabled (t : List ℤ) : Type 0 where
 
 -- what is said of a board of one polygon with these strips, and what it leaves
 abbrev pub alone_says : ℕ → ℕ → ℕ → List Strip → ℕ → Said
-alone_says u cap c ss slots = cond (all_even u cap c ss) (room_for slots (length (roots_in 0 cap c ss))) (refused 5 0)
+alone_says u cap c ss slots = if all_even u cap c ss then room_for slots (length (roots_in 0 cap c ss)) else refused 5 0
 
 abbrev pub alone_leaves : ℕ → ℕ → List Strip → ℕ → List ℤ
 alone_leaves cap c ss size = flat (roots_in 0 cap c ss) ++ replicate (size - length (roots_in 0 cap c ss) * 8) (pos 0)

@@ -1,4 +1,4 @@
-// A board of one polygon, whose ring is made ready once.
+//! A board of one polygon, whose ring is made ready once.
 ghost use Rattle.std.specs.Prelude.{◌≡◌, ◌/◌, length};
 ghost use Rattle.strips.specs.Said.{if_accepted};
 ghost use Rattle.build.specs.Board.{board_of, roots_of};
@@ -19,7 +19,8 @@ pub fn cut_alone(
     requires alone { length board.now.outlines.counts.now ≡ 1 }
     requires shape { Tabled table.old }
     ensures answer { let b = board_of board.now.settings board.now.list.now board.now.outlines in
-        built_said result ≡ even_from b 0 (length board.now.outlines.counts.now) (room_for (length table.old / 8) (length (roots_of b))) }
+        built_said result ≡ even_from b 0 (length board.now.outlines.counts.now)
+        (room_for (length table.old / 8) (length (roots_of b))) }
     ensures slots { let b = board_of board.now.settings board.now.list.now board.now.outlines in
         table.new ≡ if_accepted (built_said result) (filled b (length table.old)) table.old }
 {

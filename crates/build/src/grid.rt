@@ -1,4 +1,4 @@
-// A strip cut into cells.
+//! A strip cut into cells.
 ghost use Rattle.std.specs.Prelude.{◌≡◌, ◌+◌, ◌^◌, ◌≤◌, ◌<◌};
 ghost use Rattle.refusals.specs.Limits.{coordinate, widest_level};
 ghost use Rattle.build.specs.Grid.{held_at, cut_of, even_strip, listed_at, size_of};
@@ -69,7 +69,7 @@ pub fn unit_of(max_level: u64) -> u64
 }
 
 // The cell that the list gives a layer: 0 where it has none.
-#[tactic(auto, using(crate::proofs::Cutting::listed_here, crate::proofs::Cutting::listed_on, crate::proofs::Cutting::listed_end))]
+#[tactic(auto, using(crate::proofs::Cutting::listing))]
 fn listed(list: &[[u64; 2]], layer: u64) -> u64
     ensures { result ≡ listed_at list.now layer }
 {

@@ -1,4 +1,4 @@
-// A board that was judged.
+//! A board that was judged.
 ghost use Rattle.std.specs.Prelude.{◌≡◌, ◌<◌, length};
 ghost use Rattle.build.specs.Board.{board_of, polygons, size_at, unit};
 ghost use Rattle.build.specs.Steps.{Fit};

@@ -1,4 +1,4 @@
-// Laws of the definitions that the contract of build stands on.
+//! Laws of the definitions that the contract of build stands on.
 ghost use Rattle.build.specs.Laws.{OneOutcome, StripsAreTiled, LeavesTablesOfRoots};
 
 /// The contract of `build` allows one answer and one table.

@@ -1,4 +1,4 @@
-// From polygons to roots: from_polygons of the Rust, in whole ticks and into a lent table.
+//! From polygons to roots: from_polygons of the Rust, in whole ticks and into a lent table.
 #![tactic(auto)]
 
 ghost use Rattle.std.specs.Prelude.{◌≡◌, ◌/◌, length};
@@ -36,7 +36,8 @@ pub struct Settings {
 fn cut_many(board: &Judged<'_>, room: &mut WorkRoom, table: &mut [i64]) -> Result<usize, Refusal>
     requires { Tabled table.old }
     ensures answer { let b = board_of board.now.settings board.now.list.now board.now.outlines in
-        built_said result ≡ even_from b 0 (length board.now.outlines.counts.now) (room_for (length table.old / 8) (length (roots_of b))) }
+        built_said result ≡ even_from b 0 (length board.now.outlines.counts.now)
+        (room_for (length table.old / 8) (length (roots_of b))) }
     ensures slots { let b = board_of board.now.settings board.now.list.now board.now.outlines in
         table.new ≡ if_accepted (built_said result) (filled b (length table.old)) table.old }
 {
@@ -54,7 +55,8 @@ fn cut_many(board: &Judged<'_>, room: &mut WorkRoom, table: &mut [i64]) -> Resul
 fn cut(board: &Judged<'_>, table: &mut [i64]) -> Result<usize, Refusal>
     requires { Tabled table.old }
     ensures answer { let b = board_of board.now.settings board.now.list.now board.now.outlines in
-        built_said result ≡ even_from b 0 (length board.now.outlines.counts.now) (room_for (length table.old / 8) (length (roots_of b))) }
+        built_said result ≡ even_from b 0 (length board.now.outlines.counts.now)
+        (room_for (length table.old / 8) (length (roots_of b))) }
     ensures slots { let b = board_of board.now.settings board.now.list.now board.now.outlines in
         table.new ≡ if_accepted (built_said result) (filled b (length table.old)) table.old }
 {
@@ -68,9 +70,9 @@ fn cut(board: &Judged<'_>, table: &mut [i64]) -> Result<usize, Refusal>
     cut_many(board, &mut room, table)
 }
 
-/// The level-0 table of a board: the roots of every polygon, in order, and zeros behind them. The layer list has layer and
-/// cell in each entry.
-#[tactic(auto, unfolding(crate::specs::Says::build_says, crate::specs::Says::build_leaves, crate::specs::Says::settings_ok))]
+/// The level-0 table of a board: the roots of every polygon, in order, and zeros behind them. The layer list has layer
+/// and cell in each entry.
+#[tactic(auto, unfolding(crate::specs::Says::build_says, crate::specs::Says::build_leaves))]
 pub fn build(
     settings: Settings,
     list: &[[u64; 2]],

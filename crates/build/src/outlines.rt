@@ -1,4 +1,4 @@
-// Polygons as one value of lent rows, and what is judged of them before anything is cut.
+//! Polygons as one value of lent rows, and what is judged of them before anything is cut.
 ghost use Rattle.std.specs.Prelude.{◌≡◌, ◌==◌, ◌+◌, ◌<◌, ◌^◌, length};
 ghost use Rattle.refusals.specs.Said.{Said};
 ghost use Rattle.build.specs.Board.{ring_at, sum_to};

@@ -1,4 +1,4 @@
-// Roots into the lent table, slot by slot. There is room.
+//! Roots into the lent table, slot by slot. There is room.
 ghost use Rattle.std.specs.Prelude.{◌≡◌, ◌+◌, ◌*◌, ◌-◌, ◌≤◌, ◌<◌, ◌∷◌, [], ◌++◌, pos, length, take, replicate};
 ghost use Rattle.refusals.specs.Limits.{coordinate, max_polygons};
 ghost use Rattle.strips.specs.Strips.{strips_of};
@@ -9,27 +9,17 @@ ghost use Rattle.build.specs.Steps.{Cuts, placed, Slotted};
 
 use crate::grid::{Cut, Cutter};
 use crate::judged::Judged;
-use cell::{Cell, ticks};
+use cell::Cell;
 use strips::walk::{Ready, Strip, WorkRoom};
+use table::slots::put_cell;
 
 // One root: level 0, no parent, no child.
-#[tactic(auto, unfolding(crate::specs::Steps::placed, crate::specs::Grid::flat))]
 fn put_root(t: &mut [i64], k: usize, s: Strip, poly: u64)
     requires room { Slotted t.old k 1 }
     requires polygon_in_range { poly < max_polygons }
     ensures { t.new ≡ placed t.old k (boxed poly s ∷ []) }
 {
-    let slot = [
-        ticks::ticks(s.x0),
-        ticks::ticks(s.y0),
-        ticks::ticks(s.x1),
-        ticks::ticks(s.y1),
-        0,
-        Cell::NO_CELL as i64,
-        Cell::NO_CELL as i64,
-        poly as i64,
-    ];
-    t[k * 8..k * 8 + 8].copy_from_slice(&slot);
+    put_cell(t, k, Cell::root(s.x0, s.y0, s.x1, s.y1, poly));
 }
 
 // Row j of a strip, as a strip.
@@ -105,7 +95,8 @@ pub fn put_strips(ring: &Ready<'_>, cutter: Cutter, poly: u64, t: &mut [i64], k:
 pub fn put_all(board: &Judged<'_>, room: &mut WorkRoom, t: &mut [i64]) -> usize
     requires { Slotted t.old 0 (length (roots_of (board_of board.now.settings board.now.list.now board.now.outlines))) }
     ensures count { result ≡ length (roots_of (board_of board.now.settings board.now.list.now board.now.outlines)) }
-    ensures slots { t.new ≡ placed t.old 0 (roots_of (board_of board.now.settings board.now.list.now board.now.outlines)) }
+    ensures slots { t.new
+        ≡ placed t.old 0 (roots_of (board_of board.now.settings board.now.list.now board.now.outlines)) }
 {
     let outlines = board.outlines;
     let mut k = 0;
@@ -120,7 +111,7 @@ pub fn put_all(board: &Judged<'_>, room: &mut WorkRoom, t: &mut [i64]) -> usize
     k
 }
 
-// Zeros from a position to the end.
+/// Zeros from a position to the end.
 pub fn clear(t: &mut [i64], from: usize)
     requires { from ≤ length t.old }
     ensures { t.new ≡ take from t.old ++ replicate (length t.old - from) (pos 0) }

@@ -1,4 +1,4 @@
-// What is judged of the settings.
+//! What is judged of the settings.
 ghost use Rattle.std.specs.Prelude.{◌≡◌, ◌<◌, length};
 ghost use Rattle.build.specs.Says.{entry_ok, list_ok, numbers_ok};
 

@@ -1,4 +1,4 @@
-// Base sides judged and roots counted before anything is written. Rings and settings have been judged.
+//! Base sides judged and roots counted before anything is written. Rings and settings have been judged.
 ghost use Rattle.std.specs.Prelude.{◌≡◌, ◌+◌, ◌*◌, ◌≤◌, length};
 ghost use Rattle.refusals.specs.Limits.{max_cap, max_slots};
 ghost use Rattle.strips.specs.Strips.{strips_of};
@@ -10,7 +10,8 @@ use crate::judged::Judged;
 use refusals::Refusal;
 use strips::walk::{Ready, WorkRoom};
 
-// A strip's cells on top of a count. A count that is past the slots already stays, so that none is too large for 64 bits.
+// A strip's cells on top of a count. A count that is past the slots already stays, so that none is too large for 64
+// bits.
 fn more(sum: u64, slots: u64, g: Cut) -> u64
     requires within_cap { Cuts g }
     requires slots_fit { slots ≤ max_slots }
@@ -41,7 +42,8 @@ pub fn tally_strips(ring: &Ready<'_>, cutter: Cutter, slots: u64, before: u64) -
     Some(sum)
 }
 
-/// How many roots a board has, as far as one more than the slots or a few more; or the first polygon with an uneven side.
+/// How many roots a board has, as far as one more than the slots or a few more; or the first polygon with an uneven
+/// side.
 pub fn survey(board: &Judged<'_>, room: &mut WorkRoom, slots: u64) -> Result<u64, Refusal>
     requires { slots ≤ max_slots }
     ensures { Surveyed (board_of board.now.settings board.now.list.now board.now.outlines) slots result }

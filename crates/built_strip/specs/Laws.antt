@@ -10,7 +10,8 @@ use Rattle.net.specs.Net.{Poly, leaves_of, network}
 use Rattle.hanging.specs.Strip.{OneStrip, Splits}
 use Rattle.hanging.specs.Laws.{NoneHangs}
 
--- an accepted call of build: its board, the polygons' other rows, the row lent for the table, and the count of roots that is answered
+-- an accepted call of build: its board, the polygons' other rows, the row lent for the table, and the count of roots
+-- that is answered
 pub record BuiltBoard : Type 0 where
   pub board : Board
   pub components : List ℕ
@@ -36,6 +37,7 @@ BuiltIsOneStrip = (b : BuiltBoard) (k : ℕ) → IsStrip b k → OneStrip (built
 -- and none of its nodes hangs once the table was refined in any way and balanced, whatever the other polygons are
 abbrev pub BuiltHangsNot : Type 0
 BuiltHangsNot =
-    (b : BuiltBoard) (t : List Cell) (ps : List Poly) (k : ℕ) (p : Poly) → IsStrip b k → Splits b.board.settings.max_level (built b) t
+    (b : BuiltBoard) (t : List Cell) (ps : List Poly) (k : ℕ) (p : Poly)
+    → IsStrip b k → Splits b.board.settings.max_level (built b) t
     → slice_get ps k ≡ Some p
     → let u = balance b.board.settings.max_level t in NoneHangs (network u ps) p (leaves_of u k)

@@ -1,5 +1,5 @@
 -- Boxes, their quadrants and contact, in whole ticks.
-use Rattle.std.specs.Prelude.{ℕ, zero, suc, ◌+◌, ◌/◌, min, max, Bool, ◌&&◌, ◌||◌, ltb, eqb}
+use Rattle.std.specs.Prelude.{ℕ, zero, suc, ◌+◌, ◌/◌, min, max, Bool, ◌&&◌, ◌||◌, ◌==◌, nat_lt}
 use Rattle.cell.specs.declared.Quadrant.{Quadrant}
 use Rattle.cell.specs.declared.Quadrant.TheVariants.{SouthWest, SouthEast, NorthWest, NorthEast}
 
@@ -49,11 +49,11 @@ quadrant b ne = record { x0 = mid b.x0 b.x1; y0 = mid b.y0 b.y1; x1 = b.x1; y1 =
 
 -- the ranges a to b and c to d overlap by a positive length: what they have in common begins before it ends
 abbrev pub overlaps : ℕ → ℕ → ℕ → ℕ → Bool
-overlaps a b c d = ltb (max a c) (min b d)
+overlaps a b c d = nat_lt (max a c) (min b d)
 
--- the rules: one's east side has the x of the other's west side and their y ranges overlap by a positive length, or likewise
--- with x and y exchanged
+-- the rules: one's east side has the x of the other's west side and their y ranges overlap by a positive length, or
+-- likewise with x and y exchanged
 unfoldable pub shares_edge : Box → Box → Bool
 shares_edge a b =
-    ((eqb a.x1 b.x0 || eqb b.x1 a.x0) && overlaps a.y0 a.y1 b.y0 b.y1)
-    || ((eqb a.y1 b.y0 || eqb b.y1 a.y0) && overlaps a.x0 a.x1 b.x0 b.x1)
+    ((a.x1 == b.x0 || b.x1 == a.x0) && overlaps a.y0 a.y1 b.y0 b.y1)
+    || ((a.y1 == b.y0 || b.y1 == a.y0) && overlaps a.x0 a.x1 b.x0 b.x1)

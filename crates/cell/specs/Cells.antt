@@ -13,10 +13,21 @@ box_of c = record { x0 = c.x0; y0 = c.y0; x1 = c.x1; y1 = c.y1 }
 
 -- the cell with another box
 abbrev pub boxed : Cell → Box → Cell
-boxed c b = record { x0 = b.x0; y0 = b.y0; x1 = b.x1; y1 = b.y1; level = c.level; parent = c.parent; first = c.first; poly = c.poly }
+boxed c b =
+    record {
+      x0 = b.x0;
+      y0 = b.y0;
+      x1 = b.x1;
+      y1 = b.y1;
+      level = c.level;
+      parent = c.parent;
+      first = c.first;
+      poly = c.poly;
+    }
 
 abbrev pub root_of : ℕ → ℕ → ℕ → ℕ → ℕ → Cell
-root_of x0 y0 x1 y1 poly = record { x0 = x0; y0 = y0; x1 = x1; y1 = y1; level = 0; parent = no_cell; first = no_cell; poly = poly }
+root_of x0 y0 x1 y1 poly =
+    record { x0 = x0; y0 = y0; x1 = x1; y1 = y1; level = 0; parent = no_cell; first = no_cell; poly = poly }
 
 -- the point at which a cell is cut
 abbrev pub centre : Cell → Cell

@@ -9,7 +9,8 @@ ContactIsMutual = (a b : Box) → IsTrue (shares_edge a b) → IsTrue (shares_ed
 -- boxes that have a corner in common and lie across it from one another do not share an edge
 abbrev pub CornersDoNotTouch : Type 0
 CornersDoNotTouch =
-    (a b : Box) → a.x0 < a.x1 → a.y0 < a.y1 → a.x1 ≡ b.x0 → a.y1 ≡ b.y0 → b.x0 < b.x1 → b.y0 < b.y1 → ¬ IsTrue (shares_edge a b)
+    (a b : Box) → a.x0 < a.x1 → a.y0 < a.y1 → a.x1 ≡ b.x0 → a.y1 ≡ b.y0 → b.x0 < b.x1 → b.y0 < b.y1
+    → ¬ IsTrue (shares_edge a b)
 
 -- a box that shares an edge with another has a quadrant that does
 abbrev pub SomeQuadrantTouches : Type 0

@@ -1,4 +1,4 @@
-// What contact comes to.
+//! What contact comes to.
 ghost use Rattle.cell.specs.Laws.{ContactIsMutual, CornersDoNotTouch, SomeQuadrantTouches};
 
 /// Contact is the same seen from either side.

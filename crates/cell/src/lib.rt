@@ -1,6 +1,6 @@
-// A cell of the quadtree, by value: QuadCell of the Rust, in whole ticks.
-//
-// A cell's coordinates are offset by 2^36, so that the range is 0 to 2^37 and no coordinate is negative.
+//! A cell of the quadtree, by value: QuadCell of the Rust, in whole ticks.
+//!
+//! A cell's coordinates are offset by 2^36, so that the range is 0 to 2^37 and no coordinate is negative.
 #![tactic(auto)]
 
 ghost use Rattle.std.specs.Prelude.{◌≡◌, ◌+◌, ◌/◌, ◌<◌};
@@ -49,7 +49,8 @@ pub struct Cell {
     pub poly: u64,
 }
 
-// The middle of two coordinates, down to the next whole tick. The sum of the two may pass 2^64, so each is halved by itself.
+// The middle of two coordinates, down to the next whole tick. The sum of the two may pass 2^64, so each is halved by
+// itself.
 fn mid(a: u64, b: u64) -> u64
     ensures { result ≡ (a + b) / 2 }
 {

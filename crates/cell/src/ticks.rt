@@ -1,11 +1,11 @@
-// Coordinates: signed ticks in what a caller lends, offset by 2^36 in a cell; and lengths in metres.
+//! Coordinates: signed ticks in what a caller lends, offset by 2^36 in a cell; and lengths in metres.
 ghost use Rattle.std.specs.Prelude.{◌≡◌, ◌<◌, ◌^◌};
 ghost use Rattle.cell.specs.Ticks.{in_range, off, on, metres_of};
 
 use refusals::limits::COORDINATE;
 
-// The highest coordinate of a cell: 2^37.
-const TOP: u64 = 2 * COORDINATE as u64;
+/// The highest coordinate of a cell: 2^37.
+pub const TOP: u64 = 2 * COORDINATE as u64;
 
 /// Whether a coordinate is in the rules' range.
 pub fn in_range(z: i64) -> bool
@@ -14,7 +14,8 @@ pub fn in_range(z: i64) -> bool
     (-COORDINATE <= z) & (z <= COORDINATE)
 }
 
-/// A coordinate as a cell holds it. One out of range is taken for the nearest in range, so that nothing is asked of a caller.
+/// A coordinate as a cell holds it. One out of range is taken for the nearest in range, so that nothing is asked of a
+/// caller.
 pub fn offset(z: i64) -> u64
     ensures { result ≡ off z }
 {

@@ -17,3 +17,4 @@ pub mod Ends
 pub mod Room
 pub mod Sides
 pub mod Settled
+pub mod Leaves

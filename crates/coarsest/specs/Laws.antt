@@ -1,10 +1,12 @@
--- The laws of the passes, for both engines and every allowed difference k of levels. crates/coarsest/src/laws.rt promises each.
+-- The laws of the passes, for both engines and every allowed difference k of levels. crates/coarsest/src/laws.rt
+-- promises each.
 use Rattle.std.specs.Prelude.{ℕ, ◌<◌, ◌≡◌, ◌↔◌, ◌||◌, false, List, length}
+use Rattle.cell.specs.Boxes.{Box}
 use Rattle.table.specs.Mesh.{Cell}
 use Rattle.table.specs.Formed.{Formed}
 use Rattle.coarsest.specs.declared.Engine.{Engine}
 use Rattle.coarsest.specs.Passes.{is_due, pass, evened}
-use Rattle.coarsest.specs.Names.{Route, Splitting, ◌⊆◌, Coarsest, Needs, roots_of, splitting}
+use Rattle.coarsest.specs.Names.{Route, Splitting, ◌⊆◌, Coarsest, HasLeaf, Needs, roots_of, splitting}
 
 -- the passes end in the coarsest splitting that keeps the table's splits
 abbrev pub CoarsestIsReached : Type 0
@@ -35,6 +37,12 @@ KeepsRoots =
 -- the two tables have the same roots
 abbrev pub SameRoots : List Cell → List Cell → Type 0
 SameRoots t u = (r : ℕ) → roots_of t r ≡ roots_of u r
+
+-- tables of equal roots and equal splittings have equal leaves, as rectangles: what one has the other has, too
+abbrev pub SplittingTellsLeaves : Type 0
+SplittingTellsLeaves =
+    (M : ℕ) (t u : List Cell) → Formed M t → Formed M u → SameRoots t u
+    → ((r : ℕ) (p : Route) → splitting t r p ≡ splitting u r p) → (B : Box) → HasLeaf t B → HasLeaf u B
 
 -- if one table splits what another splits, so do the tables that they end in, whichever engine each is given to
 abbrev pub MoreSplitsEndFiner : Type 0

@@ -1,6 +1,6 @@
--- Cells by name, a root's id and the route of quadrants from it; splittings as tests on names; and the coarsest one that keeps a table's
--- splits, goes no deeper than max_level, and has no two leaves that share an edge and differ by more than k levels. Nothing here knows
--- of the passes.
+-- Cells by name, a root's id and the route of quadrants from it; splittings as tests on names; and the coarsest one
+-- that keeps a table's splits, goes no deeper than max_level, and has no two leaves that share an edge and differ by
+-- more than k levels. Nothing here knows of the passes.
 use Rattle.std.specs.Prelude.{ℕ, ◌+◌, ◌≤◌, ◌<◌, ◌≡◌, Bool, true, false, not, List, [], ◌∷◌, length, Option, None, Some}
 use Rattle.cell.specs.Boxes.{Box, Quad, num, quadrant, shares_edge}
 use Rattle.table.specs.Mesh.{Cell, at, is_none}
@@ -35,13 +35,14 @@ pub record Leaf (R : Roots) (S : Splitting) (r : ℕ) (p : Route) (B : Box) : Ty
   pub stands : Stands S r p
   pub whole : S r p ≡ false
 
--- a splitting of the roots R, of split cells down to level M - 1, in which a leaf is finer than one that it shares an edge with by at
--- most k levels
+-- a splitting of the roots R, of split cells down to level M - 1, in which a leaf is finer than one that it shares an
+-- edge with by at most k levels
 pub record Admissible (k M : ℕ) (R : Roots) (S : Splitting) : Type 0 where
   pub rooted : (r : ℕ) (p : Route) → S r p ≡ true → (A : Box) × (R r ≡ Some A)
   pub closed : (r : ℕ) (q : Quad) (p : Route) → S r (q ∷ p) ≡ true → S r p ≡ true
   pub deep : (r : ℕ) (p : Route) → S r p ≡ true → length p < M
-  pub even : (r s : ℕ) (p q : Route) (A B : Box) → Leaf R S r p A → Leaf R S s q B → shares_edge A B ≡ true → length p ≤ length q + k
+  pub even : (r s : ℕ) (p q : Route) (A B : Box) → Leaf R S r p A → Leaf R S s q B → shares_edge A B ≡ true
+      → length p ≤ length q + k
 
 infix 20 ◌⊆◌
 -- S splits what T splits
@@ -61,7 +62,8 @@ pub record HasCells (R : Roots) (S : Splitting) (n : ℕ) : Type 0 where
   pub known : (i : ℕ) → i < n → (A : Box) × (R (root i) ≡ Some A)
   pub stands : (i : ℕ) → i < n → Stands S (root i) (route i)
   pub once : (i j : ℕ) → i < n → j < n → root i ≡ root j → route i ≡ route j → i ≡ j
-  pub all : (r : ℕ) (p : Route) (A : Box) → R r ≡ Some A → Stands S r p → (i : ℕ) × (i < n) × (root i ≡ r) × (route i ≡ p)
+  pub all : (r : ℕ) (p : Route) (A : Box) → R r ≡ Some A → Stands S r p
+      → (i : ℕ) × (i < n) × (root i ≡ r) × (route i ≡ p)
 
 -- ---- of a table: its roots, the id of a name, and its splitting
 
@@ -94,6 +96,13 @@ split_in t (Some i) = not (is_none (at t i).kids)
 
 unfoldable pub splitting : List Cell → Splitting
 splitting t r p = split_in t (find t r p)
+
+-- a leaf of the table has the box B
+pub record HasLeaf (t : List Cell) (B : Box) : Type 0 where
+  pub id : ℕ
+  pub inside : id < length t
+  pub whole : (at t id).kids ≡ None
+  pub box : (at t id).box ≡ B
 
 -- ---- what balance (k is 1) and conform (k is 0) are to come to
 

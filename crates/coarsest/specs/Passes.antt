@@ -1,8 +1,9 @@
--- Balance and conform as the rules say them, over a table with no limit on room: one definition over the allowed difference of
--- levels. The rules: "Balance makes passes over the leaves of the pass's start in id order: for each a still a leaf, each other b
--- still a leaf, if a's level exceeds b's by two or more and they share an edge, b is split. Conform: if a is coarser than b and they
--- share an edge, a is split and the next a is taken. Both end after a pass without a split."
-use Rattle.std.specs.Prelude.{ℕ, zero, suc, ◌+◌, ◌*◌, ◌-◌, Bool, true, false, ◌&&◌, List, [], ◌∷◌, ltb, eqb, length}
+-- Balance and conform as the rules say them, over a table with no limit on room: one definition over the allowed
+-- difference of levels. The rules: "Balance makes passes over the leaves of the pass's start in id order: for each a
+-- still a leaf, each other b still a leaf, if a's level exceeds b's by two or more and they share an edge, b is split.
+-- Conform: if a is coarser than b and they share an edge, a is split and the next a is taken. Both end after a pass
+-- without a split."
+use Rattle.std.specs.Prelude.{ℕ, zero, suc, ◌+◌, ◌*◌, ◌-◌, Bool, true, false, ◌&&◌, List, [], ◌∷◌, length, ◌==◌, nat_lt}
 use Rattle.cell.specs.Boxes.{shares_edge}
 use Rattle.table.specs.Mesh.{Cell, at, split, is_none, is_leaf}
 use Rattle.table.specs.Leaves.{ids_to}
@@ -12,7 +13,7 @@ use Rattle.coarsest.specs.declared.Engine.TheVariants.{Balancing, Conforming}
 -- the leaf C has to be split for the leaf F: F is finer by more than k levels, and they share an edge.
 -- No cell is finer than itself, so this says "other" too
 abbrev pub due_cells : ℕ → Cell → Cell → Bool
-due_cells k F C = is_none F.kids && (is_none C.kids && (ltb (C.level + k) F.level && shares_edge F.box C.box))
+due_cells k F C = is_none F.kids && (is_none C.kids && (nat_lt (C.level + k) F.level && shares_edge F.box C.box))
 
 unfoldable pub due : ℕ → List Cell → ℕ → ℕ → Bool
 due k t f c = due_cells k (at t f) (at t c)
@@ -21,8 +22,8 @@ abbrev pub split_if : Bool → List Cell → ℕ → List Cell
 split_if true t c = split t c
 split_if false t c = t
 
--- one pair (a, b): balance splits b, conform a, and nothing is done unless both are still leaves. Once a is split no pair of a is due,
--- so that conform takes the next a
+-- one pair (a, b): balance splits b, conform a, and nothing is done unless both are still leaves. Once a is split no
+-- pair of a is due, so that conform takes the next a
 unfoldable pub step : Engine → ℕ → List Cell → ℕ → ℕ → List Cell
 step Balancing k t a b = split_if (due k t a b) t b
 step Conforming k t a b = split_if (due k t b a) t a
@@ -52,7 +53,7 @@ pass e k t = each_with e k t (leaves_of t) (leaves_of t)
 -- passes until one makes no split, or n of them were made
 unfoldable pub run : Engine → ℕ → ℕ → List Cell → List Cell
 run e k zero t = t
-run e k (suc n) t = elim (eqb (length (pass e k t)) (length t)) [ true ↦ t | false ↦ run e k n (pass e k t) ]
+run e k (suc n) t = elim (length (pass e k t) == length t) [ true ↦ t | false ↦ run e k n (pass e k t) ]
 
 -- how many splits a leaf with n levels below it can still see, and all leaves of a table
 abbrev pub splits_below : ℕ → ℕ
@@ -70,8 +71,8 @@ abbrev pub splits_left : ℕ → List Cell → ℕ
 splits_left M [] = 0
 splits_left M (c ∷ cs) = left_of M c + splits_left M cs
 
--- what the passes end in. There are never more passes with a split than splits left: proofs/Evened.antt shows that the last pass made
--- no split, and that no larger bound ends otherwise
+-- what the passes end in. There are never more passes with a split than splits left: proofs/Evened.antt shows that the
+-- last pass made no split, and that no larger bound ends otherwise
 unfoldable pub evened : Engine → ℕ → ℕ → List Cell → List Cell
 evened e k M t = run e k (splits_left M t) t
 

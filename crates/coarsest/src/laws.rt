@@ -1,6 +1,7 @@
 //! The laws of the passes: each function ensures one of them, for every table, and does nothing.
 ghost use Rattle.coarsest.specs.Laws.{CoarsestIsReached, CoarsestIsOne, PassesEnd, StaysFormed, KeepsRoots};
-ghost use Rattle.coarsest.specs.Laws.{MoreSplitsEndFiner, PartsEndTheSame, NeedsTheCellsReached, PassSettles};
+ghost use Rattle.coarsest.specs.Laws.{SplittingTellsLeaves, MoreSplitsEndFiner, PartsEndTheSame, NeedsTheCellsReached};
+ghost use Rattle.coarsest.specs.Laws.{PassSettles};
 
 /// What the passes end in is the coarsest splitting that they may end in.
 pub fn coarsest_is_reached()
@@ -25,6 +26,11 @@ pub fn stays_formed()
 /// No root is moved, made or lost.
 pub fn keeps_roots()
     ensures { KeepsRoots }
+{}
+
+/// A splitting and the roots are all that the leaves depend on, whatever the cells' ids are.
+pub fn splitting_tells_leaves()
+    ensures { SplittingTellsLeaves }
 {}
 
 /// Who marks more cells gets a mesh that is nowhere coarser.

@@ -1,5 +1,5 @@
 -- What the rules say of contact between two rectangles with signed coordinates.
-use Rattle.std.specs.Prelude.{Bool, ◌&&◌, cond, [], ◌∷◌, Result}
+use Rattle.std.specs.Prelude.{Bool, ◌&&◌, [], ◌∷◌, Result, if◌then◌else◌}
 use Rattle.std.specs.Int.Signed.{lt_z}
 use Rattle.refusals.specs.Said.{Said, accepted, refused, said, bit}
 use Rattle.refusals.specs.declared.Refusal.{Refusal}
@@ -21,4 +21,6 @@ contact_said = said (λ b. bit b ∷ [])
 
 -- what is to be said: refusal 3 at place 0, or whether they share an edge
 unfoldable pub contact_says : Rect → Rect → Said
-contact_says a b = cond (sound_rect a && sound_rect b) (accepted (bit (shares_edge (moved a) (moved b)) ∷ [])) (refused 3 0)
+contact_says a b =
+    if sound_rect a && sound_rect b then accepted (bit (shares_edge (moved a) (moved b)) ∷ [])
+    else refused 3 0

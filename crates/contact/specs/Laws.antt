@@ -6,4 +6,6 @@ use Rattle.contact.specs.Contact.{contact_said, contact_says}
 
 -- two answers that the contract of `between` permits are one
 abbrev pub OneContact : Type 0
-OneContact = (a b : Rect) (r q : Result Bool Refusal) → contact_said r ≡ contact_says a b → contact_said q ≡ contact_says a b → r ≡ q
+OneContact =
+    (a b : Rect) (r q : Result Bool Refusal)
+    → contact_said r ≡ contact_says a b → contact_said q ≡ contact_says a b → r ≡ q

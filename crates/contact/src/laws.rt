@@ -1,4 +1,4 @@
-// What the contract of contact permits.
+//! What the contract of contact permits.
 ghost use Rattle.contact.specs.Laws.{OneContact};
 
 /// The contract of `between` permits one answer.

@@ -1,4 +1,4 @@
-// Whether two rectangles share an edge, for a caller with signed coordinates.
+//! Whether two rectangles share an edge, for a caller with signed coordinates.
 #![tactic(auto)]
 
 ghost use Rattle.std.specs.Prelude.{◌≡◌};

@@ -18,7 +18,7 @@ use Rattle.coarsest.proofs.Rows.{row-none}
 use Rattle.coarsest.proofs.Settled.{Calm, calm-keeps}
 use Rattle.search.specs.declared.marks.Marks.{Marks}
 use Rattle.search.specs.declared.marks.Levels.{Levels}
-use Rattle.search.specs.Marks.{mark_at, KeepsMarks, Wanted, Marked, Unmarked}
+use Rattle.search.specs.Marks.{mark_at, KeepsMarks, Wanted, Marked, MarksEach, IsOfFour, Unmarked}
 use Rattle.search.proofs.Marking.{kid-meets}
 use Rattle.even.proofs.Pairs.{no_true}
 use Rattle.even.specs.declared.evener.Evener.{Evener}
@@ -67,13 +67,13 @@ module _ (e : Engine) (k M : ℕ) (t : List Cell) (formed : Formed M t) (p f : �
       record { leaf = w.coarse; fine = s.0; coarse = s.1; meets = kid-meets M t formed p f y a q kids z ha (shares-sym (at t y).box (at t a).box w.shares) }
 
   pub kid-met : (n : ℕ) → n ≤ length t → (old mid new : Marks) → Marked (λ (a : ℕ). a < n) (Wanted t p levels) old mid
-      → Marked (λ (a : ℕ). (f ≤ a) × (a < f + 4)) (λ (a : ℕ). a ≡ a) mid new → (y : ℕ) → f ≤ y → y < f + 4
+      → MarksEach (IsOfFour f) mid new → (y : ℕ) → f ≤ y → y < f + 4
       → (mark_at new y ≡ true) × ((a : ℕ) → a < n → is_due e k t a y ≡ true → mark_at new a ≡ true)
   kid-met n hn old mid new near four y l h =
       let q = quad_at (y - f) in
       let g = num-quad (y - f) (omega arith) in
       let z : y ≡ f + num q = omega arith in (
-        four.marked y (l, h) (λ _. y),
+        four.marked y (l, h) tt,
         λ a ha d. four.kept a (near.marked a ha (wanted_by e spans q y a z (omega arith) d)),
       )
 

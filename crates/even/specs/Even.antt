@@ -1,5 +1,6 @@
 -- What balance and conform say, what the row then holds, and the coarsest splitting by names.
-use Rattle.std.specs.Prelude.{ℕ, ◌+◌, ◌*◌, ◌-◌, ◌/◌, ◌<◌, ◌≤◌, ◌≡◌, if◌then◌else◌, nat_le, List, [], ◌∷◌, ℤ, length, Result}
+use Rattle.std.specs.Prelude.{ℕ, ◌+◌, ◌*◌, ◌-◌, ◌/◌, ◌<◌, ◌≤◌, ◌≡◌, if◌then◌else◌, nat_le, List, [], ◌∷◌, ℤ, length}
+use Rattle.std.specs.Prelude.{Result}
 use Rattle.refusals.specs.Said.{Said, accepted, refused, refusal, said}
 use Rattle.refusals.specs.declared.Refusal.{Refusal}
 use Rattle.refusals.specs.declared.Refusal.TheVariants.{BadTable, NoRoom}
@@ -27,17 +28,19 @@ unfoldable pub even_says : Engine → ℕ → List ℤ → Head → Said
 even_says e k row head =
     if well_formed row head.count head.max_level then
     (if nat_le (length (even_cells e k row head)) (length row / 8) then
-    accepted ((length (even_cells e k row head) - head.count) / 4 ∷ length (even_cells e k row head) ∷ head.max_level ∷ [])
+    (let count = length (even_cells e k row head) in
+    accepted ((count - head.count) / 4 ∷ count ∷ head.max_level ∷ []))
     else refusal NoRoom)
     else refusal BadTable
 
 -- exactly those cells, id for id, padded with zeros; a refused call changes nothing
 unfoldable pub even_row : Engine → ℕ → List ℤ → Head → List ℤ
-even_row e k row head = if is_accepted (even_says e k row head) then row_of (even_cells e k row head) (length row) else row
+even_row e k row head =
+    if is_accepted (even_says e k row head) then row_of (even_cells e k row head) (length row) else row
 
--- The promise with no word of passes. A well-formed table has a coarsest splitting; if that has no more cells than there are slots the call
--- is accepted with exactly that count, and what was done is that splitting; if it has more, the answer is 6. A table that is not well
--- formed: 7. Refused, the row is as it was
+-- The promise with no word of passes. A well-formed table has a coarsest splitting; if that has no more cells than
+-- there are slots the call is accepted with exactly that count, and what was done is that splitting; if it has more,
+-- the answer is 6. A table that is not well formed: 7. Refused, the row is as it was
 pub record EndsCoarsest (k : ℕ) (head : Head) (old new : List ℤ) (said : Said) : Type 0 where
   pub exists : WellFormed old head.count head.max_level → (cells : ℕ) × Needs k head.max_level (cells_in old head) cells
   pub fits : WellFormed old head.count head.max_level → (cells : ℕ) → Needs k head.max_level (cells_in old head) cells

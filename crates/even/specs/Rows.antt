@@ -12,7 +12,8 @@ marked (Some i) = pos i
 -- x0 y0 x1 y1 level parent first-child polygon
 abbrev pub numbers_of : Cell → List ℤ
 numbers_of c =
-    on c.box.x0 ∷ on c.box.y0 ∷ on c.box.x1 ∷ on c.box.y1 ∷ pos c.level ∷ marked c.parent ∷ marked c.kids ∷ pos c.polygon ∷ []
+    on c.box.x0 ∷ on c.box.y0 ∷ on c.box.x1 ∷ on c.box.y1
+    ∷ pos c.level ∷ marked c.parent ∷ marked c.kids ∷ pos c.polygon ∷ []
 
 unfoldable pub flat : List Cell → List ℤ
 flat [] = []

@@ -121,8 +121,8 @@ impl Evener<'_> {
     // The levels of the leaves whose rows a new leaf of this level can concern.
     fn concerned(&self, max_level: u64, level: u64) -> Levels
         requires { level ≤ 64 }
-        ensures { (x : ℕ) → Reaches self.now.engine self.now.difference max_level level x
-            → (result.low ≤ x) × (x ≤ result.high) }
+        ensures low { (x : ℕ) → Reaches self.now.engine self.now.difference max_level level x → result.low ≤ x }
+        ensures high { (x : ℕ) → Reaches self.now.engine self.now.difference max_level level x → x ≤ result.high }
     {
         match self.engine {
             Engine::Balancing => Levels {

@@ -22,7 +22,8 @@ NoNodeHangs =
 abbrev pub BalanceHangsNot : Type 0
 BalanceHangsNot =
     (max_level : ℕ) (t : List Cell) (ps : List Poly) (k : ℕ) (p : Poly) → Formed max_level t
-    → slice_get ps k ≡ Some p → OneStrip t k → NoneHangs (network (balance max_level t) ps) p (leaves_of (balance max_level t) k)
+    → slice_get ps k ≡ Some p → OneStrip t k
+    → NoneHangs (network (balance max_level t) ps) p (leaves_of (balance max_level t) k)
 
 -- and after conform a polygon's corner that lies on a side of one of its leaves is an end of that side
 abbrev pub ConformMeetsAtEnds : Type 0

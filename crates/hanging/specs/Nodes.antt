@@ -19,7 +19,8 @@ pub record Corner (r : Box) (x y : ℕ) : Type 0 where
   pub across : End r.x0 r.x1 x
   pub upright : End r.y0 r.y1 y
 
--- where the point (x, y) may lie on a side of the box r: the ends of the side and the point's place on it are in the relation P
+-- where the point (x, y) may lie on a side of the box r: the ends of the side and the point's place on it are in the
+-- relation P
 pub record OnSides (P : ℕ → ℕ → ℕ → Type 0) (r : Box) (x y : ℕ) : Type 0 where
   pub south : y ≡ r.y0 → r.x0 ≤ x → x ≤ r.x1 → P r.x0 r.x1 x
   pub north : y ≡ r.y1 → r.x0 ≤ x → x ≤ r.x1 → P r.x0 r.x1 x
@@ -30,7 +31,8 @@ pub record OnSides (P : ℕ → ℕ → ℕ → Type 0) (r : Box) (x y : ℕ) : 
 abbrev pub EdgeOf : Net → Node → Node → Type 0
 EdgeOf n a b = Joined n.nodes n.edges a b
 
--- of the side from a to b, with m at its middle: "an end of that edge or its middle, and at the middle both halves are edges of the net"
+-- of the side from a to b, with m at its middle: "an end of that edge or its middle, and at the middle both halves are
+-- edges of the net"
 pub data Held (n : Net) (a m b x : Node) : Type 0 where
   first : x ≡ a → Held n a m b x
   last : x ≡ b → Held n a m b x

@@ -54,4 +54,5 @@ Conformed t = Even 0 t
 -- the tables that refinement makes of t: leaves above the level M are split, one after another
 pub data Splits (M : ℕ) (t : List Cell) : List Cell → Type 0 where
   start : Splits M t t
-  next : {u : List Cell} → Splits M t u → (c : ℕ) → c < length u → (at u c).kids ≡ None → (at u c).level < M → Splits M t (split u c)
+  next : {u : List Cell} → Splits M t u → (c : ℕ) → c < length u → (at u c).kids ≡ None → (at u c).level < M
+      → Splits M t (split u c)

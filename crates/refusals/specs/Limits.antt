@@ -1,6 +1,7 @@
 -- The rules' table of ranges, for the contracts: the constants of src/limits.rt, which has each number once.
 use Rattle.std.specs.Prelude.{ℕ, nat_abs}
-use Rattle.refusals.specs.declared.limits.TheConstants.{COORDINATE, MAX_LEVEL, CAP, CELL, LAYERS, POLYGONS, RING_POINTS, SLOTS}
+use Rattle.refusals.specs.declared.limits.TheConstants.{COORDINATE, MAX_LEVEL, CAP, CELL, LAYERS, POLYGONS, RING_POINTS}
+use Rattle.refusals.specs.declared.limits.TheConstants.{SLOTS}
 
 -- a coordinate lies from -coordinate to coordinate
 abbrev pub coordinate : ℕ

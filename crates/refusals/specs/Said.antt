@@ -1,7 +1,8 @@
 -- What a call says, in the rules' terms: accepted, with its values, or refused, with a number and a place.
 use Rattle.std.specs.Prelude.{ℕ, Bool, true, false, List, Result, Ok, Err}
 use Rattle.refusals.specs.declared.Refusal.{Refusal}
-use Rattle.refusals.specs.declared.Refusal.TheVariants.{WrongVersion, WrongLength, OutOfRange, Slanted, UnevenCell, NoRoom, BadTable, NoSuchCell, AlreadySplit, FinestLevel}
+use Rattle.refusals.specs.declared.Refusal.TheVariants.{WrongVersion, WrongLength, OutOfRange, Slanted, UnevenCell}
+use Rattle.refusals.specs.declared.Refusal.TheVariants.{NoRoom, BadTable, NoSuchCell, AlreadySplit, FinestLevel}
 
 pub data Said : Type 0 where
   accepted : List ℕ → Said

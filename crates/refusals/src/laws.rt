@@ -1,4 +1,4 @@
-// What the form of every contract of this project comes to.
+//! What the form of every contract of this project comes to.
 ghost use Rattle.refusals.specs.Laws.{PermitsOneAnswer};
 
 /// One promise, one answer: a contract says what is said of an answer, and two answers of which the same is said are

@@ -1,4 +1,4 @@
-// Why a call is refused, and the ranges that its values must keep: once, for every crate.
+//! Why a call is refused, and the ranges that its values must keep: once, for every crate.
 #![tactic(auto)]
 
 ghost use Rattle.std.specs.Prelude.{◌≡◌, ◌<◌};
@@ -34,7 +34,7 @@ pub struct Code {
 impl Refusal {
     pub fn code(self) -> Code
         ensures number_and_place { refused result.number result.place ≡ refusal self }
-        ensures above_0 { 0 < result.number }
+        ensures above_zero { 0 < result.number }
     {
         let (number, place) = match self {
             Refusal::WrongVersion => (1, 0),

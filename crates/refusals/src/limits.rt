@@ -1,4 +1,4 @@
-// The rules' table of ranges: each number once. specs/Limits.antt names them for the contracts.
+//! The rules' table of ranges: each number once. specs/Limits.antt names them for the contracts.
 
 /// A coordinate lies within this many ticks of 0, either way: 2^36.
 pub const COORDINATE: i64 = 1 << 36;

@@ -1,5 +1,5 @@
 -- Marks put together from parts of what is to be seen. Assumes nothing.
-use Rattle.std.proofs.Common.{ℕ, ◌+◌, ◌/◌, ◌<◌, ◌≤◌, ◌≡◌, refl, sym, ap, subst, ◌∙◌, Bool, true, false, true≢false, ◌⊎◌, ⊎_elim, None, Some, List, arith, length}
+use Rattle.std.proofs.Common.{ℕ, ◌+◌, ◌/◌, ◌<◌, ◌≤◌, ◌≡◌, sym, ap, subst, ◌∙◌, Bool, true, false, true≢false, ◌⊎◌, ⊎_elim, None, Some, List, arith, length}
 use Rattle.cell.specs.Boxes.{Quad, num, quadrant, shares_edge}
 use Rattle.table.specs.Mesh.{Cell, at}
 use Rattle.table.specs.Formed.{Formed}
@@ -7,7 +7,7 @@ use Rattle.table.proofs.Meshes.{num-below, kids-in}
 use Rattle.search.specs.Search.{meet, Under}
 use Rattle.search.specs.declared.marks.Marks.{Marks}
 use Rattle.search.specs.declared.marks.Levels.{Levels}
-use Rattle.search.specs.Marks.{Wanted, Marked}
+use Rattle.search.specs.Marks.{Wanted, Marked, MarksEach}
 use Rattle.search.proofs.Meeting.{Meet, Above, under-above, meet-is, of-meet, shares-meet, quadrant-meet, straight}
 use Rattle.search.proofs.Least.{Among, under-leaf, among_next, among_kids}
 use Rattle.search.proofs.Rooted.{Aside}
@@ -44,8 +44,8 @@ module _ (M : ℕ) (t : List Cell) (formed : Formed M t) (p : ℕ) (levels : Lev
 
   -- c itself, where it is a leaf: marked, or too coarse
   module _ (leaf : (at t c).kids ≡ None) where
-    pub leaf-marked : (old new : Marks) → Marked (λ (a : ℕ). c ≡ a) (λ (a : ℕ). a ≡ a) old new → Marked (Under t c) (Wanted t p levels) old new
-    leaf-marked old new x = record { kept = x.kept; marked = λ a u w. x.marked a (under-leaf t c leaf a u) refl }
+    pub leaf-marked : (old new : Marks) → MarksEach (λ (a : ℕ). c ≡ a) old new → Marked (Under t c) (Wanted t p levels) old new
+    leaf-marked old new x = record { kept = x.kept; marked = λ a u w. x.marked a (under-leaf t c leaf a u) tt }
 
     pub leaf-unwanted : (at t c).level < levels.low → (a : ℕ) → Under t c a → Wanted t p levels a → ⊥
     leaf-unwanted h a u w =

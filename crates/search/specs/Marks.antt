@@ -1,5 +1,5 @@
 -- Marks on ids, one mark for each eight of them: which leaves a search marked.
-use Rattle.std.specs.Prelude.{ℕ, ◌/◌, ◌<◌, ◌≤◌, ◌≡◌, Bool, true, false, List, slice_index_or, None}
+use Rattle.std.specs.Prelude.{ℕ, ◌+◌, ◌/◌, ◌<◌, ◌≤◌, ◌≡◌, Bool, true, false, List, slice_index_or, None, ⊤}
 use Rattle.table.specs.Mesh.{Cell, at}
 use Rattle.search.specs.declared.marks.Marks.{Marks}
 use Rattle.search.specs.declared.marks.Levels.{Levels}
@@ -16,6 +16,14 @@ KeepsMarks old new = (a : ℕ) → mark_at old a ≡ true → mark_at new a ≡ 
 pub record Marked (seen wanted : ℕ → Type 0) (old new : Marks) : Type 0 where
   pub kept : KeepsMarks old new
   pub marked : (a : ℕ) → seen a → wanted a → mark_at new a ≡ true
+
+-- every mark stays, and each of these ids has one
+abbrev pub MarksEach : (ℕ → Type 0) → Marks → Marks → Type 0
+MarksEach ids old new = Marked ids (λ a. ⊤) old new
+
+-- one of the four ids from `first` on
+abbrev pub IsOfFour : ℕ → ℕ → Type 0
+IsOfFour first a = (first ≤ a) × (a < first + 4)
 
 -- no id from a below r has a mark
 abbrev pub Unmarked : Marks → ℕ → ℕ → Type 0

@@ -1,16 +1,17 @@
 -- What the searches find: closed boxes that meet, the subtree of a cell, and the least id of a kind.
-use Rattle.std.specs.Prelude.{ℕ, ◌+◌, ◌/◌, ◌<◌, ◌≤◌, ◌≡◌, Bool, true, false, ◌&&◌, List, [], ◌∷◌, ltb, leb, get_or, None, Some}
+use Rattle.std.specs.Prelude.{ℕ, ◌+◌, ◌/◌, ◌<◌, ◌≤◌, ◌≡◌, Bool, true, false, ◌&&◌, List, [], ◌∷◌, None, Some, nat_lt}
+use Rattle.std.specs.Prelude.{nat_le}
 use Rattle.cell.specs.Boxes.{Box, num}
 use Rattle.table.specs.Mesh.{Cell, at}
 use Rattle.coarsest.specs.Names.{Route}
 
 -- two closed boxes have a point in common
 unfoldable pub meet : Box → Box → Bool
-meet a b = (leb a.x0 b.x1 && leb b.x0 a.x1) && (leb a.y0 b.y1 && leb b.y0 a.y1)
+meet a b = (nat_le a.x0 b.x1 && nat_le b.x0 a.x1) && (nat_le a.y0 b.y1 && nat_le b.y0 a.y1)
 
 -- the cell C meets A and is coarser by more than k
 unfoldable pub near_cells : ℕ → Cell → Cell → Bool
-near_cells k A C = ltb (C.level + k) A.level && meet A.box C.box
+near_cells k A C = nat_lt (C.level + k) A.level && meet A.box C.box
 
 -- the route from c, the topmost quadrant first, leads to b
 abbrev pub Reach : List Cell → Route → ℕ → ℕ → Type 0
@@ -22,7 +23,8 @@ pub record Under (t : List Cell) (c b : ℕ) : Type 0 where
   pub route : Route
   pub reach : Reach t route c b
 
--- r is the least id from `from` below `best` for which `asks` holds, of all ids that are `seen`; best, where there is none
+-- r is the least id from `from` below `best` for which `asks` holds, of all ids that are `seen`; best, where there is
+-- none
 pub record Least (asks : ℕ → Bool) (seen : ℕ → Type 0) (from best r : ℕ) : Type 0 where
   pub most : r ≤ best
   pub found : r < best → (from ≤ r) × (asks r ≡ true)

@@ -1,5 +1,5 @@
 //! A cell whose neighbours are looked for, from the roots down.
-ghost use Rattle.std.specs.Prelude.{◌≡◌, true, false, ℕ, ◌+◌, ◌*◌, ◌<◌, ◌≤◌, pos, length, slice_index_or};
+ghost use Rattle.std.specs.Prelude.{◌≡◌, IsTrue, IsFalse, ℕ, ◌+◌, ◌*◌, ◌<◌, ◌≤◌, pos, length, slice_index_or};
 ghost use Rattle.std.specs.Int.Signed.{lt_z};
 ghost use Rattle.cell.specs.Cells.{box_of};
 ghost use Rattle.table.specs.Slots.{cell_at, in_slot};
@@ -28,9 +28,9 @@ fn below(row: &[i64], i: usize, j: usize) -> bool
 fn slots_meet(row: &[i64], a: usize, c: usize) -> bool
     requires a_inside { a * 8 + 8 ≤ length row.now }
     requires c_inside { c * 8 + 8 ≤ length row.now }
-    requires a_exact { in_slot row.now a ≡ true }
-    requires c_exact { in_slot row.now c ≡ true }
-    ensures { result ≡ false → meet (box_of (cell_at row.now a)) (box_of (cell_at row.now c)) ≡ false }
+    requires a_exact { IsTrue (in_slot row.now a) }
+    requires c_exact { IsTrue (in_slot row.now c) }
+    ensures { IsFalse result → IsFalse (meet (box_of (cell_at row.now a)) (box_of (cell_at row.now c))) }
 {
     let apart = below(row, c * 8 + 2, a * 8)
         || below(row, a * 8 + 2, c * 8)
@@ -79,8 +79,8 @@ impl<'a> Around<'a> {
     // False only if the closed boxes of the two cells have no point in common.
     fn meets(&self, c: usize) -> bool
         requires { c < self.now.table.head.count }
-        ensures { result ≡ false
-            → meet (at (cells self.now.table) self.now.cell).box (at (cells self.now.table) c).box ≡ false }
+        ensures { IsFalse result
+            → IsFalse (meet (at (cells self.now.table) self.now.cell).box (at (cells self.now.table) c).box) }
     {
         slots_meet(self.table.row, self.cell, c)
     }
@@ -88,8 +88,8 @@ impl<'a> Around<'a> {
     // The same of a root's box: false for any other cell.
     fn meets_root(&self, c: usize) -> bool
         requires { c < self.now.table.head.count }
-        ensures { result ≡ false → (at (cells self.now.table) c).level ≡ 0
-            → meet (at (cells self.now.table) self.now.cell).box (at (cells self.now.table) c).box ≡ false }
+        ensures { IsFalse result → (at (cells self.now.table) c).level ≡ 0
+            → IsFalse (meet (at (cells self.now.table) self.now.cell).box (at (cells self.now.table) c).box) }
     {
         self.table.level(c) == 0 && self.meets(c)
     }
@@ -99,8 +99,8 @@ impl<'a> Around<'a> {
     #[tactic(auto, using(crate::proofs::Meeting::nearing))]
     fn is_near(&self, difference: u64, c: usize) -> bool
         requires { c < self.now.table.head.count }
-        ensures { result ≡ false
-            → near_cells difference (at (cells self.now.table) self.now.cell) (at (cells self.now.table) c) ≡ false }
+        ensures { IsFalse result
+            → IsFalse (near_cells difference (at (cells self.now.table) self.now.cell) (at (cells self.now.table) c)) }
     {
         self.meets(c)
             && difference

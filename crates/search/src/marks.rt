@@ -1,9 +1,12 @@
 //! Marks on ids, one for each eight of them: the leaves that a pass of balance or conform has to look at.
-ghost use Rattle.std.specs.Prelude.{◌≡◌, ℕ, ◌+◌, ◌<◌, ◌≤◌, true, false, IsTrue};
-ghost use Rattle.search.specs.Marks.{Marked, Unmarked, mark_at};
+ghost use Rattle.std.specs.Prelude.{◌≡◌, ℕ, ◌+◌, ◌<◌, ◌≤◌, IsTrue, IsFalse};
+ghost use Rattle.refusals.specs.Limits.{max_slots};
+ghost use Rattle.search.specs.Marks.{MarksEach, IsOfFour, Unmarked, mark_at};
+
+use refusals::limits::SLOTS;
 
 /// One mark for each eight ids of the most slots that a table can have.
-pub const GROUPS: usize = 2048;
+pub const GROUPS: usize = SLOTS / 8;
 
 /// A mark stands for eight ids.
 #[derive(Drop)]
@@ -14,7 +17,7 @@ pub struct Marks {
 impl Marks {
     /// Every id is marked.
     pub fn all() -> Marks
-        ensures { (a : ℕ) → a < 16384 → mark_at result a ≡ true }
+        ensures { (a : ℕ) → a < max_slots → IsTrue (mark_at result a) }
     {
         Marks {
             groups: [true; GROUPS],
@@ -23,15 +26,15 @@ impl Marks {
 
     /// Takes all marks away.
     pub fn clear(&mut self)
-        ensures { (a : ℕ) → mark_at self.new a ≡ false }
+        ensures { (a : ℕ) → IsFalse (mark_at self.new a) }
     {
         self.groups.fill(false);
     }
 
     /// Marks the four ids from `first` on.
     pub fn mark_four(&mut self, first: usize)
-        requires { first + 3 < 16384 }
-        ensures { Marked (λ a. (first ≤ a) × (a < first + 4)) (λ a. a ≡ a) self.old self.new }
+        requires { first + 3 < max_slots }
+        ensures { MarksEach (IsOfFour first) self.old self.new }
     {
         self.groups[first / 8] = true;
         self.groups[(first + 3) / 8] = true;
@@ -39,8 +42,8 @@ impl Marks {
 
     /// Marks one id.
     pub fn mark(&mut self, id: usize)
-        requires { id < 16384 }
-        ensures { Marked (λ a. id ≡ a) (λ a. a ≡ a) self.old self.new }
+        requires { id < max_slots }
+        ensures { MarksEach (λ a. id ≡ a) self.old self.new }
     {
         self.groups[id / 8] = true;
     }
@@ -48,7 +51,7 @@ impl Marks {
     /// The first id from `from` below `stop` that has a mark; `stop`, where there is none.
     pub fn next(&self, from: usize, stop: usize) -> usize
         requires order { from ≤ stop }
-        requires few { stop ≤ 16384 }
+        requires few { stop ≤ max_slots }
         ensures past { from ≤ result }
         ensures within { result ≤ stop }
         ensures skipped { Unmarked self.now from result }

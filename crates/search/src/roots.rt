@@ -1,16 +1,18 @@
 //! An index of a table's roots: a box for each 64 ids that holds the roots among them, so that a search passes over
 //! most of them at once.
 ghost use Rattle.std.specs.Prelude.{◌≡◌, ℕ, ◌+◌, ◌*◌, ◌/◌, ◌%◌, ◌<◌, ◌≤◌, IsTrue};
+ghost use Rattle.refusals.specs.Limits.{max_slots};
 ghost use Rattle.table.specs.Mesh.{at};
 ghost use Rattle.table.specs.Tables.{cells};
 ghost use Rattle.search.specs.Search.{RootsBelow, Within, Clears};
 ghost use Rattle.search.specs.Roots.{HoldsRoots, Indexes, bounds_box, block_box};
 
+use refusals::limits::SLOTS;
 use table::Table;
 use table::slots::cell_at;
 
 /// One box for each 64 ids of the most slots that a table can have.
-pub const BLOCKS: usize = 256;
+pub const BLOCKS: usize = SLOTS / 64;
 
 /// A closed box.
 #[derive(Clone, Copy)]
@@ -125,7 +127,7 @@ impl Roots {
 
     /// Whether the ids from `id` on are a block that lies apart from a box.
     pub fn skips(&self, id: usize, bounds: &Bounds) -> bool
-        requires { id / 64 < 256 }
+        requires { id < max_slots }
         ensures block { IsTrue result → id % 64 ≡ 0 }
         ensures apart { IsTrue result → Clears (bounds_box bounds.now) (block_box self.now id) }
     {
@@ -149,7 +151,7 @@ fn roots_end(table: &Table<'_>) -> usize
 // Where a block of ids ends, of those below `end`.
 fn block_end(block: usize, end: usize) -> usize
     requires begins { block * 64 < end }
-    requires few { end ≤ 16384 }
+    requires few { end ≤ max_slots }
     ensures within { result ≤ end }
     ensures short { result ≤ block * 64 + 64 }
     ensures all { (i : ℕ) → i < end → i < block * 64 + 64 → i < result }

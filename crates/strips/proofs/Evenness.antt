@@ -163,7 +163,7 @@ in_insert u v (w ∷ l) m =
     (λ e. rw e m)
     (λ e. rw e (⊎_elim (λ q. inr (r (inl q))) (λ n. ⊎_elim (λ q. inl q) (λ k. inr (r (inr k))) n) m))
 
-in-sorted : (u : ℕ) (l : List ℕ) → In u l → In u (sorted l)
+pub in-sorted : (u : ℕ) (l : List ℕ) → In u l → In u (sorted l)
 unfolding In sorted
 in-sorted u [] m = m
 in-sorted u (v ∷ l) m =
@@ -187,7 +187,7 @@ in-append u (v ∷ l) m h =
     let r = in-append u l m in
     ⊎_elim (λ k. ⊎_elim (λ q. inl q) (λ n. inr (r (inl n))) k) (λ k. inr (r (inr k))) h
 
-in_map : (f : ℕ → ℕ) (n i : ℕ) → i < n → In (f i) (map f (up_to n))
+pub in_map : (f : ℕ → ℕ) (n i : ℕ) → i < n → In (f i) (map f (up_to n))
 unfolding In up_to
 in_map f zero i h = absurd (omega arith)
 in_map f (suc n) i h =

@@ -1,14 +1,15 @@
 -- Heights as they are lent and as a cell holds them: the same edges span a band. Assumes nothing.
 use Rattle.std.proofs.Common.{ℕ, zero, suc, ◌+◌, ◌-◌, ◌/◌, ◌%◌, min, ◌<◌, ◌≤◌, ◌≡◌, refl, sym, ap₂, ◌∙◌, Bool, true, false, not, ◌&&◌, ◌||◌, List, [], ◌∷◌, ◌⊎◌, inl, inr, ⊎_elim, arith, ℤ, pos, negsuc, leb, ltb, eqb, lt-ltb, le-ltb, le-leb, ltb-true, ltb-false, leb-true, leb-false, eq-eqb, ne_eqb, length, drop, get_or}
+use mathlib.Core.Bool.{xor}
 use lib.IntN.{sub_ℕ}
 use lib.Signed.{le_z}
 use borrow.Author.Tests.{lt-leb}
 use Rattle.refusals.specs.Limits.{coordinate, max_points}
 use Rattle.cell.specs.Ticks.{off, on, in_range}
 use Rattle.cell.proofs.Offsets.{below?, on-is, off-le}
-use Rattle.strips.specs.Rings.{after, edge_at, reaches, slants, slants_at, all_below, point_in_range, ring_in_range}
+use Rattle.strips.specs.Rings.{y_at, after, edge_at, reaches, slants, slants_at, all_below, point_in_range, ring_in_range}
 use Rattle.strips.specs.Levels.{level_at, crosses, apart}
-use Rattle.strips.specs.Walk.{spans, crossed, left}
+use Rattle.strips.specs.Walk.{IsBand, spans, crossed, left}
 use Rattle.cell.proofs.Contact.{and_left, and_right}
 use Rattle.strips.proofs.Picking.{split, picked-no, picked_none}
 use Rattle.strips.proofs.Walks.{crossed-flat, left-flat}
@@ -44,27 +45,6 @@ below-is (negsuc n) lo h =
     (λ (g : lo < coordinate). rw (on-low lo g) (leb-same (coordinate - suc lo) n (coordinate - suc n) lo (λ k. omega arith) (λ k. omega arith)))
     (λ (g : coordinate ≤ lo). rw (on-high lo g (omega arith)) (sym (le-leb (coordinate - suc n) lo (omega arith))))
     (below? lo coordinate)
-
-above-is : (y : ℤ) (hi : ℕ) → 0 < hi → hi ≤ coordinate + coordinate → le_z (on hi) y ≡ leb hi (off y)
-unfolding off
-above-is (pos n) hi z h =
-    ⊎_elim
-    (λ (g : hi < coordinate). rw (on-low hi g) (sym (le-leb hi (min (n + coordinate) (coordinate + coordinate)) (omega arith))))
-    (λ (g : coordinate ≤ hi). rw (on-high hi g h) (leb-same (hi - coordinate) n hi (min (n + coordinate) (coordinate + coordinate)) (λ k. omega arith) (λ k. omega arith)))
-    (below? hi coordinate)
-above-is (negsuc n) hi z h =
-    ⊎_elim
-    (λ (g : hi < coordinate). rw (on-low hi g) (leb-same n (coordinate - suc hi) hi (coordinate - suc n) (λ k. omega arith) (λ k. omega arith)))
-    (λ (g : coordinate ≤ hi). rw (on-high hi g h) (sym (lt-leb hi (coordinate - suc n) (omega arith))))
-    (below? hi coordinate)
-
--- an edge spans a band by its heights as they are lent
-pub spans-is : (ps : List (List ℤ)) (i lo hi : ℕ) → lo < hi → hi ≤ coordinate + coordinate → crosses (on lo) (on hi) (level_at ps i) (level_at ps (after ps i)) ≡ reaches lo hi (edge_at ps i)
-unfolding crosses reaches edge_at
-spans-is ps i lo hi h g =
-    let l : lo < coordinate + coordinate = omega arith in
-    let z : 0 < hi = omega arith in
-    rw (below-is (level_at ps i) lo l, above-is (level_at ps (after ps i)) hi z g, below-is (level_at ps (after ps i)) lo l, above-is (level_at ps i) hi z g) refl
 
 -- no edge goes above all coordinates
 neither : (a b : Bool) → (a && false) || (b && false) ≡ false
@@ -160,6 +140,33 @@ after-inside ps i h =
     (λ (g : i + 1 < length ps). rw (lt-ltb (i + 1) (length ps) g) g)
     (λ (g : length ps ≤ i + 1). rw (le-ltb (i + 1) (length ps) g) (omega arith))
     (below? (i + 1) (length ps))
+
+-- of two heights none of which lies inside a band, one is at its foot or below, and the other above it: they span it
+aside : (ya yb lo hi : ℕ) → lo < hi → (ya ≤ lo) ⊎ (hi ≤ ya) → (yb ≤ lo) ⊎ (hi ≤ yb)
+    → xor (leb ya lo) (leb yb lo) ≡ ((leb ya lo && leb hi yb) || (leb yb lo && leb hi ya))
+unfolding xor
+aside ya yb lo hi h a b =
+    ⊎_elim
+    (λ (p : ya ≤ lo). ⊎_elim
+    (λ (q : yb ≤ lo). rw (le-leb ya lo p, le-leb yb lo q, lt-leb hi ya (omega arith), lt-leb hi yb (omega arith)) refl)
+    (λ (q : hi ≤ yb). rw (le-leb ya lo p, le-leb hi yb q, lt-leb yb lo (omega arith)) refl)
+    b)
+    (λ (p : hi ≤ ya). ⊎_elim
+    (λ (q : yb ≤ lo). rw (le-leb yb lo q, le-leb hi ya p, lt-leb ya lo (omega arith)) refl)
+    (λ (q : hi ≤ yb). rw (lt-leb ya lo (omega arith), lt-leb yb lo (omega arith)) refl)
+    b)
+    a
+
+-- an edge spans a band by its heights as they are lent
+pub spans-is : (ps : List (List ℤ)) (i lo hi : ℕ) → IsBand ps lo hi → i < length ps
+    → crosses (on lo) (level_at ps i) (level_at ps (after ps i)) ≡ reaches lo hi (edge_at ps i)
+unfolding crosses reaches edge_at y_at
+spans-is ps i lo hi b h =
+    let t = b.tall in
+    let r = b.in_range in
+    let l : lo < coordinate + coordinate = omega arith in
+    rw (below-is (level_at ps i) lo l, below-is (level_at ps (after ps i)) lo l)
+    (aside (y_at ps i) (y_at ps (after ps i)) lo hi t (b.clear i h) (b.clear (after ps i) (after-inside ps i h)))
 
 pub slants-is : (ps : List (List ℤ)) (i : ℕ) → ring_in_range ps ≡ true → i < length ps → (apart (get_or (get_or ps i []) 0 (pos 0)) (get_or (get_or ps (after ps i) []) 0 (pos 0)) && apart (level_at ps i) (level_at ps (after ps i))) ≡ slants_at ps i
 unfolding slants edge_at

@@ -3,9 +3,11 @@ pub mod Orders
 pub mod Tallies
 pub mod Picking
 pub mod Walks
+pub mod Begins
 pub mod Levels
 pub mod Laying
 pub mod Crossing
 pub mod Evenness
+pub mod Bands
 pub mod Bounds
 pub mod One

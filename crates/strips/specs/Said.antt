@@ -1,5 +1,5 @@
 -- What the public call says, and what it leaves in the lent row.
-use Rattle.std.specs.Prelude.{ℕ, cond, List, [], ◌∷◌, ◌++◌, map, length, take, drop, ℤ, ltb, Result}
+use Rattle.std.specs.Prelude.{ℕ, List, [], ◌∷◌, ◌++◌, map, length, take, drop, ℤ, Result, if◌then◌else◌, nat_lt}
 use Rattle.refusals.specs.declared.Refusal.{Refusal}
 use Rattle.refusals.specs.Said.{Said, accepted, refused, said}
 use Rattle.cell.specs.Ticks.{on}
@@ -14,13 +14,15 @@ stripped_said = said (λ n. n ∷ [])
 abbrev pub strip_row : Strip → List ℤ
 strip_row s = on s.x0 ∷ on s.y0 ∷ on s.x1 ∷ on s.y1 ∷ []
 
--- a ring out of range is refused with 3, a slanted one with 4, at the place given; of any other ring `otherwise` is said
+-- a ring out of range is refused with 3, a slanted one with 4, at the place given; of any other ring `otherwise` is
+-- said
 abbrev pub judged : ℕ → List (List ℤ) → Said → Said
-judged place ps otherwise = cond (ring_in_range ps) (cond (ring_slants ps) (refused 4 place) otherwise) (refused 3 place)
+judged place ps otherwise =
+    if ring_in_range ps then (if ring_slants ps then refused 4 place else otherwise) else refused 3 place
 
 -- 6 for too little room; otherwise the number
 abbrev pub counted : ℕ → ℕ → Said
-counted n room = cond (ltb room n) (refused 6 0) (accepted (n ∷ []))
+counted n room = if nat_lt room n then refused 6 0 else accepted (n ∷ [])
 
 -- 3, 4, 6, each with place 0; otherwise the number of strips
 unfoldable pub strips_says : List (List ℤ) → ℕ → Said

@@ -1,5 +1,5 @@
 -- The rules' "Rings to roots", as far as the strips.
-use Rattle.std.specs.Prelude.{ℕ, cond, ◌&&◌, List, [], ◌∷◌, ◌++◌, map, length, ℤ, ltb}
+use Rattle.std.specs.Prelude.{ℕ, ◌&&◌, List, [], ◌∷◌, ◌++◌, map, length, ℤ, if◌then◌else◌, nat_lt}
 use Rattle.strips.specs.Sorted.{up_to, picked, sorted, distinct}
 use Rattle.strips.specs.Rings.{x_at, y_at, edge_at, vertical, reaches}
 use Rattle.strips.specs.declared.walk.Strip.{Strip}
@@ -10,13 +10,16 @@ levels ps = distinct (sorted (map (y_at ps) (up_to (length ps))))
 
 -- "in a band the x values of the vertical ring edges spanning it, sorted"
 unfoldable pub crossings : List (List ℤ) → ℕ → ℕ → List ℕ
-crossings ps lo hi = sorted (picked (λ i. vertical (edge_at ps i) && reaches lo hi (edge_at ps i)) (x_at ps) (up_to (length ps)))
+crossings ps lo hi =
+    sorted (picked (λ i. vertical (edge_at ps i) && reaches lo hi (edge_at ps i)) (x_at ps) (up_to (length ps)))
 
 -- they "pair up into strips; those of no width are dropped"
 unfoldable pub pair_up : ℕ → ℕ → List ℕ → List Strip
 pair_up lo hi [] = []
 pair_up lo hi (a ∷ []) = []
-pair_up lo hi (a ∷ b ∷ l) = cond (ltb a b) (record { x0 = a; y0 = lo; x1 = b; y1 = hi } ∷ pair_up lo hi l) (pair_up lo hi l)
+pair_up lo hi (a ∷ b ∷ l) =
+    if nat_lt a b then record { x0 = a; y0 = lo; x1 = b; y1 = hi } ∷ pair_up lo hi l
+    else pair_up lo hi l
 
 -- the strips of the bands that a list of levels bounds: by band, then left to right
 unfoldable pub banded : List (List ℤ) → List ℕ → List Strip
@@ -26,4 +29,4 @@ banded ps (lo ∷ hi ∷ l) = pair_up lo hi (crossings ps lo hi) ++ banded ps (h
 
 -- "fewer than 3 points": none
 unfoldable pub strips_of : List (List ℤ) → List Strip
-strips_of ps = cond (ltb (length ps) 3) [] (banded ps (levels ps))
+strips_of ps = if nat_lt (length ps) 3 then [] else banded ps (levels ps)

@@ -1,6 +1,8 @@
--- How the code goes over a ring: the y values and the vertical edges are put in order once; each band then takes from the edges, in
--- their order, those that span it. Internal: the public promise is about Strips alone.
-use Rattle.std.specs.Prelude.{ℕ, ◌+◌, ◌*◌, ◌/◌, ◌%◌, ◌<◌, ◌≤◌, min, ◌≡◌, Bool, cond, ◌&&◌, List, [], ◌∷◌, ◌++◌, map, length, take, drop, get_or, ℤ, ltb}
+-- How the code goes over a ring: the y values and the vertical edges are put in order once; each band then takes from
+-- the edges, in their order, those that span it. Internal: the public promise is about Strips alone.
+use Rattle.std.specs.Prelude.{ℕ, ◌+◌, ◌*◌, ◌/◌, ◌%◌, ◌<◌, ◌≤◌, min, ◌≡◌, ◌⊎◌, Bool, ◌&&◌, List, [], ◌∷◌, ◌++◌, map}
+use Rattle.std.specs.Prelude.{length}
+use Rattle.std.specs.Prelude.{take, drop, ℤ, if◌then◌else◌, nat_lt, slice_index}
 use Rattle.refusals.specs.Limits.{coordinate, max_points}
 use Rattle.strips.specs.Sorted.{up_to, picked, sorted}
 use Rattle.strips.specs.Rings.{x_at, y_at, edge_at, vertical, reaches}
@@ -36,9 +38,19 @@ pub record Prepared (ps : List (List ℤ)) (hs es : List ℕ) (m : ℕ) : Type 0
   pub heights : Gathered (heights_of ps) hs (length ps)
   pub edges : Gathered (edges_of ps) es m
 
+-- each edge of a list begins at one of n points
+abbrev pub BeginAtPoints : ℕ → List ℕ → Type 0
+BeginAtPoints n es = (k : ℕ) → k < length es → slice_index es k % max_points < n
+
+-- no point of the ring lies inside the band from lo to hi, which has a height and is in range
+pub record IsBand (ps : List (List ℤ)) (lo hi : ℕ) : Type 0 where
+  pub tall : lo < hi
+  pub in_range : hi ≤ coordinate + coordinate
+  pub clear : (i : ℕ) → i < length ps → (y_at ps i ≤ lo) ⊎ (hi ≤ y_at ps i)
+
 -- an edge spans a band
 unfoldable pub spans : List (List ℤ) → ℕ → ℕ → ℕ → Bool
-spans ps lo hi e = ltb lo hi && reaches lo hi (edge_at ps (e % max_points))
+spans ps lo hi e = nat_lt lo hi && reaches lo hi (edge_at ps (e % max_points))
 
 -- the x values of those edges of a list that span a band
 unfoldable pub crossed : List (List ℤ) → ℕ → ℕ → List ℕ → List ℕ
@@ -50,7 +62,9 @@ in_band ps lo hi es = pair_up lo hi (crossed ps lo hi es)
 
 -- the crossings from the edge at j on, where `find` answers j: none at the end
 unfoldable pub from : List (List ℤ) → ℕ → ℕ → List ℕ → ℕ → List ℕ
-from ps lo hi es j = cond (ltb j (length es)) (get_or es j 0 / max_points ∷ crossed ps lo hi (drop (j + 1) es)) []
+from ps lo hi es j =
+    if nat_lt j (length es) then slice_index es j / max_points ∷ crossed ps lo hi (drop (j + 1) es)
+    else []
 
 -- r is the first edge from j on that spans the band, or the number of edges
 pub record Finds (ps : List (List ℤ)) (lo hi : ℕ) (es : List ℕ) (j r : ℕ) : Type 0 where
@@ -77,11 +91,11 @@ pub record Skips (hs : List ℕ) (k r : ℕ) : Type 0 where
 
 -- the strips of a ring of at least 3 points
 unfoldable pub all_of : List (List ℤ) → List ℕ → List ℕ → List Strip
-all_of ps hs es = cond (ltb (length ps) 3) [] (walked ps es hs)
+all_of ps hs es = if nat_lt (length ps) 3 then [] else walked ps es hs
 
 -- the band to start with: the end where there are too few points
 abbrev pub start_band : List (List ℤ) → List ℕ → ℕ
-start_band ps hs = cond (ltb (length ps) 3) (length hs) 0
+start_band ps hs = if nat_lt (length ps) 3 then length hs else 0
 
 -- what an answer of `next` leaves to come
 abbrev pub ahead : List (List ℤ) → List ℕ → List ℕ → Ahead → List Strip

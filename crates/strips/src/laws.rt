@@ -1,4 +1,4 @@
-// Laws of the definitions that the contracts of this crate stand on.
+//! Laws of the definitions that the contracts of this crate stand on.
 ghost use Rattle.strips.specs.Laws.{OneOutcome, CrossingsPairUp};
 
 /// The contract of `strips` allows one answer and one row.

@@ -1,4 +1,4 @@
-// Strips of one ring: polygon_minus_polygon of the Rust with an empty second ring, in whole ticks.
+//! Strips of one ring: polygon_minus_polygon of the Rust with an empty second ring, in whole ticks.
 #![tactic(auto)]
 
 ghost use Rattle.std.specs.Prelude.{◌≡◌, ◌≤◌, length};

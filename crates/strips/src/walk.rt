@@ -1,16 +1,14 @@
-// The strips of a ring one after another. The y values and the vertical edges are put in order once; a band then meets
-// the edges that span it from left to right, so that no band sorts anything.
-ghost use Rattle.std.specs.Prelude.{◌≡◌, ◌+◌, ◌<◌, ◌≤◌, length, drop};
-ghost use Rattle.refusals.specs.Limits.{coordinate, max_points};
+//! The strips of a ring one after another. The y values and the vertical edges are put in order once; a band then meets
+//! the edges that span it from left to right, so that no band sorts anything.
+ghost use Rattle.std.specs.Prelude.{◌≡◌, ℕ, ◌+◌, ◌<◌, ◌≤◌, length, drop};
+ghost use Rattle.refusals.specs.Limits.{max_points};
 ghost use Rattle.strips.specs.Tally.{Tallied};
-ghost use Rattle.strips.specs.Walk.{heights_of, unsorted_edges, edges_of, Gathered, Prepared, Roomy, Finds, Skips, left, ahead};
+ghost use Rattle.strips.specs.Walk.{heights_of, unsorted_edges, edges_of, Gathered, Prepared, Roomy};
+ghost use Rattle.strips.specs.Walk.{BeginAtPoints, IsBand, Finds, Skips, left, ahead};
 
 use crate::{ring, tally};
 use cell::ticks;
 use refusals::limits::RING_POINTS;
-
-// The highest offset coordinate.
-pub const COORDINATES: u64 = 1 << 37;
 
 /// A part of a ring's inside, between two heights: a rectangle in offset ticks.
 #[derive(Clone, Copy)]
@@ -74,7 +72,8 @@ enum Ahead {
 // The y values, each that differs once, with how often it stands there. Answers how many differ. Internal: the row is
 // as long as the ring, which is within the limit.
 fn tally_heights(points: &[[i64; 2]], row: &mut [u64]) -> usize
-    requires { (length row.old ≡ length points.now) × (length points.now ≤ max_points) }
+    requires as_long { length row.old ≡ length points.now }
+    requires within_limit { length points.now ≤ max_points }
     ensures { Tallied (heights_of points.now) row.new result }
 {
     let mut k = 0;
@@ -86,11 +85,12 @@ fn tally_heights(points: &[[i64; 2]], row: &mut [u64]) -> usize
     k
 }
 
-// The y values in rising order. Internal, as the last. Never inlined, nor is the sort of the edges: their frames are
-// gone before the walk begins.
+/// The y values in rising order. Internal, as the last. Never inlined, nor is the sort of the edges: their frames are
+/// gone before the walk begins.
 #[inline(never)]
 pub fn sort_heights(points: &[[i64; 2]], row: &mut [u64])
-    requires { (length row.old ≡ length points.now) × (length points.now ≤ max_points) }
+    requires as_long { length row.old ≡ length points.now }
+    requires within_limit { length points.now ≤ max_points }
     ensures { row.new ≡ heights_of points.now }
 {
     let k = tally_heights(points, row);
@@ -114,7 +114,7 @@ fn gather_edges(points: &[[i64; 2]], row: &mut [u64]) -> usize
     n
 }
 
-// The vertical edges by x. Answers how many there are. Internal.
+/// The vertical edges by x. Answers how many there are. Internal.
 #[inline(never)]
 pub fn sort_edges(points: &[[i64; 2]], row: &mut [u64]) -> usize
     requires { length row.old ≡ length points.now }
@@ -137,17 +137,16 @@ fn prepare(points: &[[i64; 2]], heights: &mut [u64], edges: &mut [u64]) -> usize
     m
 }
 
-// The first edge from j on that spans a band; the number of edges where none does. Internal: the band has a height and
-// is in range.
-fn find(points: &[[i64; 2]], edges: &[u64], j: usize, lo: u64, hi: u64) -> usize
-    requires { (lo < hi) × (hi ≤ coordinate + coordinate) }
-    ensures { Finds points.now lo hi edges.now j result }
+// The first edge from j on that spans the band from lo on; the number of edges where none does. Internal: the edges are
+// the ring's.
+fn find(points: &[[i64; 2]], edges: &[u64], j: usize, lo: u64) -> usize
+    requires { BeginAtPoints (length points.now) edges.now }
+    ensures { (hi : ℕ) → IsBand points.now lo hi → Finds points.now lo hi edges.now j result }
 {
     let low = ticks::ticks(lo);
-    let high = ticks::ticks(hi);
     for k in j..edges.len() {
         let i = edges[k] % RING_POINTS as u64;
-        if ring::spans(points, i as usize, low, high) {
+        if ring::spans(points, i as usize, low) {
             return k;
         }
     }
@@ -177,6 +176,8 @@ fn next_strip(
     band: usize,
     edge: usize,
 ) -> Ahead
+    requires begin { BeginAtPoints (length points.now) edges.now }
+    requires heights { heights.now ≡ heights_of points.now }
     ensures { ahead points.now heights.now edges.now result ≡ left points.now edges.now edge (drop band heights.now) }
 {
     if heights.len() == 0 {
@@ -188,9 +189,9 @@ fn next_strip(
     while k < last {
         let lo = heights[k];
         let hi = heights[k + 1];
-        if (lo < hi) & (hi <= COORDINATES) {
-            let a = find(points, edges, j, lo, hi);
-            let b = find(points, edges, a + 1, lo, hi);
+        if (lo < hi) & (hi <= ticks::TOP) {
+            let a = find(points, edges, j, lo);
+            let b = find(points, edges, a + 1, lo);
             if b < edges.len() {
                 let x0 = edges[a] / RING_POINTS as u64;
                 let x1 = edges[b] / RING_POINTS as u64;

@@ -1,6 +1,7 @@
 -- The rules' "Well-formed table", clause by clause; and the test whose answer the code gives, which holds exactly if
 -- the definition does (proofs/Wellformed.antt). How the code comes to that answer is in Walk.antt.
-use Rattle.std.specs.Prelude.{ℕ, zero, suc, ◌+◌, ◌*◌, ◌-◌, ◌/◌, ◌%◌, ◌^◌, ◌<◌, ◌≤◌, ◌≡◌, Bool, true, ◌&&◌, cond, List, ltb, leb, eqb, ℤ, pos, nat_abs, length, get_or, None, Some}
+use Rattle.std.specs.Prelude.{ℕ, zero, suc, ◌+◌, ◌*◌, ◌-◌, ◌/◌, ◌%◌, ◌^◌, ◌<◌, ◌≤◌, ◌≡◌, Bool, true, ◌&&◌, List, ℤ, pos}
+use Rattle.std.specs.Prelude.{nat_abs, length, None, Some, ◌==◌, if◌then◌else◌, nat_lt, nat_le, slice_index_or}
 use Rattle.refusals.specs.Limits.{widest_level, max_slots, max_polygons}
 use Rattle.cell.specs.Boxes.{Quad, num, quadrant, quad_at}
 use Rattle.cell.specs.declared.Cell as Held
@@ -17,7 +18,8 @@ pub record Kid (t : List Cell) (i : ℕ) (q : Quad) (j : ℕ) : Type 0 where
   pub parent : (at t j).parent ≡ Some i
   pub polygon : (at t j).polygon ≡ (at t i).polygon
 
--- "a split cell has four children with consecutive ids, all above its own and below the count"; its level is then below max_level
+-- "a split cell has four children with consecutive ids, all above its own and below the count"; its level is then below
+-- max_level
 pub record Split (M : ℕ) (t : List Cell) (i f : ℕ) : Type 0 where
   pub above : i < f
   pub below : f + 4 ≤ length t
@@ -52,7 +54,7 @@ pub record WellFormed (t : List ℤ) (n M : ℕ) : Type 0 where
   -- "count at most slots"
   pub count : n ≤ length t / 8
   -- "all slots at or past the count zero"
-  pub rest : (j : ℕ) → n * 8 ≤ j → j < length t → get_or t j (pos 0) ≡ pos 0
+  pub rest : (j : ℕ) → n * 8 ≤ j → j < length t → slice_index_or t j (pos 0) ≡ pos 0
   -- every number of a cell is one that a cell has: its coordinates in range, the others not negative
   pub held : (i : ℕ) → i < n → in_slot t i ≡ true
   -- "level at most max_level"
@@ -69,46 +71,47 @@ all_to f zero = true
 all_to f (suc n) = all_to f n && f n
 
 abbrev pub zero_at : List ℤ → ℕ → Bool
-zero_at t j = eqb (nat_abs (get_or t j (pos 0))) 0
+zero_at t j = nat_abs (slice_index_or t j (pos 0)) == 0
 
 unfoldable pub rest_zero : List ℤ → ℕ → Bool
 rest_zero t n = all_to (λ j. zero_at t (n * 8 + j)) (length t - n * 8)
 
 -- a side from a to b is a positive multiple of the step
 unfoldable pub side_ok : ℕ → ℕ → ℕ → Bool
-side_ok step a b = ltb a b && eqb ((b - a) % step) 0
+side_ok step a b = nat_lt a b && (b - a) % step == 0
 
 unfoldable pub root_ok : ℕ → Held.Cell → Bool
-root_ok step c = eqb c.level 0 && side_ok step c.x0 c.x1 && side_ok step c.y0 c.y1
+root_ok step c = c.level == 0 && side_ok step c.x0 c.x1 && side_ok step c.y0 c.y1
 
 -- cell i is one of its parent's four
 unfoldable pub born_ok : List ℤ → ℕ → ℕ → ℕ → Bool
-born_ok t n i p = ltb p n && leb (cell_at t p).first i && ltb i ((cell_at t p).first + 4)
+born_ok t n i p = nat_lt p n && nat_le (cell_at t p).first i && nat_lt i ((cell_at t p).first + 4)
 
 -- the same cell, but for its children
 unfoldable pub same_but : Held.Cell → Held.Cell → Bool
 same_but a b =
-    eqb a.x0 b.x0 && eqb a.y0 b.y0 && eqb a.x1 b.x1 && eqb a.y1 b.y1
-    && eqb a.level b.level && eqb a.parent b.parent && eqb a.poly b.poly
+    a.x0 == b.x0 && a.y0 == b.y0 && a.x1 == b.x1 && a.y1 == b.y1
+    && a.level == b.level && a.parent == b.parent && a.poly == b.poly
 
 unfoldable pub kid_ok : List ℤ → ℕ → Held.Cell → ℕ → Bool
 kid_ok t i c k = same_but (cell_at t (c.first + k)) (child_of i (quad_at k) c)
 
 unfoldable pub kids_ok : List ℤ → ℕ → ℕ → ℕ → Held.Cell → Bool
 kids_ok t n M i c =
-    cond (eqb c.first no_cell) true
-    (ltb i c.first && leb (c.first + 4) n && ltb c.level M && kid_ok t i c 0 && kid_ok t i c 1 && kid_ok t i c 2 && kid_ok t i c 3)
+    if c.first == no_cell then true
+    else nat_lt i c.first && nat_le (c.first + 4) n && nat_lt c.level M
+    && kid_ok t i c 0 && kid_ok t i c 1 && kid_ok t i c 2 && kid_ok t i c 3
 
 unfoldable pub place_ok : List ℤ → ℕ → ℕ → ℕ → Held.Cell → Bool
-place_ok t n step i c = cond (eqb c.parent no_cell) (root_ok step c) (born_ok t n i c.parent)
+place_ok t n step i c = if c.parent == no_cell then root_ok step c else born_ok t n i c.parent
 
 unfoldable pub cell_ok : List ℤ → ℕ → ℕ → ℕ → Bool
 cell_ok t n M i =
-    in_slot t i && leb (cell_at t i).level M && ltb (cell_at t i).poly max_polygons
+    in_slot t i && nat_le (cell_at t i).level M && nat_lt (cell_at t i).poly max_polygons
     && place_ok t n (2 ^ (M + 1)) i (cell_at t i) && kids_ok t n M i (cell_at t i)
 
 unfoldable pub shape_ok : ℕ → ℕ → ℕ → Bool
-shape_ok size n M = leb M widest_level && eqb (size % 8) 0 && leb (size / 8) max_slots && leb n (size / 8)
+shape_ok size n M = nat_le M widest_level && size % 8 == 0 && nat_le (size / 8) max_slots && nat_le n (size / 8)
 
 unfoldable pub well_formed : List ℤ → ℕ → ℕ → Bool
 well_formed t n M = shape_ok (length t) n M && (rest_zero t n && all_to (cell_ok t n M) n)

@@ -17,7 +17,8 @@ TestIsDefinition = (row : List ℤ) (head : Head) → IsTable row head ↔ WellF
 abbrev pub EachLeafOnce : Type 0
 EachLeafOnce =
     (row : List ℤ) (head : Head) (i : ℕ)
-    → count_by (λ x. x == i) (leaves_in row head) ≡ (if nat_lt i head.count && is_leaf (cells_in row head) i then 1 else 0)
+    → count_by (λ x. x == i) (leaves_in row head)
+    ≡ (if nat_lt i head.count && is_leaf (cells_in row head) i then 1 else 0)
 
 -- the order by polygon has the same leaves
 abbrev pub OrderHasTheLeaves : Type 0
@@ -27,7 +28,8 @@ OrderHasTheLeaves =
 
 -- and so as many
 abbrev pub OrderIsAsLong : Type 0
-OrderIsAsLong = (row : List ℤ) (head : Head) → IsTable row head → length (order_in row head) ≡ length (leaves_in row head)
+OrderIsAsLong =
+    (row : List ℤ) (head : Head) → IsTable row head → length (order_in row head) ≡ length (leaves_in row head)
 
 -- the contracts of the leaf count and the leaf lists permit one answer, and so does that of refine
 abbrev pub OneList : Type 0

@@ -1,5 +1,7 @@
--- The cells that a table holds, as the rules speak of them: no parent and no child are `none`, and there is no limit on room.
-use Rattle.std.specs.Prelude.{ℕ, zero, suc, Bool, true, false, List, [], ◌∷◌, ◌++◌, eqb, ℤ, length, get_or, set, Option, None, Some}
+-- The cells that a table holds, as the rules speak of them: no parent and no child are `none`, and there is no limit on
+-- room.
+use Rattle.std.specs.Prelude.{ℕ, zero, suc, Bool, true, false, List, [], ◌∷◌, ◌++◌, ℤ, length, Option, None, Some, ◌==◌}
+use Rattle.std.specs.Prelude.{slice_index_or, slice_set}
 use Rattle.cell.specs.Boxes.{Box, Quad, sw, se, nw, ne, quadrant}
 use Rattle.cell.specs.declared.Cell as Held
 use Rattle.cell.specs.Cells.{no_cell, box_of}
@@ -18,7 +20,7 @@ abbrev pub past : Cell
 past = record { box = record { x0 = 0; y0 = 0; x1 = 0; y1 = 0 }; level = 0; parent = Some 0; kids = None; polygon = 0 }
 
 abbrev pub at : List Cell → ℕ → Cell
-at t i = get_or t i past
+at t i = slice_index_or t i past
 
 -- the child in a quadrant of the cell c, whose id is i
 abbrev pub child : ℕ → Cell → Quad → Cell
@@ -33,7 +35,7 @@ brood i c = child i c sw ∷ child i c se ∷ child i c nw ∷ child i c ne ∷ 
 
 -- cell i split: its four children are appended, and it names the first
 unfoldable pub split : List Cell → ℕ → List Cell
-split t i = set t i (with_kids (at t i) (length t)) ++ brood i (at t i)
+split t i = slice_set t i (with_kids (at t i) (length t)) ++ brood i (at t i)
 
 abbrev pub is_none : Option ℕ → Bool
 is_none None = true
@@ -48,7 +50,7 @@ opt_if true v = None
 opt_if false v = Some v
 
 abbrev pub opt : ℕ → Option ℕ
-opt v = opt_if (eqb v no_cell) v
+opt v = opt_if (v == no_cell) v
 
 abbrev pub mesh_cell : Held.Cell → Cell
 mesh_cell c = record { box = box_of c; level = c.level; parent = opt c.parent; kids = opt c.first; polygon = c.poly }

@@ -33,7 +33,8 @@ refine_says row head id =
     (if nat_lt id head.count then
     (if is_leaf (cells_in row head) id then
     (if nat_lt (at (cells_in row head) id).level head.max_level then
-    (if nat_le (head.count + 4) (length row / 8) then accepted ((head.count + 4) ∷ head.max_level ∷ []) else refusal NoRoom)
+    (if nat_le (head.count + 4) (length row / 8) then accepted ((head.count + 4) ∷ head.max_level ∷ [])
+    else refusal NoRoom)
     else refusal (FinestLevel id))
     else refusal (AlreadySplit id))
     else refusal (NoSuchCell id))

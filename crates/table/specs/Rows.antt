@@ -24,4 +24,5 @@ leaves_in row head = filter (is_leaf (cells_in row head)) (range_with_len 0 head
 -- the leaves by polygon, then id
 unfoldable pub order_in : List ℤ → Head → List ℕ
 order_in row head =
-    flat_map (λ p. filter (λ i. (at (cells_in row head) i).polygon == p) (leaves_in row head)) (range_with_len 0 max_polygons)
+    flat_map (λ p. filter (λ i. (at (cells_in row head) i).polygon == p) (leaves_in row head))
+    (range_with_len 0 max_polygons)

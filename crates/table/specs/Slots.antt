@@ -1,5 +1,6 @@
 -- Cells in the slots of a lent row, eight numbers to a slot: x0 y0 x1 y1 level parent first-child polygon.
-use Rattle.std.specs.Prelude.{ℕ, ◌+◌, ◌*◌, min, Bool, false, ◌&&◌, List, get_or, set, eqb, ℤ, pos, negsuc}
+use Rattle.std.specs.Prelude.{ℕ, ◌+◌, ◌*◌, min, Bool, false, ◌&&◌, List, ℤ, pos, negsuc, ◌==◌, slice_index_or}
+use Rattle.std.specs.Prelude.{slice_set}
 use Rattle.std.specs.Int.Signed.{non_neg}
 use Rattle.cell.specs.declared.Cell.{Cell}
 use Rattle.cell.specs.Ticks.{off, on, in_range}
@@ -14,18 +15,18 @@ kept n = pos (min n 9223372036854775807)
 
 -- two numbers of the row are the same
 abbrev pub same_z : ℤ → ℤ → Bool
-same_z (pos a) (pos b) = eqb a b
+same_z (pos a) (pos b) = a == b
 same_z (pos a) (negsuc b) = false
 same_z (negsuc a) (pos b) = false
-same_z (negsuc a) (negsuc b) = eqb a b
+same_z (negsuc a) (negsuc b) = a == b
 
 -- the number at an index of slot i
 abbrev pub number : List ℤ → ℕ → ℕ → ℤ
-number t i k = get_or t (i * 8 + k) (pos 0)
+number t i k = slice_index_or t (i * 8 + k) (pos 0)
 
 -- the first number of slot i
 abbrev pub start : List ℤ → ℕ → ℤ
-start t i = get_or t (i * 8) (pos 0)
+start t i = slice_index_or t (i * 8) (pos 0)
 
 -- the cell in slot i, with its coordinates moved up by 2^36
 unfoldable pub cell_at : List ℤ → ℕ → Cell
@@ -41,13 +42,15 @@ cell_at t i = record {
 }
 
 unfoldable pub stored : List ℤ → ℕ → ℤ → List ℤ
-stored = set
+stored = slice_set
 
 -- the row with the cell c in slot i
 unfoldable pub put_cell : List ℤ → ℕ → Cell → List ℤ
 put_cell t i c =
-    let coordinates = stored (stored (stored (stored t (i * 8) (on c.x0)) (i * 8 + 1) (on c.y0)) (i * 8 + 2) (on c.x1)) (i * 8 + 3) (on c.y1) in
-    stored (stored (stored (stored coordinates (i * 8 + 4) (kept c.level)) (i * 8 + 5) (kept c.parent)) (i * 8 + 6) (kept c.first)) (i * 8 + 7) (kept c.poly)
+    let corner = stored (stored t (i * 8) (on c.x0)) (i * 8 + 1) (on c.y0) in
+    let box = stored (stored corner (i * 8 + 2) (on c.x1)) (i * 8 + 3) (on c.y1) in
+    let place = stored (stored box (i * 8 + 4) (kept c.level)) (i * 8 + 5) (kept c.parent) in
+    stored (stored place (i * 8 + 6) (kept c.first)) (i * 8 + 7) (kept c.poly)
 
 -- the row with another first child for the cell in slot i
 unfoldable pub put_first : List ℤ → ℕ → ℕ → List ℤ

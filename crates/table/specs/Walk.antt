@@ -1,7 +1,7 @@
 -- What the code's walk over the cells tests, step by step. Internal: the contract of the walk is `all_to cell_ok`, and
 -- proofs/Walk.antt shows that the steps say the same. In a well-formed table the cells are roots and fours of children;
 -- the walk goes from each to the next.
-use Rattle.std.specs.Prelude.{ℕ, ◌+◌, ◌^◌, ◌≡◌, Bool, ◌&&◌, ◌||◌, cond, List, ltb, leb, eqb, ℤ, pos}
+use Rattle.std.specs.Prelude.{ℕ, ◌+◌, ◌^◌, ◌≡◌, Bool, ◌&&◌, ◌||◌, List, ℤ, pos, ◌==◌, if◌then◌else◌, nat_lt, nat_le}
 use Rattle.refusals.specs.Limits.{max_polygons}
 use Rattle.cell.specs.Boxes.{Quad, sw, se, nw, ne}
 use Rattle.cell.specs.declared.Cell as Held
@@ -26,30 +26,32 @@ kid_at t i c j q =
 unfoldable pub kids_at : List ℤ → ℕ → ℕ → ℕ → Bool
 kids_at t M i f =
     let c = cell_at t i in
-    ltb c.level M && (kid_at t i c f sw && kid_at t i c (f + 1) se && kid_at t i c (f + 2) nw && kid_at t i c (f + 3) ne)
+    nat_lt c.level M
+    && (kid_at t i c f sw && kid_at t i c (f + 1) se && kid_at t i c (f + 2) nw && kid_at t i c (f + 3) ne)
 
 -- f where it is a slot below n, and otherwise i
 abbrev pub slot_or : ℕ → ℕ → ℕ → ℕ
-slot_or f n i = cond (ltb f n) f i
+slot_or f n i = if nat_lt f n then f else i
 
 -- cell i names no child, or one past it that names it as its parent
 unfoldable pub led_at : List ℤ → ℕ → ℕ → Bool
 led_at t n i =
     let g = slot_or (cell_at t i).first n i in
-    eqb (cell_at t i).first no_cell || (ltb i g && same_z (number t g 5) (pos i))
+    (cell_at t i).first == no_cell || (nat_lt i g && same_z (number t g 5) (pos i))
 
 -- a root stands in slot i
 unfoldable pub root_at : List ℤ → ℕ → ℕ → ℕ → Bool
-root_at t n step i = in_slot t i && (ltb (cell_at t i).poly max_polygons && root_ok step (cell_at t i)) && led_at t n i
+root_at t n step i =
+    in_slot t i && (nat_lt (cell_at t i).poly max_polygons && root_ok step (cell_at t i)) && led_at t n i
 
 -- the four children of cell p stand in the slots from i on
 unfoldable pub four_at : List ℤ → ℕ → ℕ → ℕ → ℕ → Bool
 four_at t n M i p =
-    leb (i + 4) n && ltb p i && (same_z (number t p 6) (pos i) && kids_at t M p i)
+    nat_le (i + 4) n && nat_lt p i && (same_z (number t p 6) (pos i) && kids_at t M p i)
     && (led_at t n i && led_at t n (i + 1) && led_at t n (i + 2) && led_at t n (i + 3))
 
 -- the slot past the root or the four children that stand from slot i on, and 0 where neither does
 unfoldable pub past_at : List ℤ → ℕ → ℕ → ℕ → ℕ → ℕ
 past_at t n M step i =
     let p = (cell_at t i).parent in
-    cond (eqb p no_cell) (cond (root_at t n step i) (i + 1) 0) (cond (four_at t n M i p) (i + 4) 0)
+    if p == no_cell then (if root_at t n step i then i + 1 else 0) else (if four_at t n M i p then i + 4 else 0)

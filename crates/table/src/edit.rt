@@ -1,4 +1,4 @@
-// A table to be split further.
+//! A table to be split further.
 ghost use Rattle.std.specs.Prelude.{◌≡◌, ◌+◌, ◌/◌, ◌<◌, ◌≤◌, ◌↔◌, length, IsTrue, None};
 ghost use Rattle.refusals.specs.Limits.{widest_level, max_slots};
 ghost use Rattle.table.specs.Mesh.{at, split};

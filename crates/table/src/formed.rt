@@ -1,5 +1,5 @@
-// The rules' "Well-formed table", tested in one walk over the row. Cells are roots, or children in fours: a four is
-// compared with its parent, whose numbers say what the children's are, and a cell's first child must name it back.
+//! The rules' "Well-formed table", tested in one walk over the row. Cells are roots, or children in fours: a four is
+//! compared with its parent, whose numbers say what the children's are, and a cell's first child must name it back.
 ghost use Rattle.std.specs.Prelude.{◌≡◌, ◌+◌, ◌*◌, ◌/◌, ◌%◌, ◌^◌, ◌<◌, ◌≤◌, length};
 ghost use Rattle.refusals.specs.Limits.{widest_level, max_slots};
 ghost use Rattle.table.specs.Formed.{all_to, zero_at, rest_zero, side_ok, root_ok, cell_ok, shape_ok, well_formed};
@@ -37,8 +37,8 @@ fn root_ok(step: u64, c: Cell) -> bool
     (c.level == 0) & side_ok(step, c.x0, c.x1) & side_ok(step, c.y0, c.y1)
 }
 
-// Whether slot j holds the child in a quadrant of the cell c in slot p. Its numbers are compared as they stand in the row, so they need
-// no test of their own.
+// Whether slot j holds the child in a quadrant of the cell c in slot p. Its numbers are compared as they stand in the
+// row, so they need no test of their own.
 #[tactic(auto, unfolding(crate::specs::Walk::kid_at))]
 fn kid_ok(t: &[i64], p: usize, c: Cell, j: usize, q: Quadrant) -> bool
     requires parent { p * 8 + 8 ≤ length t.now }

@@ -1,5 +1,6 @@
-// What the calls on a lent table come to.
-ghost use Rattle.table.specs.Laws.{TestIsDefinition, EachLeafOnce, OrderHasTheLeaves, OrderIsAsLong, OneList, OneRefined};
+//! What the calls on a lent table come to.
+ghost use Rattle.table.specs.Laws.{TestIsDefinition, EachLeafOnce, OrderHasTheLeaves, OrderIsAsLong, OneList};
+ghost use Rattle.table.specs.Laws.{OneRefined};
 
 /// The one walk over a row says yes exactly if the rules' definition holds, clause by clause.
 pub fn test_is_definition()

@@ -1,6 +1,6 @@
-// The lent table of cells: AdaptiveGrid of the Rust over a row that the caller lends.
-//
-// A slot has eight numbers: x0, y0, x1, y1, level, parent, first child, polygon.
+//! The lent table of cells: AdaptiveGrid of the Rust over a row that the caller lends.
+//!
+//! A slot has eight numbers: x0, y0, x1, y1, level, parent, first child, polygon.
 #![tactic(auto)]
 
 pub mod edit;

@@ -1,4 +1,4 @@
-// Splitting one leaf into its four quadrants.
+//! Splitting one leaf into its four quadrants.
 ghost use Rattle.std.specs.Prelude.{◌≡◌, ◌+◌, ◌*◌, ◌<◌, ◌≤◌, length, IfOk};
 ghost use Rattle.refusals.specs.Limits.{widest_level};
 ghost use Rattle.cell.specs.Boxes.{num};

@@ -1,5 +1,5 @@
-// Cells in the slots of a lent row: loads and stores that ask nothing of the numbers there.
-ghost use Rattle.std.specs.Prelude.{◌≡◌, ◌+◌, ◌*◌, ◌<◌, ◌≤◌, length, get_or, pos};
+//! Cells in the slots of a lent row: loads and stores that ask nothing of the numbers there.
+ghost use Rattle.std.specs.Prelude.{◌≡◌, ◌+◌, ◌*◌, ◌<◌, ◌≤◌, length, pos, slice_index_or};
 ghost use Rattle.std.specs.Int.Signed.{non_neg};
 ghost use Rattle.cell.specs.Ticks.{in_range, off, on};
 ghost use Rattle.table.specs.Slots.{counted, kept, same_z, stored, cell_at, put_cell, put_first, in_slot};
@@ -9,7 +9,7 @@ use cell::Cell;
 // The number at index j, as a cell holds a coordinate, and as it holds anything else: 0 for a negative number.
 fn coordinate_at(t: &[i64], j: usize) -> u64
     requires { j < length t.now }
-    ensures { result ≡ off (get_or t.now j (pos 0)) }
+    ensures { result ≡ off (slice_index_or t.now j (pos 0)) }
 {
     cell::ticks::offset(t[j])
 }
@@ -17,7 +17,7 @@ fn coordinate_at(t: &[i64], j: usize) -> u64
 #[tactic(auto, using(crate::proofs::Numbers::counted_max))]
 fn number_at(t: &[i64], j: usize) -> u64
     requires { j < length t.now }
-    ensures { result ≡ counted (get_or t.now j (pos 0)) }
+    ensures { result ≡ counted (slice_index_or t.now j (pos 0)) }
 {
     t[j].max(0) as u64
 }
@@ -94,7 +94,7 @@ pub fn poly_at(t: &[i64], i: usize) -> u64
 /// Whether number j of the row is z, whatever the two are.
 pub fn is_at(t: &[i64], j: usize, z: i64) -> bool
     requires { j < length t.now }
-    ensures { result ≡ same_z (get_or t.now j (pos 0)) z }
+    ensures { result ≡ same_z (slice_index_or t.now j (pos 0)) z }
 {
     t[j] == z
 }
@@ -128,14 +128,14 @@ pub fn put_first(t: &mut [i64], i: usize, first: u64)
 // Whether number j is in a coordinate's range, and whether it is not negative.
 fn in_range_at(t: &[i64], j: usize) -> bool
     requires { j < length t.now }
-    ensures { result ≡ in_range (get_or t.now j (pos 0)) }
+    ensures { result ≡ in_range (slice_index_or t.now j (pos 0)) }
 {
     cell::ticks::in_range(t[j])
 }
 
 fn natural_at(t: &[i64], j: usize) -> bool
     requires { j < length t.now }
-    ensures { result ≡ non_neg (get_or t.now j (pos 0)) }
+    ensures { result ≡ non_neg (slice_index_or t.now j (pos 0)) }
 {
     0 <= t[j]
 }

@@ -1,4 +1,4 @@
-// A table to be read: a lent row and its head, judged once.
+//! A table to be read: a lent row and its head, judged once.
 ghost use Rattle.std.specs.Prelude.{◌≡◌, ◌/◌, ◌<◌, ◌≤◌, ◌↔◌, length, IsSome, IfSome};
 ghost use Rattle.std.specs.Iterator.{YieldsFirst, item_count};
 ghost use Rattle.refusals.specs.Limits.{widest_level, max_slots};

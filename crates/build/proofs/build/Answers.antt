@@ -8,7 +8,6 @@ use Rattle.build.proofs.build.Goals as goal
 -- what the test of the settings says
 settled : (b : Board) (x y : Bool) {r : Bool} → x ≡ numbers_ok b.settings (polygons b) → y ≡ list_ok b.list →
     (x && y) ≡ r → settings_ok b ≡ r
-unfolding settings_ok
 settled b x y e f g = rw (← e, ← f) g
 
 pub judge-requires : goal.judge-requires

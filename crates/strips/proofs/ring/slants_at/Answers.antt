@@ -14,4 +14,4 @@ returns c =
     let g : FitsSigned w64 (get_or (get_or ps j []) 1 (pos 0)) = search rules in
     c.differ.ensures
     ∙ rw (to_z-of_z a, to_z-of_z d, to_z-of_z f, to_z-of_z g, c.next_point-j.ensures)
-    (slants-is ps i c.requires.1 c.requires.0)
+    (slants-is ps i c.requires.in_range c.requires.inside)

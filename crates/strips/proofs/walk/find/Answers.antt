@@ -6,42 +6,42 @@ use Rattle.strips.proofs.Walks.{crossed-end, from_end, crossed-yes, crossed-no}
 use Rattle.strips.proofs.walk.find.Goals as goal
 
 pub loop-k-init : goal.loop-k-init
-loop-k-init c = refl
+loop-k-init c = λ hi b. refl
+
+pub spans-requires : goal.spans-requires
+spans-requires c = c.requires c.loop-k.k c.loop-k-test.true
 
 pub returns-then-spans : goal.returns-then-spans
-returns-then-spans c =
+returns-then-spans c = λ hi b.
     let a = c.args in
     let s = c.loop-k in
-    let e = simp (c.ticks-low.ensures, c.ticks-high.ensures, to_z-of_z (on_fits a.lo), to_z-of_z (on_fits a.hi))
-    at c.spans.ensures in
-    let t = e ∙ spans-is a.points.now (get_or a.edges.now s.k 0 % max_points) a.lo a.hi c.requires.0 c.requires.1 in
+    let e = simp (c.ticks-low.ensures, to_z-of_z (on_fits a.lo)) at c.spans.ensures in
+    let t = e ∙ spans-is a.points.now (get_or a.edges.now s.k 0 % max_points) a.lo hi b (c.requires s.k c.loop-k-test.true) in
     record {
       low = omega arith;
       high = omega arith;
       same =
-          sym s.invariant
-          ∙ crossed-yes a.points.now a.lo a.hi a.edges.now s.k c.loop-k-test.true c.requires.0
-          (sym t ∙ c.if-spans.true);
+          sym (s.invariant hi b)
+          ∙ crossed-yes a.points.now a.lo hi a.edges.now s.k c.loop-k-test.true b.tall (sym t ∙ c.if-spans.true);
     }
 
 pub loop-k-preserved : goal.loop-k-preserved
-loop-k-preserved c =
+loop-k-preserved c = λ hi b.
     let a = c.args in
     let s = c.loop-k in
-    let e = simp (c.ticks-low.ensures, c.ticks-high.ensures, to_z-of_z (on_fits a.lo), to_z-of_z (on_fits a.hi))
-    at c.spans.ensures in
-    let t = e ∙ spans-is a.points.now (get_or a.edges.now s.k 0 % max_points) a.lo a.hi c.requires.0 c.requires.1 in
-    crossed-no a.points.now a.lo a.hi a.edges.now s.k c.loop-k-test.true c.requires.0 (sym t ∙ c.if-spans.false)
-    ∙ s.invariant
+    let e = simp (c.ticks-low.ensures, to_z-of_z (on_fits a.lo)) at c.spans.ensures in
+    let t = e ∙ spans-is a.points.now (get_or a.edges.now s.k 0 % max_points) a.lo hi b (c.requires s.k c.loop-k-test.true) in
+    crossed-no a.points.now a.lo hi a.edges.now s.k c.loop-k-test.true b.tall (sym t ∙ c.if-spans.false)
+    ∙ s.invariant hi b
 
 pub returns : goal.returns
-returns c =
+returns c = λ hi b.
     let a = c.args in
     record {
       low = omega arith;
       high = omega arith;
       same =
-          sym c.loop-k.invariant
-          ∙ crossed-end a.points.now a.lo a.hi a.edges.now c.loop-k.k c.loop-k-test.false
-          ∙ sym (from_end a.points.now a.lo a.hi a.edges.now);
+          sym (c.loop-k.invariant hi b)
+          ∙ crossed-end a.points.now a.lo hi a.edges.now c.loop-k.k c.loop-k-test.false
+          ∙ sym (from_end a.points.now a.lo hi a.edges.now);
     }

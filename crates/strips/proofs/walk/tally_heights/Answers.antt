@@ -9,13 +9,16 @@ use Rattle.strips.proofs.walk.tally_heights.Goals as goal
 pub loop-i-init : goal.loop-i-init
 loop-i-init c = (omega arith, omega arith, heights-none (y_at c.args.points.now) (length c.args.points.now))
 
-pub add-k-requires : goal.add-k-requires
-add-k-requires c =
+pub add-k-requires-clause-few : goal.add-k-requires-clause-few
+add-k-requires-clause-few c =
     let ps = c.args.points.now in
     let s = c.loop-i in
     let l = ap length s.invariant.2 ∙ heights-long (y_at ps) (length ps) s.i in
-    let p = c.requires.1 in
-    (omega arith, omega arith, rw c.y_at.ensures (off-le _))
+    let p = c.requires.within_limit in
+    omega arith
+
+pub add-k-requires-clause-in_range : goal.add-k-requires-clause-in_range
+add-k-requires-clause-in_range c = rw c.y_at.ensures (off-le _)
 
 pub loop-i-preserved : goal.loop-i-preserved
 loop-i-preserved c =

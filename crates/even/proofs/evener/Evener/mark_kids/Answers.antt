@@ -53,7 +53,8 @@ returns-clause-met c y low high =
     let l = c.concerned-levels.result in
     let m = kid-met s.engine s.difference M t (formed-facts _ _ _ c.args.table.now.formed).cells c.args.parent c.args.first l
     c.requires.kids
-    (subst (λ (z : ℕ). (x : ℕ) → Reaches s.engine s.difference M z x → (l.low ≤ x) × (x ≤ l.high)) e c.concerned-levels.ensures)
+    (subst (λ (z : ℕ). (x : ℕ) → Reaches s.engine s.difference M z x → (l.low ≤ x) × (x ≤ l.high)) e
+    (λ x r. (c.concerned-levels.ensures.low x r, c.concerned-levels.ensures.high x r)))
     (length t) (omega arith) c.args.marks.now c.mark.new.marks c.mark_four.new.self
     (near c.new.result t c.args.parent l c.args.marks.now c.mark.new.marks c.new.ensures.cells c.new.ensures.cell
     (omega (arith, c.new.ensures.count, length-table c.args.table.now.row.now c.args.table.now.head.count)) c.mark.ensures)
