@@ -5,3 +5,4 @@ pub mod Boards
 pub mod Stores
 pub mod Turns
 pub mod Records
+pub mod Rounds

@@ -25,7 +25,7 @@ count_fits ps i m h e =
     let b = and_both (leb (count_of p) m) (add_up (drop (suc i) ps) (m - count_of p)) q in
     (leb-true (count_of p) m b.0, ap (λ k. add_up (drop k ps) (m - count_of p)) (add-one i) ∙ b.1)
 
-each-length : {A : Type 0} (f : A → List ℕ) (k : ℕ) → ((x : A) → length (f x) ≡ k) → (xs : List A) → length (flat_map f xs) ≡ k * length xs
+pub each-length : {A : Type 0} (f : A → List ℕ) (k : ℕ) → ((x : A) → length (f x) ≡ k) → (xs : List A) → length (flat_map f xs) ≡ k * length xs
 each-length f k h [] = sym (mul-zero k)
 each-length f k h (x ∷ xs) = length-append (f x) (flat_map f xs) ∙ rw (mul-suc k (length xs)) (omega (arith, h x, each-length f k h xs))
 
@@ -107,7 +107,7 @@ module _ (ps : List (List ℕ)) (i m : ℕ) where
 
 -- ---- lengths
 
-entry-long : (e : Entry) → length (entry_bytes e) ≡ 10
+pub entry-long : (e : Entry) → length (entry_bytes e) ≡ 10
 entry-long e = length-append (bytes_high_first 2 e.layer) (bytes_high_first 8 e.cell) ∙ omega (arith, bytes-length 2 e.layer, bytes-length 8 e.cell)
 
 pub entries-long : (rows : List (List ℕ)) → length (flat_map entry_bytes (entries_of rows)) ≡ 10 * length rows
@@ -116,7 +116,7 @@ entries-long rows = each-length entry_bytes 10 entry-long (entries_of rows) ∙ 
 pub splits-long : (xs : List ℕ) → length (flat_map (bytes_high_first 4) xs) ≡ 4 * length xs
 splits-long = each-length (bytes_high_first 4) 4 (bytes-length 4)
 
-polygon-long : (p : Polygon) → length (polygon_bytes p) ≡ 16 + 16 * length p.points
+pub polygon-long : (p : Polygon) → length (polygon_bytes p) ≡ 16 + 16 * length p.points
 polygon-long p =
     let u = flat_map point_bytes p.points in
     omega (

@@ -6,3 +6,4 @@ pub mod Reading
 pub mod Walks
 pub mod Writing
 pub mod Puts
+pub mod Laws

@@ -44,3 +44,8 @@ filled rows b =
       points = sets rows.points 0 (map point_row (rings b.polygons));
       splits = sets rows.splits 0 b.splits;
     }
+
+-- the rows of a board
+abbrev pub rows_for : Board → Rows
+rows_for b =
+    rows_of (map entry_row b.layers) (map polygon_row b.polygons) (map sheet_of b.polygons) (map point_row (rings b.polygons)) b.splits
