@@ -6,3 +6,4 @@ pub mod Stores
 pub mod Turns
 pub mod Records
 pub mod Rounds
+pub mod Back

@@ -230,5 +230,5 @@ record_found bytes b fits e =
     let t1 = number_found w8 wide8 (start bytes) {n = first.0.0} {new = first.0.1} fits first.1 in
     let t2 = number_found w32 wide32 first.0.1 {n = n.0.0} {new = n.0.1} t1.1 n.1 in
     let t3 = (body_lawful (limits_of v) (roomy v)).found n.0.1 {x = read.0.0} {new = read.0.1} t2.1 read.1 in
-    let f : (body (limits_of v)).fits b ≡ true = subst (λ (x : Board). (body (limits_of v)).fits x ≡ true) (ok_is ended.1) t3.0 in
+    let f : (body (limits_of v)).fits b ≡ true = subst (λ (x : Board). (body (limits_of v)).fits x ≡ true) (ok_is {x = read.0.0} {y = b} ended.1) t3.0 in
     subst (λ (w : Version). (body (limits_of w)).fits b ≡ true) (known first.0.0 v version.1) f

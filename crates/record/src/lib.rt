@@ -6,6 +6,7 @@
 #![tactic(auto)]
 
 pub mod board;
+pub mod laws;
 pub mod parts;
 pub mod put;
 pub mod reading;
