@@ -67,7 +67,7 @@ impl<'a> Reader<'a> {
     #[inline]
     fn field<const N: usize>(&mut self) -> Result<[u8; N], Refusal>
         ensures read { Reads result self.new (bytes_of N self.old) }
-        ensures kept { OnErr result (self.new ≡ self.old) }
+        ensures refused_stays { OnErr result (self.new ≡ self.old) }
     {
         let Some(field) = field_at::<N>(self.bytes, self.at) else {
             return Err(Refusal::WrongLength(self.at));
@@ -79,7 +79,7 @@ impl<'a> Reader<'a> {
     #[inline]
     pub fn read_u8(&mut self) -> Result<u8, Refusal>
         ensures read { Reads result self.new (number w8 self.old) }
-        ensures kept { OnErr result (self.new ≡ self.old) }
+        ensures refused_stays { OnErr result (self.new ≡ self.old) }
     {
         let [byte] = self.field::<1>()?;
         Ok(byte)
@@ -88,7 +88,7 @@ impl<'a> Reader<'a> {
     #[inline]
     pub fn read_u16(&mut self) -> Result<u16, Refusal>
         ensures read { Reads result self.new (number w16 self.old) }
-        ensures kept { OnErr result (self.new ≡ self.old) }
+        ensures refused_stays { OnErr result (self.new ≡ self.old) }
     {
         Ok(u16::from_be_bytes(self.field::<2>()?))
     }
@@ -96,7 +96,7 @@ impl<'a> Reader<'a> {
     #[inline]
     pub fn read_u32(&mut self) -> Result<u32, Refusal>
         ensures read { Reads result self.new (number w32 self.old) }
-        ensures kept { OnErr result (self.new ≡ self.old) }
+        ensures refused_stays { OnErr result (self.new ≡ self.old) }
     {
         Ok(u32::from_be_bytes(self.field::<4>()?))
     }
@@ -104,7 +104,7 @@ impl<'a> Reader<'a> {
     #[inline]
     pub fn read_u64(&mut self) -> Result<u64, Refusal>
         ensures read { Reads result self.new (number w64 self.old) }
-        ensures kept { OnErr result (self.new ≡ self.old) }
+        ensures refused_stays { OnErr result (self.new ≡ self.old) }
     {
         Ok(u64::from_be_bytes(self.field::<8>()?))
     }
@@ -113,7 +113,7 @@ impl<'a> Reader<'a> {
     #[inline]
     pub fn read_i64(&mut self) -> Result<i64, Refusal>
         ensures read { Reads result self.new (signed_number self.old) }
-        ensures kept { OnErr result (self.new ≡ self.old) }
+        ensures refused_stays { OnErr result (self.new ≡ self.old) }
     {
         Ok(self.read_u64()?.cast_signed())
     }
@@ -122,7 +122,7 @@ impl<'a> Reader<'a> {
     #[inline]
     pub fn read_u16_within(&mut self, low: u16, high: u16) -> Result<u16, Refusal>
         ensures read { Reads result self.new ((ranged w16 low high).reading self.old) }
-        ensures kept { OnErr result (self.new ≡ self.old) }
+        ensures refused_stays { OnErr result (self.new ≡ self.old) }
     {
         let mut ahead = self.ahead();
         let value = ahead.read_u16()?;
@@ -138,7 +138,7 @@ impl<'a> Reader<'a> {
     #[inline]
     pub fn read_u64_within(&mut self, low: u64, high: u64) -> Result<u64, Refusal>
         ensures read { Reads result self.new ((ranged w64 low high).reading self.old) }
-        ensures kept { OnErr result (self.new ≡ self.old) }
+        ensures refused_stays { OnErr result (self.new ≡ self.old) }
     {
         let mut ahead = self.ahead();
         let value = ahead.read_u64()?;

@@ -122,7 +122,7 @@ board bytes = do
   version ← version_of first.0
   n ← number w32 first.1
   require (n.0 == length n.1.rest) (WrongLength first.1.at)
-    ((body (limits_of version)).reading n.1 >>= λ b. require (length b.1.rest == 0) (WrongLength b.1.at) (Ok b.0))
+      ((body (limits_of version)).reading n.1 >>= λ b. require (length b.1.rest == 0) (WrongLength b.1.at) (Ok b.0))
 
 -- the bytes of a board's record
 unfoldable pub record_of : Version → Board → List ℕ

@@ -12,7 +12,7 @@ use refusals::limits::DEFAULT_LEVEL;
 #[inline]
 pub fn read_level(reader: &mut Reader<'_>, most: u8) -> Result<u64, Refusal>
     ensures read { Reads result reader.new ((level most).reading reader.old) }
-    ensures kept { OnErr result (reader.new ≡ reader.old) }
+    ensures refused_stays { OnErr result (reader.new ≡ reader.old) }
 {
     let mut ahead = reader.ahead();
     let level = match ahead.read_u8()? {
@@ -28,7 +28,7 @@ pub fn read_level(reader: &mut Reader<'_>, most: u8) -> Result<u64, Refusal>
 #[inline]
 pub fn read_layer(reader: &mut Reader<'_>, last: Option<u16>) -> Result<u16, Refusal>
     ensures read { Reads result reader.new ((layer last).reading reader.old) }
-    ensures kept { OnErr result (reader.new ≡ reader.old) }
+    ensures refused_stays { OnErr result (reader.new ≡ reader.old) }
 {
     let mut ahead = reader.ahead();
     let layer = ahead.read_u16()?;
@@ -48,7 +48,7 @@ pub fn read_layer(reader: &mut Reader<'_>, last: Option<u16>) -> Result<u16, Ref
 #[inline]
 pub fn read_coordinate(reader: &mut Reader<'_>) -> Result<i64, Refusal>
     ensures read { Reads result reader.new (coordinate.reading reader.old) }
-    ensures kept { OnErr result (reader.new ≡ reader.old) }
+    ensures refused_stays { OnErr result (reader.new ≡ reader.old) }
 {
     let mut ahead = reader.ahead();
     let value = ahead.read_i64()?;

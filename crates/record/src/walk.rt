@@ -41,7 +41,11 @@ impl Head {
     fn row(self) -> [u64; 3]
         ensures { result ≡ head_row self }
     {
-        [u64::from(self.layer), u64::from(self.component), u64::from(self.points)]
+        [
+            u64::from(self.layer),
+            u64::from(self.component),
+            u64::from(self.points),
+        ]
     }
 }
 
@@ -73,7 +77,11 @@ fn read_point(reader: &mut Reader<'_>) -> Result<Point, Refusal>
 }
 
 /// The layer list, and how many entries it has.
-fn read_layers(reader: &mut Reader<'_>, limits: Limits, row: &mut [[u64; 2]]) -> Result<usize, Refusal>
+fn read_layers(
+    reader: &mut Reader<'_>,
+    limits: Limits,
+    row: &mut [[u64; 2]],
+) -> Result<usize, Refusal>
     ensures { StoresItems entry_row result row.old row.new reader.new ((layer_list limits).reading reader.old) }
 {
     let count = usize::from(reader.read_u16_within(0, limits.layers)?);
@@ -87,7 +95,12 @@ fn read_layers(reader: &mut Reader<'_>, limits: Limits, row: &mut [[u64; 2]]) ->
 }
 
 /// The points of a ring, stored from `first` on.
-fn read_ring(reader: &mut Reader<'_>, count: u16, row: &mut [[i64; 2]], first: usize) -> Result<(), Refusal>
+fn read_ring(
+    reader: &mut Reader<'_>,
+    count: u16,
+    row: &mut [[i64; 2]],
+    first: usize,
+) -> Result<(), Refusal>
     requires { first < 2 ^ 32 }
     ensures { StoresPoints result row.old first row.new reader.new (times point count reader.old) }
 {
@@ -100,7 +113,12 @@ fn read_ring(reader: &mut Reader<'_>, count: u16, row: &mut [[i64; 2]], first: u
 
 /// A polygon, with its points stored from `first` on.
 #[tactic(auto, unfolding(crate::specs::Board::polygon))]
-fn read_polygon(reader: &mut Reader<'_>, limits: Limits, row: &mut [[i64; 2]], first: usize) -> Result<Head, Refusal>
+fn read_polygon(
+    reader: &mut Reader<'_>,
+    limits: Limits,
+    row: &mut [[i64; 2]],
+    first: usize,
+) -> Result<Head, Refusal>
     requires { first < 2 ^ 32 }
     ensures { StoresPolygon result row.old first row.new reader.new ((polygon limits).reading reader.old) }
 {
@@ -156,7 +174,11 @@ fn read_splits(reader: &mut Reader<'_>, row: &mut [u64]) -> Result<usize, Refusa
 
 /// All that follows the length.
 #[tactic(auto, unfolding(crate::specs::Board::body))]
-fn read_body(reader: &mut Reader<'_>, limits: Limits, rows: BoardRowsMut<'_>) -> Result<Read, Refusal>
+fn read_body(
+    reader: &mut Reader<'_>,
+    limits: Limits,
+    rows: BoardRowsMut<'_>,
+) -> Result<Read, Refusal>
     ensures { StoresBoard result (rows_to_fill rows.entry) (rows_left rows.exit) reader.new ((body limits).reading reader.old) }
 {
     let BoardRowsMut {

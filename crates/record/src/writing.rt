@@ -17,8 +17,8 @@ pub fn write(settings: Settings, rows: &BoardRows<'_>, out: &mut [u8]) -> Result
     ensures number_and_place { write_said result ≡ write_says (lent_rows rows.now) (length out.old) }
     ensures left { out.new ≡ write_leaves settings (lent_rows rows.now) out.old }
 {
-    let shaped =
-        (rows.polygons.len() == rows.sheets.len()) & put::add_up(rows.polygons, rows.points.len());
+    let shaped = (rows.polygons.len() == rows.sheets.len())
+        & put::add_up(rows.polygons, rows.points.len());
     if !shaped {
         return Err(Refusal::BadTable);
     }

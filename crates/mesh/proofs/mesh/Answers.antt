@@ -3,7 +3,7 @@ use Rattle.std.proofs.Common.{rules, List, Float, ◌≡◌, length, replicate, 
 use lib.ListN.{length-replicate}
 use Rattle.refusals.specs.Said.{is_accepted}
 use Rattle.refusals.specs.Said.{refusal}
-use Rattle.board.specs.Rows.{Rows, rows_of}
+use Rattle.record.specs.Rows.{Rows, rows_of}
 use Rattle.mesh.specs.Says.{meshed_said, layer_room, polygon_room, point_room, split_room}
 use Rattle.mesh.proofs.Meshing.{Roomed, too_long, read-refused, whole}
 use Rattle.mesh.proofs.Whole.{ready, grow-refused, totals-are, made}
@@ -34,7 +34,7 @@ returns-in_err-read-clause-result_value c =
     let roomed = before-roomed c.args.sheets.now c.requires.sheets in
     let x = c.in_err-read in
     let said : meshed_said c.from_residual.result ≡ refusal x.field-0.0 = search rules in
-    said ∙ read-refused c.args.s.now rows roomed c.if-s-gt-INPUT.false x.field-0.0 x.ensures.result_value
+    said ∙ read-refused c.args.s.now rows roomed c.if-s-gt-INPUT.false x.field-0.0 x.ensures.number_and_place
 
 pub grow_board-requires : goal.grow_board-requires
 grow_board-requires c =
@@ -47,8 +47,8 @@ grow_board-requires c =
     let d = c.in_ok-read in
     let g = d.read.settings in
     let n = d.read.counts in
-    let held = whole s rows roomed g n d.ensures.result_value in
-    ready s rows rows' roomed g n held d.ensures.splits_after (λ i. (c.type_inv.s i).fits) _ _ z.layers z.components
+    let held = whole s rows roomed g n d.ensures.number_and_place in
+    ready s rows rows' roomed g n held d.ensures.left (λ i. (c.type_inv.s i).fits) _ _ z.layers z.components
 
 pub returns-in_err-grown-clause-result_value : goal.returns-in_err-grown-clause-result_value
 returns-in_err-grown-clause-result_value c =
@@ -61,10 +61,10 @@ returns-in_err-grown-clause-result_value c =
     let d = c.in_ok-read in
     let g = d.read.settings in
     let n = d.read.counts in
-    let held = whole s rows roomed g n d.ensures.result_value in
+    let held = whole s rows roomed g n d.ensures.number_and_place in
     let x = c.in_err-grown in
     let said : meshed_said c.from_residual-in_err-grown.result ≡ refusal x.field-0.0 = search rules in
-    said ∙ grow-refused s rows rows' roomed g n held d.ensures.splits_after c.if-s-gt-INPUT.false _ z.table x.field-0.0
+    said ∙ grow-refused s rows rows' roomed g n held d.ensures.left c.if-s-gt-INPUT.false _ z.table x.field-0.0
     x.ensures.result_value
 
 pub returns : goal.returns
@@ -76,10 +76,10 @@ returns c =
     let v = c.read.new in
     let rows' = rows_of v.layers v.polygons v.sheets v.points v.splits in
     let d = c.in_ok-read in
-    let r = d.ensures.splits_after in
+    let r = d.ensures.left in
     let g = d.read.settings in
     let n = d.read.counts in
-    let held = whole s rows roomed g n d.ensures.result_value in
+    let held = whole s rows roomed g n d.ensures.number_and_place in
     let e = c.in_ok-grown in
     let h = e.grown.head in
     let k = e.grown.splits in
