@@ -1,5 +1,5 @@
 -- Too long, refused by the reader or by the table step, or made.
-use Rattle.std.proofs.Common.{rules, List, Float, ◌≡◌, length, replicate, pos, sym, ap, ◌∙◌}
+use Rattle.std.proofs.Common.{rules, ℕ, ℤ, List, Float, ◌≡◌, length, replicate, pos, sym, ap, ◌∙◌}
 use lib.ListN.{length-replicate}
 use Rattle.refusals.specs.Said.{is_accepted}
 use Rattle.refusals.specs.Said.{refusal}
@@ -14,6 +14,10 @@ abbrev before : List Float → Rows
 before sheets =
     rows_of (replicate layer_room (replicate 2 0)) (replicate polygon_room (replicate 3 0)) sheets
     (replicate point_room (replicate 2 (pos 0))) (replicate split_room 0)
+
+-- and as reading left them
+abbrev after : List (List ℕ) × (List (List ℕ) × (List Float × (List (List ℤ) × (List ℕ × Unit {0})))) → Rows
+after r = rows_of r.0 r.1.0 r.1.1.0 r.1.1.1.0 r.1.1.1.1.0
 
 before-roomed : (sheets : List Float) → length sheets ≡ polygon_room → Roomed (before sheets)
 before-roomed sheets e =
@@ -42,8 +46,7 @@ grow_board-requires c =
     let rows = before c.args.sheets.now in
     let z = c.requires in
     let roomed = before-roomed c.args.sheets.now z.sheets in
-    let v = c.read.new in
-    let rows' = rows_of v.layers v.polygons v.sheets v.points v.splits in
+    let rows' = after c.read.new.rows in
     let d = c.in_ok-read in
     let g = d.read.settings in
     let n = d.read.counts in
@@ -56,8 +59,7 @@ returns-in_err-grown-clause-result_value c =
     let rows = before c.args.sheets.now in
     let z = c.requires in
     let roomed = before-roomed c.args.sheets.now z.sheets in
-    let v = c.read.new in
-    let rows' = rows_of v.layers v.polygons v.sheets v.points v.splits in
+    let rows' = after c.read.new.rows in
     let d = c.in_ok-read in
     let g = d.read.settings in
     let n = d.read.counts in
@@ -73,8 +75,7 @@ returns c =
     let rows = before c.args.sheets.now in
     let z = c.requires in
     let roomed = before-roomed c.args.sheets.now z.sheets in
-    let v = c.read.new in
-    let rows' = rows_of v.layers v.polygons v.sheets v.points v.splits in
+    let rows' = after c.read.new.rows in
     let d = c.in_ok-read in
     let r = d.ensures.left in
     let g = d.read.settings in
