@@ -51,17 +51,13 @@ each_map f g [] = refl
 each_map f g (x ∷ xs) = ap (λ l. f (g x) ++ l) (each_map f g xs)
 
 module _ {A : Type 0} (f : A → List ℕ) (k : ℕ) (long : (x : A) → length (f x) ≡ k) (none : A) where
-  pub row-turn : (out : List ℕ) (row : List A) (from i : ℕ) → i < length row
-      → sets out (from + k * i) (flat_map f (drop i row)) ≡ sets (sets out (from + k * i) (f (get_or row i none))) (from + k * (i + 1)) (flat_map f (drop (i + 1) row))
-  row-turn out row from i h =
+  pub row-turn : (out : List ℕ) (row : List A) (at i : ℕ) → i < length row
+      → sets out at (flat_map f (drop i row)) ≡ sets (sets out at (f (get_or row i none))) (at + k) (flat_map f (drop (i + 1) row))
+  row-turn out row at i h =
       let x = get_or row i none in
-      ap (λ l. sets out (from + k * i) (flat_map f l)) (drop-cons row i none h) ∙ sets_append out (from + k * i) (f x) (flat_map f (drop (suc i) row))
-      ∙ ap (λ n. sets (sets out (from + k * i) (f x)) (from + k * i + n) (flat_map f (drop (suc i) row))) (long x)
-      ∙ ap (λ n. sets (sets out (from + k * i) (f x)) n (flat_map f (drop (suc i) row))) (next from)
-      ∙ ap (λ n. sets (sets out (from + k * i) (f x)) (from + k * n) (flat_map f (drop n row))) (sym (add-one i))
-    where
-      next : (from : ℕ) → from + k * i + k ≡ from + k * suc i
-      next from = rw (mul-suc k i) (omega arith)
+      ap (λ l. sets out at (flat_map f l)) (drop-cons row i none h) ∙ sets_append out at (f x) (flat_map f (drop (suc i) row))
+      ∙ ap (λ n. sets (sets out at (f x)) (at + n) (flat_map f (drop (suc i) row))) (long x)
+      ∙ ap (λ n. sets (sets out at (f x)) (at + k) (flat_map f (drop n row))) (sym (add-one i))
 
   pub row-end : (out : List ℕ) (row : List A) (at i : ℕ) → length row ≤ i → sets out at (flat_map f (drop i row)) ≡ out
   row-end out row at i h = ap (λ l. sets out at (flat_map f l)) (nil (drop i row) (length-drop i row ∙ omega arith))
@@ -72,19 +68,17 @@ module _ {A : Type 0} (f : A → List ℕ) (k : ℕ) (long : (x : A) → length 
 
 -- the same of what the items stand for
 module _ {A B : Type 0} (f : B → List ℕ) (g : A → B) (k : ℕ) (long : (x : B) → length (f x) ≡ k) (none : A) where
-  pub mapped-turn : (out : List ℕ) (row : List A) (from i : ℕ) → i < length row
-      → sets out (from + k * i) (flat_map f (map g (drop i row)))
-      ≡ sets (sets out (from + k * i) (f (g (get_or row i none)))) (from + k * (i + 1)) (flat_map f (map g (drop (i + 1) row)))
-  mapped-turn out row from i h =
-      rw (each_map f g (drop i row), each_map f g (drop (i + 1) row)) (row-turn (λ x. f (g x)) k (λ x. long (g x)) none out row from i h)
+  pub mapped-turn : (out : List ℕ) (row : List A) (at i : ℕ) → i < length row
+      → sets out at (flat_map f (map g (drop i row))) ≡ sets (sets out at (f (g (get_or row i none)))) (at + k) (flat_map f (map g (drop (i + 1) row)))
+  mapped-turn out row at i h =
+      rw (each_map f g (drop i row), each_map f g (drop (i + 1) row)) (row-turn (λ x. f (g x)) k (λ x. long (g x)) none out row at i h)
 
   pub mapped-end : (out : List ℕ) (row : List A) (at i : ℕ) → length row ≤ i → sets out at (flat_map f (map g (drop i row))) ≡ out
   mapped-end out row at i h = rw (each_map f g (drop i row)) (row-end (λ x. f (g x)) k (λ x. long (g x)) none out row at i h)
 
 -- ids
-pub splits_turn : (out row : List ℕ) (from i : ℕ) → i < length row
-    → sets out (from + 4 * i) (flat_map (bytes_high_first 4) (drop i row))
-    ≡ sets (sets out (from + 4 * i) (bytes_high_first 4 (get_or row i 0))) (from + 4 * (i + 1)) (flat_map (bytes_high_first 4) (drop (i + 1) row))
+pub splits_turn : (out row : List ℕ) (at i : ℕ) → i < length row
+    → sets out at (flat_map (bytes_high_first 4) (drop i row)) ≡ sets (sets out at (bytes_high_first 4 (get_or row i 0))) (at + 4) (flat_map (bytes_high_first 4) (drop (i + 1) row))
 splits_turn = row-turn (bytes_high_first 4) 4 (bytes-length 4) 0
 
 pub splits_end : (out row : List ℕ) (at i : ℕ) → length row ≤ i → sets out at (flat_map (bytes_high_first 4) (drop i row)) ≡ out

@@ -143,17 +143,17 @@ polygons-long (p ∷ ps) (r ∷ rs) qs h e =
 
 -- ---- entries and points, turn by turn
 
-pub entries_turn : (out : List ℕ) (row : List (List ℕ)) (from i : ℕ) → i < length row
-    → sets out (from + 10 * i) (flat_map entry_bytes (entries_of (drop i row)))
-    ≡ sets (sets out (from + 10 * i) (entry_bytes (entry_of (get_or row i [])))) (from + 10 * (i + 1)) (flat_map entry_bytes (entries_of (drop (i + 1) row)))
+pub entries_turn : (out : List ℕ) (row : List (List ℕ)) (at i : ℕ) → i < length row
+    → sets out at (flat_map entry_bytes (entries_of (drop i row)))
+    ≡ sets (sets out at (entry_bytes (entry_of (get_or row i [])))) (at + 10) (flat_map entry_bytes (entries_of (drop (i + 1) row)))
 entries_turn = mapped-turn entry_bytes entry_of 10 entry-long []
 
 pub entries_end : (out : List ℕ) (row : List (List ℕ)) (at i : ℕ) → length row ≤ i → sets out at (flat_map entry_bytes (entries_of (drop i row))) ≡ out
 entries_end = mapped-end entry_bytes entry_of 10 entry-long []
 
-pub ring_turn : (out : List ℕ) (row : List (List ℤ)) (from i : ℕ) → i < length row
-    → sets out (from + 16 * i) (flat_map point_bytes (ring_of (drop i row)))
-    ≡ sets (sets out (from + 16 * i) (point_bytes (point_of (get_or row i [])))) (from + 16 * (i + 1)) (flat_map point_bytes (ring_of (drop (i + 1) row)))
+pub ring_turn : (out : List ℕ) (row : List (List ℤ)) (at i : ℕ) → i < length row
+    → sets out at (flat_map point_bytes (ring_of (drop i row)))
+    ≡ sets (sets out at (point_bytes (point_of (get_or row i [])))) (at + 16) (flat_map point_bytes (ring_of (drop (i + 1) row)))
 ring_turn = mapped-turn point_bytes point_of 16 point-long []
 
 pub ring_end : (out : List ℕ) (row : List (List ℤ)) (at i : ℕ) → length row ≤ i → sets out at (flat_map point_bytes (ring_of (drop i row))) ≡ out

@@ -28,8 +28,15 @@ head_bytes row sheet =
 abbrev pub settings_bytes : Settings → List ℕ
 settings_bytes g = bytes_high_first 1 g.level ++ (bytes_high_first 2 g.cap ++ bytes_high_first 8 g.target)
 
+-- the lists, each behind its number
+abbrev pub layers_bytes : List (List ℕ) → List ℕ
+layers_bytes row = bytes_high_first 2 (length row) ++ flat_map entry_bytes (entries_of row)
+
+abbrev pub polygons_bytes : Rows → List ℕ
+polygons_bytes rows = bytes_high_first 2 (length rows.polygons) ++ flat_map polygon_bytes (polygons_of rows.polygons rows.sheets rows.points)
+
+abbrev pub splits_bytes : List ℕ → List ℕ
+splits_bytes row = bytes_high_first 2 (length row) ++ flat_map (bytes_high_first 4) row
+
 abbrev pub lists_bytes : Rows → List ℕ
-lists_bytes rows =
-    (bytes_high_first 2 (length rows.layers) ++ flat_map entry_bytes (entries_of rows.layers))
-    ++ ((bytes_high_first 2 (length rows.polygons) ++ flat_map polygon_bytes (polygons_of rows.polygons rows.sheets rows.points))
-    ++ (bytes_high_first 2 (length rows.splits) ++ flat_map (bytes_high_first 4) rows.splits))
+lists_bytes rows = layers_bytes rows.layers ++ (polygons_bytes rows ++ splits_bytes rows.splits)

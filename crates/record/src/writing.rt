@@ -36,7 +36,6 @@ pub fn write(settings: Settings, rows: &BoardRows<'_>, out: &mut [u8]) -> Result
     if out.len() < size {
         return Err(Refusal::NoRoom);
     }
-    put::put_settings(out, (size - 5) as u64, settings);
-    put::put_lists(out, rows);
-    Ok(size)
+    let behind_settings = put::put_settings(out, (size - 5) as u64, settings);
+    Ok(put::put_lists(out, behind_settings, rows))
 }

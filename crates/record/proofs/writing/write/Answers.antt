@@ -22,5 +22,6 @@ returns-clause-left c =
     let h = eqb-true _ _ w.0 in
     let front = bytes_high_first 1 1 ++ (bytes_high_first 4 (size_of r - 5) ++ settings_bytes s) in
     rw (e, f, g)
-    (sets_then out 0 16 front (lists_bytes r) (front_long s r h w.1 (size_of r - 5)) c.put_settings.ensures c.put_lists.ensures
+    (sets_then out 0 c.put_settings-behind_settings.result front (lists_bytes r) (c.put_settings-behind_settings.ensures.next ∙ front_long s r h w.1 (size_of r - 5))
+    c.put_settings-behind_settings.ensures.stored c.put_lists.ensures.stored
     ∙ ap (sets out 0) (record_is s r h w.1))
