@@ -131,22 +131,6 @@ pub fn put_splits(out: &mut [u8], at: usize, row: &[u64]) -> usize
     next
 }
 
-/// Whether the point counts add up to so many points.
-#[tactic(auto, using(crate::proofs::Turns::add_short, crate::proofs::Turns::add_next, crate::proofs::Turns::add_end))]
-pub fn add_up(polygons: &[[u64; 3]], points: usize) -> bool
-    ensures { result ≡ add_up polygons.now points }
-{
-    let mut left = points;
-    for p in polygons {
-        let count = p[2] as usize;
-        if left < count {
-            return false;
-        }
-        left -= count;
-    }
-    left == 0
-}
-
 /// The first fields, with the length of all that follows it.
 #[tactic(auto, using(crate::proofs::Stores::bytes_then))]
 pub fn put_settings(out: &mut [u8], rest: u64, settings: Settings) -> usize

@@ -15,17 +15,12 @@ pub fn check(bytes: &[u8]) -> Result<Read, Refusal>
     ensures answer { result ≡ checked (board bytes.now) }
     ensures number_and_place { read_said result ≡ says (board bytes.now) }
 {
-    let mut layers: [[u64; 2]; 0] = [];
-    let mut polygons: [[u64; 3]; 0] = [];
-    let mut sheets: [f64; 0] = [];
-    let mut points: [[i64; 2]; 0] = [];
-    let mut splits: [u64; 0] = [];
     let nothing = BoardRowsMut {
-        layers: &mut layers,
-        polygons: &mut polygons,
-        sheets: &mut sheets,
-        points: &mut points,
-        splits: &mut splits,
+        layers: &mut [],
+        polygons: &mut [],
+        sheets: &mut [],
+        points: &mut [],
+        splits: &mut [],
     };
     walk(bytes, nothing)
 }

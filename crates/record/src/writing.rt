@@ -8,7 +8,6 @@ use crate::board::Settings;
 use crate::put;
 use crate::rows::BoardRows;
 use refusals::Refusal;
-use refusals::limits::{LAYERS, POLYGONS, RING_POINTS};
 
 /// The record of a board, from the start of `out`, and how many bytes it took. Counts are judged, since they shape the
 /// record; a value that its field does not hold is written by its low bytes, and a NaN for r_sheet as 0. For every board
@@ -17,15 +16,10 @@ pub fn write(settings: Settings, rows: &BoardRows<'_>, out: &mut [u8]) -> Result
     ensures number_and_place { write_said result ≡ write_says (lent_rows rows.now) (length out.old) }
     ensures left { out.new ≡ write_leaves settings (lent_rows rows.now) out.old }
 {
-    let shaped = (rows.polygons.len() == rows.sheets.len())
-        & put::add_up(rows.polygons, rows.points.len());
-    if !shaped {
+    if !rows.is_shaped() {
         return Err(Refusal::BadTable);
     }
-    let countable = (rows.layers.len() <= LAYERS)
-        & ((rows.polygons.len() <= POLYGONS)
-            & ((rows.points.len() <= POLYGONS * RING_POINTS) & (rows.splits.len() <= 65535)));
-    if !countable {
+    if !rows.is_countable() {
         return Err(Refusal::OutOfRange(0));
     }
     let size = 22
