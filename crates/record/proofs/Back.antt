@@ -1,5 +1,5 @@
 -- For every board in range: its rows are its board again, so what `write` puts is the record of the board, which reads as the board.
-use Rattle.std.proofs.Common.{◌≡◌, ℕ, ◌+◌, ◌*◌, ◌-◌, ◌^◌, ◌≤◌, true, eqb, ◌&&◌, not, List, [], ◌∷◌, map, length, take, drop, take_at, drop_at, Ok, refl, sym, ap, subst, ◌∙◌, arith, T, eq-eqb, le-leb, mul-suc, length-append}
+use Rattle.std.proofs.Common.{◌≡◌, ℕ, ◌+◌, ◌*◌, ◌-◌, ◌^◌, ◌≤◌, true, not, List, [], ◌∷◌, map, length, take, drop, take_at, drop_at, refl, sym, ap, subst, ◌∙◌, arith, T, eq-eqb, le-leb, mul-suc, length-append}
 use Rattle.std.proofs.lemmas.List.{length-map, map-append}
 use Rattle.std.proofs.lemmas.List.Edits.{sets, sets-eq}
 use lib.Ieee.{binary64, is_nan, of_bits}

@@ -1,19 +1,18 @@
 -- Each field of a board record reads what it spells, and what it reads fits; so does a whole record.
-use Rattle.std.proofs.Common.{◌≡◌, ℕ, zero, suc, ◌+◌, ◌*◌, ◌-◌, ◌^◌, ◌<◌, ◌≤◌, Bool, true, false, cond, eqb, leb, ◌&&◌, List, [], ◌∷◌, ◌++◌, length, get_or, Option, Some, None, Result, Ok, Err, ℤ, pos, negsuc, refl, sym, ap, subst, ◌∙◌, append-nil, arith, SFits, eq-eqb, eqb-true, ne_eqb, leb-true, le-leb, mul-suc, length-append}
+use Rattle.std.proofs.Common.{◌≡◌, ℕ, ◌+◌, ◌*◌, ◌-◌, ◌^◌, ◌<◌, ◌≤◌, Bool, true, false, cond, eqb, leb, ◌&&◌, List, [], ◌∷◌, ◌++◌, length, Option, Some, None, Ok, ℤ, pos, negsuc, refl, sym, ap, subst, ◌∙◌, append-nil, arith, SFits, eq-eqb, ne_eqb, leb-true, le-leb, mul-suc, length-append}
 use Rattle.std.specs.List.{flat_map}
 use Rattle.std.specs.Int.{w8, w16, w32, w64, to_be_bytes, bytes_high_first}
 use Rattle.std.proofs.lemmas.Bool.{ltb-true}
 use Rattle.refusals.specs.Limits.{max_layers, max_polygons, max_points, coordinate as farthest}
-use Rattle.refusals.specs.declared.Refusal.{Refusal}
 use Rattle.refusals.specs.declared.Refusal.TheVariants.{WrongLength, OutOfRange}
 use Rattle.cell.specs.Ticks.{in_range}
-use Rattle.fields.specs.Cursor.{Cursor, start, ◌>>=◌, require, number}
+use Rattle.fields.specs.Cursor.{Cursor, start, require, number}
 use Rattle.fields.specs.Codec.{Codec, any, ranged, pair, all_fit, counted}
-use Rattle.fields.proofs.Laws.{bind_ok, require_ok, ok_is, each, both, IsBytes, IsLawful, wide8, wide16, wide32, wide64, number_again, number_found, any_lawful, tested_lawful, ranged_lawful, signed_lawful, pair_lawful, named_lawful, chained_lawful, counted_lawful}
+use Rattle.fields.proofs.Laws.{bind_ok, require_ok, ok_is, each, IsBytes, IsLawful, wide8, wide16, wide32, wide64, number_again, number_found, any_lawful, tested_lawful, ranged_lawful, signed_lawful, pair_lawful, named_lawful, chained_lawful, counted_lawful}
 use Rattle.record.specs.declared.board.Version.{Version}
 use Rattle.record.specs.declared.board.Version.TheVariants.{One}
 use Rattle.record.specs.declared.board.Limits.{Limits}
-use Rattle.record.specs.Board.{Settings, Entry, Point, Polygon, Board, version_of, limits_of, as_default, default_level, level, settings, is_above, layer, entry, layer_list, coordinate, point, sheet_low, sheet_high, polygon, polygon_list, split_list, body, board, record_of, is_in_range}
+use Rattle.record.specs.Board.{Polygon, Board, version_of, limits_of, as_default, default_level, level, settings, is_above, layer, entry, layer_list, coordinate, point, sheet_low, sheet_high, polygon, polygon_list, split_list, body, board, record_of, is_in_range}
 use Rattle.record.specs.Puts.{entry_bytes, polygon_bytes, settings_bytes}
 use Rattle.record.proofs.Stores.{bytes-length}
 use Rattle.record.proofs.Turns.{each-length, entry-long, polygon-long, splits-long}
@@ -230,5 +229,6 @@ record_found bytes b fits e =
     let t1 = number_found w8 wide8 (start bytes) {n = first.0.0} {new = first.0.1} fits first.1 in
     let t2 = number_found w32 wide32 first.0.1 {n = n.0.0} {new = n.0.1} t1.1 n.1 in
     let t3 = (body_lawful (limits_of v) (roomy v)).found n.0.1 {x = read.0.0} {new = read.0.1} t2.1 read.1 in
-    let f : (body (limits_of v)).fits b ≡ true = subst (λ (x : Board). (body (limits_of v)).fits x ≡ true) (ok_is {x = read.0.0} {y = b} ended.1) t3.0 in
-    subst (λ (w : Version). (body (limits_of w)).fits b ≡ true) (known first.0.0 v version.1) f
+    let x = read.0.0 in
+    let f : (body (limits_of v)).fits b ≡ true = ap (body (limits_of v)).fits (sym (ok_is {x = x} {y = b} ended.1)) ∙ t3.0 in
+    ap (λ (w : Version). (body (limits_of w)).fits b) (sym (known first.0.0 v version.1)) ∙ f

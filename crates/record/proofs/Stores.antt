@@ -1,5 +1,5 @@
 -- Laws of bytes stored in a row.
-use Rattle.std.proofs.Common.{ℕ, zero, suc, ◌+◌, ◌*◌, ◌-◌, ◌/◌, ◌%◌, ◌^◌, ◌≤◌, ◌<◌, ◌≡◌, refl, sym, ap, ◌∙◌, List, [], ◌∷◌, ◌++◌, map, mul-suc, arith, add-one, length, set, drop, get_or, length-drop, Bool, true, false, not, Float, T, eq-eqb, drop-cons}
+use Rattle.std.proofs.Common.{ℕ, zero, suc, ◌+◌, ◌*◌, ◌-◌, ◌/◌, ◌%◌, ◌^◌, ◌≤◌, ◌<◌, ◌≡◌, refl, sym, ap, ◌∙◌, List, [], ◌∷◌, ◌++◌, map, arith, add-one, length, set, drop, get_or, length-drop, Bool, true, false, not, Float, T, eq-eqb, drop-cons}
 use Rattle.std.proofs.Math.Nat.{div-div-eq-div-mul, pow-succ'}
 use lib.Ieee.{nan, inf, fin, up, down, eq, is_nan}
 use lib.Seq.{sets, set_comm}

@@ -1,11 +1,11 @@
 -- The rules' board record: one description of each field, over what a version allows.
-use Rattle.std.specs.Prelude.{ℕ, ◌-◌, ◌+◌, ◌^◌, List, [], ◌∷◌, ◌++◌, length, Bool, true, Option, Some, None, nat_le, nat_lt, ◌==◌, Result, Ok, Err, ℤ, if◌then◌else◌}
+use Rattle.std.specs.Prelude.{ℕ, ◌-◌, ◌^◌, List, ◌∷◌, ◌++◌, length, Bool, true, Option, Some, None, nat_le, nat_lt, ◌==◌, Result, Ok, Err, ℤ, if◌then◌else◌}
 use Rattle.std.specs.Int.{w8, w16, w32, w64, to_be_bytes}
 use Rattle.refusals.specs.declared.Refusal.{Refusal}
 use Rattle.refusals.specs.declared.Refusal.TheVariants.{WrongVersion, WrongLength, OutOfRange}
 use Rattle.refusals.specs.Limits.{widest_level, max_cap, max_cell, max_layers, max_polygons, max_points}
 use Rattle.cell.specs.Ticks.{in_range}
-use Rattle.fields.specs.Cursor.{Cursor, start, ◌>>=◌, require, number}
+use Rattle.fields.specs.Cursor.{start, ◌>>=◌, require, number}
 use Rattle.fields.specs.Codec.{Codec, any, tested, ranged, signed, pair, named, chained, counted}
 use Rattle.record.specs.declared.board.Version.{Version}
 use Rattle.record.specs.declared.board.Version.TheVariants.{One}

@@ -1,7 +1,6 @@
 -- The bytes still to be put make the row what it is to be.
 use Rattle.std.proofs.Common.{◌≡◌}
 use lib.Seq.{sets}
-use Rattle.std.specs.List.{flat_map}
 use Rattle.std.specs.Int.{bytes_high_first}
 use Rattle.record.proofs.put.put.Given as goal
 

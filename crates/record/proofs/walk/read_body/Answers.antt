@@ -1,8 +1,5 @@
-use Rattle.std.proofs.Common.{◌≡◌, ℕ, length, refl, sym, ap, ap₂}
-use Rattle.record.specs.declared.board.Counts.{Counts}
-use Rattle.record.specs.declared.board.Read.{Read}
+use Rattle.std.proofs.Common.{refl}
 use Rattle.record.specs.Board.{body}
-use Rattle.record.specs.Rows.{Rows, filled, rings}
 use Rattle.record.proofs.Storing.{map_id}
 use Rattle.record.proofs.walk.read_body.Goals as goal
 

@@ -1,5 +1,5 @@
 -- the entries so far, and where they stand
-use Rattle.std.proofs.Common.{◌≡◌, ℕ, List, map, Some, None}
+use Rattle.std.proofs.Common.{◌≡◌, List, map, Some, None}
 use Rattle.std.proofs.lemmas.List.Edits.{sets}
 use Rattle.fields.proofs.Loop.{IsAt}
 use Rattle.record.specs.Board.{Entry, entry}

@@ -1,4 +1,4 @@
-use Rattle.std.proofs.Common.{◌-◌, ◌≡◌, sym, ap, ◌∙◌, true, ◌++◌, length, ◌&&◌, eqb, eqb-true, le-leb}
+use Rattle.std.proofs.Common.{◌-◌, ◌≡◌, sym, ap, ◌∙◌, true, ◌++◌, length, eqb, eqb-true, le-leb}
 use Rattle.std.specs.Int.{bytes_high_first}
 use Rattle.std.proofs.lemmas.List.Edits.{sets}
 use Rattle.record.specs.Lent.{lent_rows}
