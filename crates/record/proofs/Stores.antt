@@ -92,6 +92,9 @@ sets_then l at next p r e f g = g ∙ ap (λ x. sets x next r) f ∙ ap (λ n. s
 pub bytes_then : (l : List ℕ) (at k v : ℕ) (r : List ℕ) → sets l at (bytes_high_first k v ++ r) ≡ sets (sets l at (bytes_high_first k v)) (at + k) r
 bytes_then l at k v r = sym (sets_then l at (at + k) (bytes_high_first k v) r (omega (arith, bytes-length k v)) refl refl)
 
+-- what putting the splits goes by
+pub ruleset splits_put = (bytes_then, splits_turn, splits_end)
+
 -- a number equals itself
 
 same_sign : (s : Bool) → eq (inf s) (inf s) ≡ true

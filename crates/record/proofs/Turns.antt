@@ -10,7 +10,7 @@ use Rattle.std.specs.List.{flat_map}
 use Rattle.std.specs.Int.{bytes_high_first, cast_unsigned}
 use Rattle.record.specs.Puts.{entry_bytes, point_bytes, polygon_bytes}
 use Rattle.record.specs.Writing.{entry_of, entries_of, point_of, ring_of, sheet_bits, count_of, polygons_of, add_up}
-use Rattle.record.proofs.Stores.{bytes-length, sets_then, mapped-turn, mapped-end}
+use Rattle.record.proofs.Stores.{bytes-length, sets_then, bytes_then, mapped-turn, mapped-end}
 
 pub and_both : (a b : Bool) → (a && b) ≡ true → (a ≡ true) × (b ≡ true)
 and_both true b p = (refl, p)
@@ -158,3 +158,8 @@ ring_turn = mapped-turn point_bytes point_of 16 point-long []
 
 pub ring_end : (out : List ℕ) (row : List (List ℤ)) (at i : ℕ) → length row ≤ i → sets out at (flat_map point_bytes (ring_of (drop i row))) ≡ out
 ring_end = mapped-end point_bytes point_of 16 point-long []
+
+-- what putting the entries, and the points, goes by
+pub ruleset entries_put = (bytes_then, entries_turn, entries_end)
+
+pub ruleset ring_put = (ring_turn, ring_end)

@@ -1,5 +1,5 @@
-//! What the definitions of the record come to. No function here does anything: each promises a law, which its specs state
-//! and its proof file proves.
+//! What the definitions of the record come to. No function here does anything: each promises a law, which its specs
+//! state and its proof file proves.
 
 ghost use Rattle.record.specs.Laws.{ReadWrite, ReadsInRange, OneRead, OneWritten};
 

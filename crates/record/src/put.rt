@@ -1,11 +1,12 @@
-//! Bytes put in place, one part behind the other: each call answers the offset behind what it put. All of this is internal:
-//! each call asks that there is room.
+//! Bytes put in place, one part behind the other: each call answers the offset behind what it put. All of this is
+//! internal: each call asks that there is room.
 
 ghost use Rattle.std.specs.Prelude.{◌≡◌, ◌++◌, ◌+◌, ◌*◌, ◌≤◌, true, length};
 ghost use Rattle.std.specs.List.{flat_map};
 ghost use Rattle.std.specs.Int.{bytes_high_first};
 ghost use Rattle.std.proofs.lemmas.List.Edits.{sets};
-ghost use Rattle.record.specs.Puts.{entry_bytes, point_bytes, head_bytes, settings_bytes, layers_bytes, polygons_bytes, splits_bytes, lists_bytes};
+ghost use Rattle.record.specs.Puts.{entry_bytes, point_bytes, head_bytes, settings_bytes};
+ghost use Rattle.record.specs.Puts.{layers_bytes, polygons_bytes, splits_bytes, lists_bytes};
 ghost use Rattle.record.specs.Lent.{lent_rows};
 ghost use Rattle.record.specs.Writing.{entry_of, point_of, ring_of, sheet_bits, add_up};
 
@@ -39,7 +40,7 @@ fn put_entry(out: &mut [u8], at: usize, entry: [u64; 2]) -> usize
 }
 
 /// The number of entries, and the entries.
-#[tactic(auto, using(crate::proofs::Stores::bytes_then, crate::proofs::Turns::entries_turn, crate::proofs::Turns::entries_end))]
+#[tactic(auto, using(crate::proofs::Turns::entries_put))]
 pub fn put_layers(out: &mut [u8], at: usize, row: &[[u64; 2]]) -> usize
     requires { at + (2 + 10 * length row.now) ≤ length out.old }
     ensures next { result ≡ at + (2 + 10 * length row.now) }
@@ -63,7 +64,7 @@ fn put_point(out: &mut [u8], at: usize, point: [i64; 2]) -> usize
     put(out, next, 8, y.cast_unsigned())
 }
 
-#[tactic(auto, using(crate::proofs::Turns::ring_turn, crate::proofs::Turns::ring_end))]
+#[tactic(auto, using(crate::proofs::Turns::ring_put))]
 fn put_ring(out: &mut [u8], at: usize, row: &[[i64; 2]]) -> usize
     requires { at + 16 * length row.now ≤ length out.old }
     ensures next { result ≡ at + 16 * length row.now }
@@ -97,7 +98,7 @@ fn put_head(out: &mut [u8], at: usize, head: [u64; 3], sheet: u64) -> usize
     put(out, behind_sheet, 2, count)
 }
 
-/// The number of polygons, and the polygons, each with the points that its count takes from the front of those that are left.
+/// The number of polygons, and the polygons, each with the points that its count takes from those that are left.
 pub fn put_polygons(out: &mut [u8], at: usize, rows: &BoardRows<'_>) -> usize
     requires same_len { length rows.now.polygons.now ≡ length rows.now.sheets.now }
     requires counted { add_up rows.now.polygons.now (length rows.now.points.now) ≡ true }
@@ -118,7 +119,7 @@ pub fn put_polygons(out: &mut [u8], at: usize, rows: &BoardRows<'_>) -> usize
 }
 
 /// The number of splits, and the splits.
-#[tactic(auto, using(crate::proofs::Stores::bytes_then, crate::proofs::Stores::splits_turn, crate::proofs::Stores::splits_end))]
+#[tactic(auto, using(crate::proofs::Stores::splits_put))]
 pub fn put_splits(out: &mut [u8], at: usize, row: &[u64]) -> usize
     requires { at + (2 + 4 * length row.now) ≤ length out.old }
     ensures next { result ≡ at + (2 + 4 * length row.now) }

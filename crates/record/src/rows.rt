@@ -29,7 +29,7 @@ impl BoardRows<'_> {
     ghost use Rattle.record.specs.Lent.{lent_rows};
     ghost use Rattle.record.specs.Writing.{is_shaped, is_countable, size_of};
 
-    /// Whether the rows of polygons belong together: as many sheet resistances as polygons, as many points as they count.
+    /// Whether the rows of polygons belong together: a sheet resistance for each, and as many points as they count.
     pub fn is_shaped(&self) -> bool
         ensures { result ≡ is_shaped (lent_rows self.now) }
     {

@@ -1,14 +1,16 @@
-//! One walk over a record: each field is read and judged, in byte order, and what it says is stored where the rows have
-//! room. A record is walked twice by this one code: over no rows, and then, once all of it is judged, over the lent ones.
-//! The first refusal ends the walk, so no reader is used again behind one.
+//! One walk over a record: each field is read and judged, in byte order, and what it says is stored where the rows
+//! have room. A record is walked twice by this one code: over no rows, and then, once all of it is judged, over the
+//! lent ones. The first refusal ends the walk, so no reader is used again behind one.
 
 ghost use Rattle.std.specs.Prelude.{◌≡◌, ◌<◌, ◌^◌};
 ghost use Rattle.fields.specs.Cursor.{Reads};
 ghost use Rattle.fields.specs.Codec.{times};
-ghost use Rattle.record.specs.Board.{settings, entry, point, polygon, layer_list, polygon_list, split_list, body, board};
+ghost use Rattle.record.specs.Board.{settings, entry, point, polygon, layer_list, polygon_list, split_list};
+ghost use Rattle.record.specs.Board.{body, board};
 ghost use Rattle.record.specs.Rows.{entry_row};
 ghost use Rattle.record.specs.Lent.{rows_to_fill, rows_left};
-ghost use Rattle.record.specs.Walks.{StoresPoints, StoresItems, StoresPolygon, PolygonsStored, StoresPolygons, StoresBoard, Answers};
+ghost use Rattle.record.specs.Walks.{StoresPoints, StoresItems, StoresPolygon, PolygonsStored, StoresPolygons};
+ghost use Rattle.record.specs.Walks.{StoresBoard, Answers};
 
 use crate::board::{Counts, Entry, Limits, Point, Read, Settings, Version};
 use crate::parts::{read_coordinate, read_layer, read_level};
@@ -179,7 +181,8 @@ fn read_body(
     limits: Limits,
     rows: BoardRowsMut<'_>,
 ) -> Result<Read, Refusal>
-    ensures { StoresBoard result (rows_to_fill rows.entry) (rows_left rows.exit) reader.new ((body limits).reading reader.old) }
+    ensures { StoresBoard result (rows_to_fill rows.entry) (rows_left rows.exit)
+        reader.new ((body limits).reading reader.old) }
 {
     let BoardRowsMut {
         layers,

@@ -9,9 +9,9 @@ use crate::put;
 use crate::rows::BoardRows;
 use refusals::Refusal;
 
-/// The record of a board, from the start of `out`, and how many bytes it took. Counts are judged, since they shape the
-/// record; a value that its field does not hold is written by its low bytes, and a NaN for r_sheet as 0. For every board
-/// in range the record reads as the board again (`laws::read_write`).
+/// The record of a board, from the start of `out`, and how many bytes it took. Counts are judged, since they shape
+/// the record; a value that its field does not hold is written by its low bytes, and a NaN for r_sheet as 0. For every
+/// board in range the record reads as the board again (`laws::read_write`).
 pub fn write(settings: Settings, rows: &BoardRows<'_>, out: &mut [u8]) -> Result<usize, Refusal>
     ensures number_and_place { write_said result ≡ write_says (lent_rows rows.now) (length out.old) }
     ensures left { out.new ≡ write_leaves settings (lent_rows rows.now) out.old }
