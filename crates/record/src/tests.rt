@@ -52,8 +52,7 @@ fn read_and_written(rt: HostRuntime) {
         points: &points[..4],
         splits: &[],
     };
-    let mut out = [9; 103];
+    let mut out = [9; 102];
     assert_eq!(rt; write(FOUND.settings, &rows, &mut out), Ok(102));
-    assert_eq!(rt; &out[..102], &SQUARE[..]);
-    assert_eq!(rt; out[102], 9);
+    assert_eq!(rt; out, SQUARE);
 }
