@@ -1,5 +1,5 @@
 -- For every board in range: its rows are its board again, so what `write` puts is the record of the board, which reads as the board.
-use Rattle.std.proofs.Common.{◌≡◌, ℕ, ◌+◌, ◌*◌, ◌-◌, ◌^◌, ◌≤◌, true, not, List, [], ◌∷◌, map, length, take, drop, take_at, drop_at, refl, sym, ap, subst, ◌∙◌, arith, T, eq-eqb, le-leb, mul-suc, length-append}
+use Rattle.std.proofs.Common.{◌≡◌, ℕ, ◌+◌, ◌*◌, ◌-◌, ◌^◌, ◌≤◌, true, not, List, [], ◌∷◌, map, length, take, drop, take_at, drop_at, Ok, refl, sym, ap, subst, ◌∙◌, arith, T, eq-eqb, le-leb, mul-suc, length-append}
 use Rattle.std.proofs.lemmas.List.{length-map, map-append}
 use Rattle.std.proofs.lemmas.List.Edits.{sets, sets-eq}
 use lib.Ieee.{binary64, is_nan, of_bits}
@@ -9,9 +9,10 @@ use Rattle.fields.specs.Codec.{all_fit}
 use Rattle.fields.proofs.Laws.{each}
 use Rattle.record.specs.declared.board.Version.TheVariants.{One}
 use Rattle.record.specs.Board.{Entry, Point, Polygon, Board, limits_of, sheet_high, polygon, board, record_of, is_in_range}
-use Rattle.record.specs.Rows.{entry_row, polygon_row, sheet_of, point_row, rings, rows_for}
+use Rattle.record.specs.Rows.{Rows, entry_row, polygon_row, sheet_of, point_row, rings, filled, rows_for}
+use Rattle.record.specs.Reading.{counts_of, has_room, reading, read_leaves}
 use Rattle.record.specs.Writing.{entries_of, ring_of, sheet_bits, polygons_of, add_up, board_of, is_shaped, is_countable, size_of, write_leaves}
-use Rattle.record.specs.Laws.{ReadsBack}
+use Rattle.record.specs.Laws.{written, ReadsBack}
 use Rattle.record.proofs.Sheets.{no_nan}
 use Rattle.record.proofs.Stores.{eq_self}
 use Rattle.record.proofs.Records.{record-long}
@@ -90,16 +91,20 @@ module _ (b : Board) (fits : is_in_range b ≡ true) where
   long = ap (λ x. length (record_of One x)) (sym (board-back b fits)) ∙ record-long b.settings (rows_for b) same_len counted
 
   module _ (out : List ℕ) (room : size_of (rows_for b) ≤ length out) where
-    written : write_leaves b.settings (rows_for b) out ≡ sets out 0 (record_of One b)
-    written = rw (shaped, countable, le-leb (size_of (rows_for b)) (length out) room, board-back b fits) refl
+    stored : write_leaves b.settings (rows_for b) out ≡ sets out 0 (record_of One b)
+    stored = rw (shaped, countable, le-leb (size_of (rows_for b)) (length out) room, board-back b fits) refl
 
-    pub reads_back : ReadsBack b out
-    reads_back =
+    judged : board (written b out) ≡ Ok b
+    judged =
         let s = record_of One b in
         let n = size_of (rows_for b) in
         let m : 0 + length s ≤ length out = omega (arith, long) in
         let t : take n (sets out 0 s) ≡ s = ap (take n) (sets-eq s out 0 m) ∙ take_at s (drop (0 + length s) out) n long in
-        record {
-          said = rw (shaped, countable, le-leb n (length out) room) refl;
-          back = ap (λ (l : List ℕ). board (take n l)) written ∙ ap board t ∙ record_again b fits;
-        }
+        ap (λ (l : List ℕ). board (take n l)) stored ∙ ap board t ∙ record_again b fits
+
+    read_again : (rows : Rows) → has_room rows (counts_of b) ≡ true → read_leaves (written b out) rows ≡ filled rows b
+    unfolding reading
+    read_again rows enough = rw (judged, enough) refl
+
+    pub reads_back : ReadsBack b out
+    reads_back = record { said = rw (shaped, countable, le-leb (size_of (rows_for b)) (length out) room) refl; judged = judged; read = read_again }

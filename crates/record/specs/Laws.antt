@@ -4,15 +4,21 @@ use Rattle.refusals.specs.declared.Refusal.{Refusal}
 use Rattle.refusals.specs.Said.{Said, accepted}
 use Rattle.record.specs.declared.board.Read.{Read}
 use Rattle.record.specs.Board.{Board, is_in_range, board}
-use Rattle.record.specs.Rows.{rows_for}
-use Rattle.record.specs.Reading.{read_said}
+use Rattle.record.specs.Rows.{Rows, filled, rows_for}
+use Rattle.record.specs.Reading.{counts_of, read_said, has_room, read_leaves}
 use Rattle.record.specs.Writing.{size_of, write_said, write_says, write_leaves}
 
--- for every board in range: its rows are written, and the bytes that `write` says it put are a record that reads as the board
-pub record ReadsBack (board' : Board) (out : List ℕ) : Type 0 where
-  pub said : write_says (rows_for board') (length out) ≡ accepted (size_of (rows_for board') ∷ [])
-  pub back : board (take (size_of (rows_for board')) (write_leaves board'.settings (rows_for board') out)) ≡ Ok board'
+-- the bytes that `write` puts of a board's rows
+abbrev pub written : Board → List ℕ → List ℕ
+written b out = take (size_of (rows_for b)) (write_leaves b.settings (rows_for b) out)
 
+-- the rows of a board are written; what was put is a record that reads as the board, and is read to rows with room
+pub record ReadsBack (b : Board) (out : List ℕ) : Type 0 where
+  pub said : write_says (rows_for b) (length out) ≡ accepted (size_of (rows_for b) ∷ [])
+  pub judged : board (written b out) ≡ Ok b
+  pub read : (rows : Rows) → IsTrue (has_room rows (counts_of b)) → read_leaves (written b out) rows ≡ filled rows b
+
+-- for every board in range
 abbrev pub ReadWrite : Type 0
 ReadWrite = (b : Board) (out : List ℕ) → IsTrue (is_in_range b) → size_of (rows_for b) ≤ length out → ReadsBack b out
 
