@@ -1,6 +1,5 @@
 //! What a row may hold, and how it stands in a stream.
 use crate::Cases;
-use record::fields::ticks;
 use std::num::f64_from_bits_with_nan;
 
 pub trait Stored {
@@ -15,7 +14,7 @@ impl Stored for u64 {
 
 impl Stored for i64 {
     fn stored(cases: &mut Cases) -> i64 {
-        ticks(cases.word())
+        cases.word().cast_signed()
     }
 }
 

@@ -2,7 +2,7 @@
 use Rattle.std.specs.Prelude.{ℕ, get_or, ℤ}
 use Rattle.refusals.specs.Said.{Said, accepted, refused}
 use Rattle.build.specs.declared.Settings as Cutting
-use Rattle.record.specs.declared.Settings as Recorded
+use Rattle.record.specs.declared.board.Settings as Recorded
 use Rattle.contact.specs.declared.Rect.{Rect}
 use Rattle.leafmesh.specs.declared.Outcome.{Outcome}
 

@@ -4,15 +4,15 @@ ghost use Rattle.refusals.specs.Said.{refusal};
 ghost use Rattle.strips.specs.Said.{strips_says, strips_leave};
 ghost use Rattle.build.specs.Board.{board};
 ghost use Rattle.build.specs.Says.{build_says, build_leaves};
-ghost use Rattle.board.specs.Rows.{rows_of};
-ghost use Rattle.board.specs.Reading.{read_said, read_says, read_leaves};
-ghost use Rattle.writing.specs.Written.{write_says, write_leaves};
+ghost use Rattle.record.specs.Rows.{rows_of};
+ghost use Rattle.record.specs.Reading.{read_said, read_says, read_leaves};
+ghost use Rattle.record.specs.Writing.{write_says, write_leaves};
 ghost use Rattle.leafmesh.specs.Outcome.{outcome_of, cut_settings, board_settings};
 ghost use Rattle.leafmesh.specs.Reads.{read_outcome_of};
 
 use crate::{Outcome, of_count};
 use build::outlines::Outlines;
-use record::check::Read;
+use record::{BoardRows, BoardRowsMut, Read, Settings};
 use refusals::Refusal;
 
 // What a read answers: number and place as in an Outcome, then the settings and how many rows the board takes.
@@ -125,10 +125,17 @@ pub extern "C" fn leafmesh_read(
 ) -> ReadOutcome
     ensures value { result
         ≡ read_outcome_of (read_says bytes.now (rows_of layers.old polygons.old sheets.old points.old splits.old)) }
-    ensures splits_after { rows_of layers.new polygons.new sheets.new points.new splits.new
+    ensures rows_after { rows_of layers.new polygons.new sheets.new points.new splits.new
         ≡ read_leaves bytes.now (rows_of layers.old polygons.old sheets.old points.old splits.old) }
 {
-    of_read(board::read(bytes, layers, polygons, sheets, points, splits))
+    let rows = BoardRowsMut {
+        layers,
+        polygons,
+        sheets,
+        points,
+        splits,
+    };
+    of_read(record::read(bytes, rows))
 }
 
 // Lent rows as a board record: value is its length in bytes.
@@ -150,6 +157,13 @@ pub extern "C" fn leafmesh_write(
         ≡ write_leaves (board_settings level cap target)
         (rows_of layers.now polygons.now sheets.now points.now splits.now) out.old }
 {
-    let s = record::Settings { level, cap, target };
-    of_count(writing::write(s, layers, polygons, sheets, points, splits, out))
+    let settings = Settings { level, cap, target };
+    let rows = BoardRows {
+        layers,
+        polygons,
+        sheets,
+        points,
+        splits,
+    };
+    of_count(record::write(settings, &rows, out))
 }

@@ -1,5 +1,5 @@
 -- From the record to the totals: what the reader answers, what the rows then give, and what is said of it. Assumes nothing.
-use Rattle.std.proofs.Common.{ℕ, ◌+◌, ◌*◌, ◌<◌, ◌≤◌, ◌≡◌, refl, sym, ap, ap₂, ◌∙◌, Bool, true, false, ◌&&◌, List, [], ◌∷◌, map, leb, length, get_or, take, length-append, leb-true, le-leb}
+use Rattle.std.proofs.Common.{ℕ, ◌+◌, ◌*◌, ◌<◌, ◌≤◌, ◌≡◌, refl, sym, ap, ap₂, ◌∙◌, Bool, true, false, ◌&&◌, List, [], ◌∷◌, map, leb, length, get_or, take, leb-true, le-leb, Result, Ok, Err}
 use mathlib.Core.List.{map-map}
 use lib.Seq.{length-sets}
 use borrow.Author.Tests.{lt-leb}
@@ -9,14 +9,13 @@ use Rattle.refusals.specs.Said.{accepted, refusal}
 use Rattle.refusals.proofs.Settled.{as-refused}
 use Rattle.cell.proofs.Contact.{and_left, and_right}
 use Rattle.build.proofs.Fitting.{refused-accepted}
-use Rattle.record.specs.declared.Settings.{Settings}
-use Rattle.record.specs.declared.Counts.{Counts}
-use Rattle.record.specs.Fields.{Out, value, stop, ◌then◌, require}
-use Rattle.record.specs.Board.{Board, Polygon, board, points_in, points_of}
-use Rattle.record.specs.Answers.{counts_of}
-use Rattle.record.proofs.Walks.{then-value, require-value}
-use Rattle.board.specs.Rows.{Rows, entry_row, polygon_row, sheet_of, point_row, rings, filled}
-use Rattle.board.specs.Reading.{numbers, has_room, reading, says}
+use Rattle.fields.specs.Cursor.{◌>>=◌, require}
+use Rattle.fields.proofs.Laws.{bind_ok, require_ok, ok_is}
+use Rattle.record.specs.declared.board.Settings.{Settings}
+use Rattle.record.specs.declared.board.Counts.{Counts}
+use Rattle.record.specs.Board.{Board, Polygon, board, points_in}
+use Rattle.record.specs.Rows.{Rows, entry_row, polygon_row, sheet_of, point_row, rings, filled}
+use Rattle.record.specs.Reading.{counts_of, numbers, has_room, reading, says}
 use Rattle.mesh.specs.Polygons.{column}
 use Rattle.mesh.specs.Says.{slot_room, layer_room, polygon_room, point_room, split_room, input_room, roomy, board_in, mesh_of, mesh_says, settings_of, given_by, rows_given, Within}
 use Rattle.mesh.proofs.Fronts.{front, front-map}
@@ -31,7 +30,7 @@ pub record Roomed (rows : Rows) : Type 0 where
   pub points : length rows.points ≡ point_room
   pub splits : length rows.splits ≡ split_room
 
-once : (a b c d : Bool) → ((a && b) && (b && (c && d))) ≡ (a && (b && (c && d)))
+once : (a b c d : Bool) → (a && (b && (b && (c && d)))) ≡ (a && (b && (c && d)))
 once true true c d = refl
 once true false c d = refl
 once false b c d = refl
@@ -45,9 +44,9 @@ pub reading-in : (s : List ℕ) (rows : Rows) → Roomed rows → reading s rows
 unfolding reading board_in
 reading-in s rows r = by (board s)
   where
-    by : (o : Out Board) → (o then λ b e. require (has_room rows (counts_of b)) NoRoom (value b e)) ≡ (o then λ b e. require (roomy (counts_of b)) NoRoom (value b e))
-    by (value b e) = ap (λ t. require t NoRoom (value b e)) (same-room rows r (counts_of b))
-    by (stop x) = refl
+    by : (o : Result Board Refusal) → (o >>= λ b. require (has_room rows (counts_of b)) NoRoom (Ok b)) ≡ (o >>= λ b. require (roomy (counts_of b)) NoRoom (Ok b))
+    by (Ok b) = ap (λ t. require t NoRoom (Ok b)) (same-room rows r (counts_of b))
+    by (Err why) = refl
 
 -- ---- input that is too long, and input that is read
 
@@ -61,9 +60,9 @@ short-enough s h = rw (le-leb (length s) input_room h) refl
 
 -- ---- a refused record
 
-refused-of : (o : Out Board) (x : Refusal) → refusal x ≡ says o → refusal x ≡ mesh_of o
-refused-of (value b e) x p = let r = as-refused x in absurd (refused-accepted r.0 r.1 (numbers b.settings (counts_of b)) (sym r.2 ∙ p))
-refused-of (stop y) x p = p
+refused-of : (o : Result Board Refusal) (x : Refusal) → refusal x ≡ says o → refusal x ≡ mesh_of o
+refused-of (Ok b) x p = let r = as-refused x in absurd (refused-accepted r.0 r.1 (numbers b.settings (counts_of b)) (sym r.2 ∙ p))
+refused-of (Err y) x p = p
 
 pub read-refused : (s : List ℕ) (rows : Rows) → Roomed rows → length s ≤ input_room → (x : Refusal) → refusal x ≡ says (reading s rows) → refusal x ≡ mesh_says s
 read-refused s rows r h x p = refused-of (board_in s) x (p ∙ ap says (reading-in s rows r)) ∙ sym (short-enough s h)
@@ -86,46 +85,37 @@ counts_same m n p q r s =
 -- the board that was read
 pub record Whole (s : List ℕ) (g : Settings) (n : Counts) : Type 0 where
   pub board : Board
-  pub end : ℕ
-  pub read : board_in s ≡ value board end
+  pub read : board_in s ≡ Ok board
   pub settings : g ≡ board.settings
   pub counts : n ≡ counts_of board
 
-whole_of : (s : List ℕ) (g : Settings) (n : Counts) (o : Out Board) → board_in s ≡ o → accepted (numbers g n) ≡ says o → Whole s g n
-whole_of s g n (value b e) p q =
+whole_of : (s : List ℕ) (g : Settings) (n : Counts) (o : Result Board Refusal) → board_in s ≡ o → accepted (numbers g n) ≡ says o → Whole s g n
+whole_of s g n (Ok b) p q =
     let v : accepted (numbers g n) ≡ accepted (numbers b.settings (counts_of b)) = q in
     record {
       board = b;
-      end = e;
       read = p;
       settings = settings-same g b.settings (cc) (cc) (cc);
       counts = counts_same n (counts_of b) (cc) (cc) (cc) (cc);
     }
-whole_of s g n (stop x) p q = let r = as-refused x in absurd (refused-accepted r.0 r.1 (numbers g n) (sym r.2 ∙ sym q))
+whole_of s g n (Err x) p q = let r = as-refused x in absurd (refused-accepted r.0 r.1 (numbers g n) (sym r.2 ∙ sym q))
 
 pub whole : (s : List ℕ) (rows : Rows) → Roomed rows → (g : Settings) (n : Counts) → accepted (numbers g n) ≡ says (reading s rows) → Whole s g n
 whole s rows r g n p = whole_of s g n (board_in s) refl (p ∙ ap says (reading-in s rows r))
 
--- how many points there are
-rings-length : (ps : List Polygon) → points_of ps ≡ length (rings ps)
-unfolding points_of rings
-rings-length [] = refl
-rings-length (p ∷ ps) = ap (λ k. points_in p + k) (rings-length ps) ∙ sym (length-append p.points (rings ps))
-
-module _ (s : List ℕ) (b : Board) (e : ℕ) (p : board_in s ≡ value b e) where
-  found : (board s ≡ value b e) × (roomy (counts_of b) ≡ true)
+module _ (s : List ℕ) (b : Board) (p : board_in s ≡ Ok b) where
+  found : (board s ≡ Ok b) × (roomy (counts_of b) ≡ true)
   unfolding board_in
   found =
-      let t = then-value (board s) (λ b e. require (roomy (counts_of b)) NoRoom (value b e)) p in
-      let r = require-value (roomy (counts_of t.0)) NoRoom (value t.0 t.1) t.3 in
-      let v : value t.0 t.1 ≡ value b e = r.1 in
-      let w : t.0 ≡ b = cc in
-      (t.2 ∙ v, ap (λ (c : Board). roomy (counts_of c)) (sym w) ∙ r.0)
+      let t = bind_ok (board s) (λ (b : Board). require (roomy (counts_of b)) NoRoom (Ok b)) p in
+      let r = require_ok (roomy (counts_of t.0)) NoRoom (Ok t.0) t.2 in
+      let is : t.0 ≡ b = ok_is r.1 in
+      (t.1 ∙ r.1, ap (λ (c : Board). roomy (counts_of c)) (sym is) ∙ r.0)
 
-  rest : (leb (length b.polygons) polygon_room && (leb (points_of b.polygons) point_room && leb (length b.splits) split_room)) ≡ true
+  rest : (leb (length b.polygons) polygon_room && (leb (length (rings b.polygons)) point_room && leb (length b.splits) split_room)) ≡ true
   rest = and_right (leb (length b.layers) layer_room) _ found.1
 
-  last : (leb (points_of b.polygons) point_room && leb (length b.splits) split_room) ≡ true
+  last : (leb (length (rings b.polygons)) point_room && leb (length b.splits) split_room) ≡ true
   last = and_right (leb (length b.polygons) polygon_room) _ rest
 
   pub few : length b.polygons ≤ polygon_room
@@ -141,11 +131,11 @@ module _ (s : List ℕ) (b : Board) (e : ℕ) (p : board_in s ≡ value b e) whe
     fit-sheets : length b.polygons ≤ length rows.sheets
     fit-sheets = rw r.sheets few
 
-    fit-points : points_of b.polygons ≤ length rows.points
-    fit-points = rw r.points (leb-true _ _ (and_left (leb (points_of b.polygons) point_room) _ last))
+    fit-points : length (rings b.polygons) ≤ length rows.points
+    fit-points = rw r.points (leb-true _ _ (and_left (leb (length (rings b.polygons)) point_room) _ last))
 
     fit-splits : length b.splits ≤ length rows.splits
-    fit-splits = rw r.splits (leb-true _ _ (and_right (leb (points_of b.polygons) point_room) _ last))
+    fit-splits = rw r.splits (leb-true _ _ (and_right (leb (length (rings b.polygons)) point_room) _ last))
 
     polygons-front : take (length b.polygons) (filled rows b).polygons ≡ map polygon_row b.polygons
     polygons-front = front-map polygon_row rows.polygons b.polygons (length b.polygons) refl fit-polygons
@@ -166,7 +156,7 @@ module _ (s : List ℕ) (b : Board) (e : ℕ) (p : board_in s ≡ value b e) whe
         (columns 1 (λ x. x.component) (λ x. refl))
         (front-map sheet_of rows.sheets b.polygons (length b.polygons) refl fit-sheets)
         (columns 2 points_in (λ x. refl))
-        (front-map point_row rows.points (rings b.polygons) (points_of b.polygons) (rings-length b.polygons) fit-points)
+        (front-map point_row rows.points (rings b.polygons) (length (rings b.polygons)) refl fit-points)
         (front rows.splits b.splits fit-splits)
 
     -- and the counts are within them

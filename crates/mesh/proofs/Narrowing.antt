@@ -1,12 +1,11 @@
 -- An accepted record's layers have 16 bits and its components 32. Assumes nothing.
-use Rattle.std.proofs.Common.{ℕ, zero, suc, ◌+◌, ◌^◌, ◌<◌, ◌≡◌, refl, subst, List, [], ◌∷◌, map, arith, length, get_or}
-use Rattle.record.specs.Fields.{value}
-use Rattle.record.specs.Board.{Polygon, polygon, shapes, Board, board}
-use Rattle.record.proofs.Numbers.{number-below}
-use Rattle.record.proofs.Walks.{several-view, several-length}
-use Rattle.record.proofs.Items.{polygon-made}
-use Rattle.board.specs.Rows.{polygon_row}
-use Rattle.board.proofs.Parts.{parts}
+use Rattle.std.proofs.Common.{ℕ, zero, suc, ◌+◌, ◌^◌, ◌<◌, ◌≡◌, true, List, [], ◌∷◌, map, arith, length, get_or, Ok}
+use Rattle.fields.specs.Codec.{all_fit}
+use Rattle.fields.proofs.Laws.{each}
+use Rattle.record.specs.declared.board.Version.TheVariants.{One}
+use Rattle.record.specs.Board.{Polygon, limits_of, polygon, Board, board}
+use Rattle.record.specs.Rows.{polygon_row}
+use Rattle.record.proofs.Rounds.{polygon_fits, board_fits, record_found}
 use Rattle.mesh.specs.Polygons.{Narrow}
 
 -- what holds of the first row and of each other holds of each
@@ -17,28 +16,18 @@ each_row P r rows p q (suc i) h = q i (omega arith)
 no_row : (P : List ℕ → Type 0) (i : ℕ) → i < length {A = List ℕ} [] → P (get_or [] i [])
 no_row P i h = absurd (omega arith)
 
-module _ (s : List ℕ) (bytes : (i : ℕ) → get_or s i 0 < 256) where
-  shapes-narrow : (n at : ℕ) {ps : List Polygon} {e : ℕ} → shapes s n at ≡ value ps e → Narrow (map polygon_row ps)
-  shapes-narrow zero at {ps} {e} p =
-      let z : [] ≡ ps = empty ps (several-length (polygon s) zero at p) in
-      subst (λ (qs : List Polygon). Narrow (map polygon_row qs)) z
-      (record { layer = no_row (λ r. get_or r 0 0 < 2 ^ 16); component = no_row (λ r. get_or r 1 0 < 2 ^ 32) })
-    where
-      empty : (ps : List Polygon) → length ps ≡ zero → [] ≡ ps
-      empty [] h = refl
-      empty (p ∷ ps) h = absurd (omega arith)
-  shapes-narrow (suc n) at p =
-      let v = several-view (polygon s) n at p in
-      let m = polygon-made s at v.3 in
-      let r = shapes-narrow n v.1 v.4 in
-      let l : (v.0).layer < 2 ^ 16 = rw m.layer (number-below s at bytes 2) in
-      let c : (v.0).component < 2 ^ 32 = rw m.component (number-below s (at + 2) bytes 4) in
-      rw v.5
-      (record {
-        layer = each_row (λ r. get_or r 0 0 < 2 ^ 16) (polygon_row v.0) (map polygon_row v.2) l r.layer;
-        component = each_row (λ r. get_or r 1 0 < 2 ^ 32) (polygon_row v.0) (map polygon_row v.2) c r.component;
-      })
+polygons_narrow : (ps : List Polygon) → all_fit (λ (_ : Unit {0}). polygon (limits_of One)) (λ _. tt) tt ps ≡ true → Narrow (map polygon_row ps)
+unfolding all_fit
+polygons_narrow [] fits = record { layer = no_row (λ r. get_or r 0 0 < 2 ^ 16); component = no_row (λ r. get_or r 1 0 < 2 ^ 32) }
+polygons_narrow (p ∷ ps) fits =
+    let f = each ((polygon (limits_of One)).fits p) _ fits in
+    let here = polygon_fits (limits_of One) p f.0 in
+    let rest = polygons_narrow ps f.1 in
+    record {
+      layer = each_row (λ r. get_or r 0 0 < 2 ^ 16) (polygon_row p) (map polygon_row ps) here.layer rest.layer;
+      component = each_row (λ r. get_or r 1 0 < 2 ^ 32) (polygon_row p) (map polygon_row ps) here.component rest.component;
+    }
 
-  -- the law
-  pub record-narrow : (b : Board) {e : ℕ} → board s ≡ value b e → Narrow (map polygon_row b.polygons)
-  record-narrow b p = let m = parts s b p in shapes-narrow (length b.polygons) (m.first + 2) m.polygons
+-- the law
+pub record-narrow : (s : List ℕ) → ((i : ℕ) → get_or s i 0 < 256) → (b : Board) → board s ≡ Ok b → Narrow (map polygon_row b.polygons)
+record-narrow s bytes b read = polygons_narrow b.polygons (board_fits b (record_found s b bytes read)).polygons

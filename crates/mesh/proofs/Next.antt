@@ -4,9 +4,8 @@ use Rattle.std.proofs.Common.{ℕ, ◌≡◌, refl, sym, ap, ◌∙◌, Bool, tr
 use lib.ListN.{length-map}
 use Rattle.refusals.specs.Said.{accepted, refused}
 use Rattle.build.proofs.Fitting.{refused-accepted}
-use Rattle.record.specs.Fields.{value}
 use Rattle.record.specs.Board.{Board, points_in}
-use Rattle.board.specs.Rows.{sheet_of}
+use Rattle.record.specs.Rows.{sheet_of}
 use Rattle.table.specs.Rows.{head_of, order_in}
 use Rattle.table.specs.Leaves.{list_says}
 use Rattle.mesh.specs.declared.Totals.{Totals}
@@ -43,8 +42,8 @@ pub record Told (b : Board) (x : Totals) : Type 0 where
   pub splits : x.splits ≡ value_at 0 (balance_say (given_by b))
   pub leaves : x.leaves ≡ length (leaf_order (given_by b))
 
-pub told : (s : List ℕ) (x : Totals) (b : Board) (e : ℕ) → board_in s ≡ value b e → meshed_said (Ok x) ≡ mesh_says s → Told b x
-told s x b e p q =
+pub told : (s : List ℕ) (x : Totals) (b : Board) → board_in s ≡ Ok b → meshed_said (Ok x) ≡ mesh_says s → Told b x
+told s x b p q =
     let g = given_by b in
     let v : accepted (x.max_level ∷ x.count ∷ x.polygons ∷ x.splits ∷ x.leaves ∷ []) ≡ accepted (b.settings.level ∷ count_of g ∷ length (map points_in b.polygons) ∷ value_at 0 (balance_say g) ∷ length (leaf_order g) ∷ []) =
     totals-said (balanced_row g) (count_of g) (level_of g) (length (map points_in b.polygons)) (value_at 0 (balance_say g)) leaf_room (table-said b (was_read s q ∙ ap mesh_of p)) in
@@ -56,10 +55,10 @@ module _ (s : List ℕ) (t : List ℤ) (o o' l l' c c' : List ℕ) (r r' : List 
   many = length m.board.polygons
 
   pub layers-front : length l ≡ polygon_room → take many l' ≡ map (λ p. p.layer) m.board.polygons
-  layers-front e = ap (take many) m.layers ∙ front-map (λ p. p.layer) l m.board.polygons many refl (rw e (few s m.board m.end m.read))
+  layers-front e = ap (take many) m.layers ∙ front-map (λ p. p.layer) l m.board.polygons many refl (rw e (few s m.board m.read))
 
   pub components-front : length c ≡ polygon_room → take many c' ≡ map (λ p. p.component) m.board.polygons
-  components-front e = ap (take many) m.components ∙ front-map (λ p. p.component) c m.board.polygons many refl (rw e (few s m.board m.end m.read))
+  components-front e = ap (take many) m.components ∙ front-map (λ p. p.component) c m.board.polygons many refl (rw e (few s m.board m.read))
 
   pub sheets-front : length r ≡ polygon_room → take many r' ≡ map sheet_of m.board.polygons
-  sheets-front e = ap (take many) m.sheets ∙ front-map sheet_of r m.board.polygons many refl (rw e (few s m.board m.end m.read))
+  sheets-front e = ap (take many) m.sheets ∙ front-map sheet_of r m.board.polygons many refl (rw e (few s m.board m.read))

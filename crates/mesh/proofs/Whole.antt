@@ -1,5 +1,5 @@
 -- The whole call, from what its parts answer and leave. Assumes nothing.
-use Rattle.std.proofs.Common.{ℕ, ◌*◌, ◌<◌, ◌≤◌, ◌≡◌, refl, sym, ap, ◌∙◌, true, List, [], ◌∷◌, map, ℤ, length, get_or, take}
+use Rattle.std.proofs.Common.{ℕ, ◌*◌, ◌<◌, ◌≤◌, ◌≡◌, refl, sym, ap, ◌∙◌, true, List, [], ◌∷◌, map, ℤ, length, get_or, take, Ok}
 use lib.ListN.{length-map}
 use lib.Seq.{sets}
 use Rattle.refusals.specs.declared.Refusal.{Refusal}
@@ -8,13 +8,11 @@ use Rattle.table.specs.Formed.{well_formed}
 use Rattle.table.specs.Rows.{head_of, order_in}
 use Rattle.table.specs.Leaves.{listed_row, written}
 use Rattle.refusals.specs.Said.{is_accepted}
-use Rattle.record.specs.declared.Settings.{Settings}
-use Rattle.record.specs.declared.Counts.{Counts}
-use Rattle.record.specs.Fields.{value}
+use Rattle.record.specs.declared.board.Settings.{Settings}
+use Rattle.record.specs.declared.board.Counts.{Counts}
 use Rattle.record.specs.Board.{Board, Polygon, points_in}
-use Rattle.record.specs.Answers.{counts_of}
-use Rattle.board.specs.Rows.{Rows, filled, polygon_row}
-use Rattle.board.specs.Reading.{reading, leaves}
+use Rattle.record.specs.Rows.{Rows, filled, polygon_row}
+use Rattle.record.specs.Reading.{counts_of, reading, leaves}
 use Rattle.mesh.specs.Polygons.{column}
 use Rattle.mesh.specs.Growing.{also, value_at, level_of, balance_say, balanced_row, grow_says, grow_leaves}
 use Rattle.mesh.specs.Says.{slot_room, polygon_room, leaf_room, input_room, totals_say, count_of, table_says, board_in, mesh_of, mesh_says, given_by, rows_given, Within, Made}
@@ -23,29 +21,29 @@ use Rattle.mesh.proofs.Ordering.{totals-written}
 use Rattle.mesh.proofs.Meshing.{Roomed, reading-in, short-enough, Whole, columns, given-filled, within}
 
 -- the rows that an accepted record leaves
-pub rows_left : (s : List ℕ) (rows rows' : Rows) → Roomed rows → (b : Board) (e : ℕ) → board_in s ≡ value b e → rows' ≡ leaves rows (reading s rows) → rows' ≡ filled rows b
-rows_left s rows rows' r b e p q = q ∙ ap (leaves rows) (reading-in s rows r ∙ p)
+pub rows_left : (s : List ℕ) (rows rows' : Rows) → Roomed rows → (b : Board) → board_in s ≡ Ok b → rows' ≡ leaves rows (reading s rows) → rows' ≡ filled rows b
+rows_left s rows rows' r b p q = q ∙ ap (leaves rows) (reading-in s rows r ∙ p)
 
 module _ (s : List ℕ) (rows rows' : Rows) (r : Roomed rows) (g : Settings) (n : Counts) (w : Whole s g n) (q : rows' ≡ leaves rows (reading s rows)) where
   -- what the table step asks for
   pub ready : ((i : ℕ) → get_or s i 0 < 256) → (l c : ℕ) → l ≡ polygon_room → c ≡ polygon_room → Within n rows' l c
-  ready bytes l c x y = by w.board w.end w.read w.counts (rows_left s rows rows' r w.board w.end w.read q)
+  ready bytes l c x y = by w.board w.read w.counts (rows_left s rows rows' r w.board w.read q)
     where
-      by : (b : Board) (e : ℕ) → board_in s ≡ value b e → n ≡ counts_of b → rows' ≡ filled rows b → Within n rows' l c
-      by b e p u v = rw (u, v) (within s b e p rows r bytes l c x y)
+      by : (b : Board) → board_in s ≡ Ok b → n ≡ counts_of b → rows' ≡ filled rows b → Within n rows' l c
+      by b p u v = rw (u, v) (within s b p rows r bytes l c x y)
 
   columns-are : (k : ℕ) (f : Polygon → ℕ) → ((x : Polygon) → get_or (polygon_row x) k 0 ≡ f x) → column k (take n.polygons rows'.polygons) ≡ map f w.board.polygons
-  columns-are k f i = by w.board w.end w.read w.counts (rows_left s rows rows' r w.board w.end w.read q)
+  columns-are k f i = by w.board w.read w.counts (rows_left s rows rows' r w.board w.read q)
     where
-      by : (b : Board) (e : ℕ) → board_in s ≡ value b e → n ≡ counts_of b → rows' ≡ filled rows b → column k (take n.polygons rows'.polygons) ≡ map f b.polygons
-      by b e p u v = rw (u, v) (columns s b e p rows r k f i)
+      by : (b : Board) → board_in s ≡ Ok b → n ≡ counts_of b → rows' ≡ filled rows b → column k (take n.polygons rows'.polygons) ≡ map f b.polygons
+      by b p u v = rw (u, v) (columns s b p rows r k f i)
 
   module _ (h : length s ≤ input_room) (size : ℕ) (z : size ≡ slot_room * 8) where
     same-given : rows_given g n rows' size ≡ given_by w.board
-    same-given = by w.board w.end w.read w.settings w.counts (rows_left s rows rows' r w.board w.end w.read q)
+    same-given = by w.board w.read w.settings w.counts (rows_left s rows rows' r w.board w.read q)
       where
-        by : (b : Board) (e : ℕ) → board_in s ≡ value b e → g ≡ b.settings → n ≡ counts_of b → rows' ≡ filled rows b → rows_given g n rows' size ≡ given_by b
-        by b e p a u v = rw (a, u, v, z) (given-filled s b e p rows r)
+        by : (b : Board) → board_in s ≡ Ok b → g ≡ b.settings → n ≡ counts_of b → rows' ≡ filled rows b → rows_given g n rows' size ≡ given_by b
+        by b p a u v = rw (a, u, v, z) (given-filled s b p rows r)
 
     said : table_says (given_by w.board) leaf_room ≡ mesh_says s
     said = sym (short-enough s h ∙ ap mesh_of w.read)
@@ -92,7 +90,6 @@ module _ (s : List ℕ) (rows rows' : Rows) (r : Roomed rows) (g : Settings) (n 
       made o o' l l' c c' a i j k =
           record {
             board = w.board;
-            end = w.end;
             read = w.read;
             table = table_is;
             order =
@@ -102,5 +99,5 @@ module _ (s : List ℕ) (rows rows' : Rows) (r : Roomed rows) (g : Settings) (n 
                 ∙ ap (λ (x : Said). written (order_in (balanced_row (given_by w.board)) (head_of (value_at 1 x) (level_of (given_by w.board)))) o) balance-is;
             layers = j ∙ ap (sets l 0) (columns-are 0 (λ x. x.layer) (λ x. refl));
             components = k ∙ ap (sets c 0) (columns-are 1 (λ x. x.component) (λ x. refl));
-            sheets = ap (λ (x : Rows). x.sheets) (rows_left s rows rows' r w.board w.end w.read q);
+            sheets = ap (λ (x : Rows). x.sheets) (rows_left s rows rows' r w.board w.read q);
           }

@@ -1,5 +1,5 @@
 -- What the call says of a record's bytes, and what it leaves in the lent rows.
-use Rattle.std.specs.Prelude.{ℕ, ◌*◌, ◌≤◌, ◌≡◌, Bool, cond, ◌&&◌, List, [], ◌∷◌, map, leb, Float, ℤ, length, take, replicate, Result}
+use Rattle.std.specs.Prelude.{ℕ, ◌*◌, ◌≤◌, ◌≡◌, Bool, cond, ◌&&◌, List, [], ◌∷◌, map, leb, Float, ℤ, length, take, replicate, Result, Ok, Err}
 use Rattle.std.proofs.lemmas.List.Edits.{sets}
 use Rattle.refusals.specs.declared.Refusal.{Refusal}
 use Rattle.refusals.specs.declared.Refusal.TheVariants.{NoRoom}
@@ -9,12 +9,12 @@ use Rattle.table.specs.Rows.{head_of, order_in}
 use Rattle.table.specs.Leaves.{written, list_says}
 use Rattle.build.specs.declared.Settings as Build
 use Rattle.build.specs.Board.{polygons}
-use Rattle.record.specs.declared.Settings.{Settings}
-use Rattle.record.specs.declared.Counts.{Counts}
-use Rattle.record.specs.Fields.{Out, value, stop, ◌then◌, require}
+use Rattle.fields.specs.Cursor.{◌>>=◌, require}
+use Rattle.record.specs.declared.board.Settings.{Settings}
+use Rattle.record.specs.declared.board.Counts.{Counts}
 use Rattle.record.specs.Board.{Board, board, points_in}
-use Rattle.record.specs.Answers.{counts_of}
-use Rattle.board.specs.Rows.{Rows, entry_row, sheet_of, point_row, rings}
+use Rattle.record.specs.Rows.{Rows, entry_row, sheet_of, point_row, rings}
+use Rattle.record.specs.Reading.{counts_of}
 use Rattle.mesh.specs.declared.Totals.{Totals}
 use Rattle.mesh.specs.Polygons.{column, Narrow}
 use Rattle.mesh.specs.Growing.{also, value_at, Given, given, level_of, balance_say, balanced_row, grow_says}
@@ -79,12 +79,12 @@ abbrev pub roomy : Counts → Bool
 roomy n = leb n.layers layer_room && (leb n.polygons polygon_room && (leb n.points point_room && leb n.splits split_room))
 
 -- the board of a record that fits the rooms, or the refusal: 6 once the whole record is judged
-unfoldable pub board_in : List ℕ → Out Board
-board_in s = board s then λ b e. require (roomy (counts_of b)) NoRoom (value b e)
+unfoldable pub board_in : List ℕ → Result Board Refusal
+board_in s = board s >>= λ b. require (roomy (counts_of b)) NoRoom (Ok b)
 
-abbrev pub mesh_of : Out Board → Said
-mesh_of (value b e) = table_says (given_by b) leaf_room
-mesh_of (stop x) = refusal x
+abbrev pub mesh_of : Result Board Refusal → Said
+mesh_of (Ok b) = table_says (given_by b) leaf_room
+mesh_of (Err why) = refusal why
 
 -- "input past 16,384 bytes is 6 unread"
 unfoldable pub mesh_says : List ℕ → Said
@@ -104,8 +104,7 @@ pub record Lent (t o l c r : ℕ) : Type 0 where
 -- component and r_sheet
 pub record Made (s : List ℕ) (t : List ℤ) (o o' l l' c c' : List ℕ) (r r' : List Float) : Type 0 where
   pub board : Board
-  pub end : ℕ
-  pub read : board_in s ≡ value board end
+  pub read : board_in s ≡ Ok board
   pub table : t ≡ balanced_row (given_by board)
   pub order : o' ≡ written (leaf_order (given_by board)) o
   pub layers : l' ≡ sets l 0 (map (λ p. p.layer) board.polygons)

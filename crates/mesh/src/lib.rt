@@ -8,13 +8,13 @@ ghost use Rattle.table.specs.Rows.{order_in};
 ghost use Rattle.table.specs.Leaves.{listed_row};
 ghost use Rattle.refusals.specs.Said.{is_accepted};
 ghost use Rattle.even.specs.Even.{evening_said};
-ghost use Rattle.board.specs.Rows.{rows_of};
+ghost use Rattle.record.specs.Rows.{rows_of};
 ghost use Rattle.mesh.specs.Polygons.{column};
 ghost use Rattle.mesh.specs.Growing.{grow_says, grow_leaves};
 ghost use Rattle.mesh.specs.Says.{meshed_said, totals_say, rows_given, Within, Lent, Made, mesh_says};
 
 use even::Evening;
-use record::{Counts, Settings};
+use record::{BoardRowsMut, Counts, Settings};
 use refusals::Refusal;
 use refusals::limits::{LAYERS, POLYGONS};
 use table::Head;
@@ -137,14 +137,14 @@ pub fn mesh(
     let mut polygons = [[0u64; 3]; POLYGONS];
     let mut points = [[0i64; 2]; POINTS];
     let mut splits = [0u64; SPLITS];
-    let read = board::read(
-        s,
-        &mut list,
-        &mut polygons,
-        sheets,
-        &mut points,
-        &mut splits,
-    )?;
+    let rows = BoardRowsMut {
+        layers: &mut list,
+        polygons: &mut polygons,
+        sheets: &mut *sheets,
+        points: &mut points,
+        splits: &mut splits,
+    };
+    let read = record::read(s, rows)?;
     let n = read.counts;
     let grown = grow_board(
         read.settings,

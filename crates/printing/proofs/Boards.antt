@@ -12,9 +12,8 @@ use Rattle.table.proofs.Shape.{formed-within}
 use Rattle.table.proofs.Listed.{order_ids-in}
 use Rattle.build.specs.Board.{polygons}
 use Rattle.build.proofs.Fitting.{refused-accepted}
-use Rattle.record.specs.Fields.{value}
 use Rattle.record.specs.Board.{Board, Polygon, points_in}
-use Rattle.board.specs.Rows.{sheet_of}
+use Rattle.record.specs.Rows.{sheet_of}
 use Rattle.leafrows.proofs.Ids.{leaf-id}
 use Rattle.network.specs.Says as Network
 use Rattle.lines.specs.Lines.{Slotted}
@@ -70,9 +69,9 @@ told g t e =
     }
 
 -- input that is read is short enough
-short : (s : List ℕ) (b : Board) (end : ℕ) (vs : List ℕ) → board_in s ≡ value b end → accepted vs ≡ mesh_says s → accepted vs ≡ table_says (given_by b) leaf_room
+short : (s : List ℕ) (b : Board) (vs : List ℕ) → board_in s ≡ Ok b → accepted vs ≡ mesh_says s → accepted vs ≡ table_says (given_by b) leaf_room
 unfolding mesh_says
-short s b end vs r e = by (leb (length s) input_room) e
+short s b vs r e = by (leb (length s) input_room) e
   where
     by : (c : Bool) → accepted vs ≡ cond c (mesh_of (board_in s)) (refused 6 0) → accepted vs ≡ table_says (given_by b) leaf_room
     by true e = e ∙ ap mesh_of r
@@ -92,7 +91,7 @@ module _ (s : List ℕ) (t : Totals) (e : meshed_said (Ok t) ≡ mesh_says s) {t
   g = given_by b
 
   T : Told g t
-  T = told g t (short s b m.end _ m.read e)
+  T = told g t (short s b _ m.read e)
 
   polygon-count : t.polygons ≡ length b.polygons
   polygon-count = T.polygons ∙ length-map b.polygons points_in
@@ -101,7 +100,7 @@ module _ (s : List ℕ) (t : Totals) (e : meshed_said (Ok t) ≡ mesh_says s) {t
   few-leaves = omega (arith, T.leaves, T.room)
 
   pub few-polygons : t.polygons ≤ polygon_room
-  few-polygons = omega (arith, polygon-count, few s b m.end m.read)
+  few-polygons = omega (arith, polygon-count, few s b m.read)
 
   order_is : take t.leaves o' ≡ leaf_order g
   unfolding written

@@ -1,14 +1,14 @@
 -- What `leafnet` writes, by the rules: "prints totals (splits is balance's answer), leaves (id polygon level x0 y0 x1
 -- y1, in `leaf_order`), nodes (number layer component x y), edges (ends, binary64 bits ..). A refusal prints only
 -- `refused` number place."
-use Rattle.std.specs.Prelude.{ℕ, ◌*◌, List, [], ◌++◌, map, ℤ, pos, length, get_or, replicate}
+use Rattle.std.specs.Prelude.{ℕ, ◌*◌, List, [], ◌++◌, map, ℤ, pos, length, get_or, replicate, Result, Ok, Err}
 use Rattle.std.specs.Float.{nan, binary64}
 use Rattle.std.specs.Float.Ieee.{of_bits}
 use Rattle.refusals.specs.Said.{Said, accepted, refused}
 use Rattle.cell.specs.Ticks.{on}
-use Rattle.record.specs.Fields.{Out, value, stop}
+use Rattle.refusals.specs.declared.Refusal.{Refusal}
 use Rattle.record.specs.Board.{Board}
-use Rattle.board.specs.Rows.{sheet_of}
+use Rattle.record.specs.Rows.{sheet_of}
 use Rattle.net.specs.Net.{Node, Edge, Net, nth}
 use Rattle.network.specs.Says.{Polygons, Rows, polygons, rows, net_of, network_says}
 use Rattle.lines.specs.Text.{totals_text, node_text, edge_text, refused_text}
@@ -65,11 +65,11 @@ polygons_of b =
     polygons (map (λ p. p.layer) ps) (map (λ p. p.component) ps) (map sheet_of ps)
 
 -- the board's balanced table; a record that has no board was refused before
-abbrev pub board_text : Out Board → List ℕ
-board_text (value b end) =
+abbrev pub board_text : Result Board Refusal → List ℕ
+board_text (Ok b) =
     let g = given_by b in
     table_text (count_of g) (level_of g) (value_at 0 (balance_say g)) (balanced_row g) (leaf_order g) (polygons_of b)
-board_text (stop x) = []
+board_text (Err why) = []
 
 -- all that is written for a record
 unfoldable pub output_text : List ℕ → List ℕ

@@ -1,6 +1,9 @@
--- Laws that several proofs cite.
-pub mod Numbers
-pub mod Walks
-pub mod Items
+-- Laws of the walk, of bytes that are put in place, and what was written is read again.
+pub mod Storing
+pub mod Sheets
+pub mod Boards
+pub mod Stores
 pub mod Turns
-pub mod Each
+pub mod Records
+pub mod Rounds
+pub mod Back

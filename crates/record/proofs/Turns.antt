@@ -1,35 +1,165 @@
--- A loop over n items, at turn i: how it ends, is refused and goes on. Assumes nothing.
-use Rattle.std.proofs.Common.{ℕ, suc, ◌+◌, ◌-◌, ◌≤◌, ◌<◌, ◌≡◌, refl, List, [], ◌∷◌, arith}
-use Rattle.refusals.specs.declared.Refusal.{Refusal}
-use Rattle.record.specs.Fields.{Out, value, stop, ◌then◌, many}
-use Rattle.record.specs.Answers.{went, nothing}
+-- One polygon more: what its stores leave to be put.
+use Rattle.std.proofs.Common.{ℕ, suc, ◌+◌, ◌*◌, ◌-◌, ◌≤◌, ◌<◌, ◌≡◌, refl, sym, ap, ◌∙◌, Bool, true, false, ◌&&◌, List, [], ◌∷◌, ◌++◌, append_assoc, mul-suc, mul-zero, add-one, arith, leb, eqb, ℤ, Float, length, get_or, take, drop, length-append, length-drop, drop-cons, length-take-le, leb-true, le-leb, eqb-true, w64}
+use mathlib.Core.Bool.{false≢true}
+use lib.Ieee.{nan}
+use lib.ListN.{length-map}
+use lib.Seq.{sets}
+use borrow.Author.Tests.{lt-leb}
+use Rattle.record.specs.Board.{Entry, Polygon, Point}
+use Rattle.std.specs.List.{flat_map}
+use Rattle.std.specs.Int.{bytes_high_first, cast_unsigned}
+use Rattle.record.specs.Puts.{entry_bytes, point_bytes, polygon_bytes}
+use Rattle.record.specs.Writing.{entry_of, entries_of, point_of, ring_of, sheet_bits, count_of, polygons_of, add_up}
+use Rattle.record.proofs.Stores.{bytes-length, sets_then, bytes_then, mapped-turn, mapped-end}
 
-module _ {A S : Type 0} (item : S → ℕ → Out A) (leaves : A → S) where
-  -- the next turn of n, at turn i
-  turn : (n i : ℕ) → i < n → n - i ≡ suc (n - (i + 1))
-  turn n i h = omega arith
+pub and_both : (a b : Bool) → (a && b) ≡ true → (a ≡ true) × (b ≡ true)
+and_both true b p = (refl, p)
+and_both false b p = absurd (false≢true p)
 
-  pub done : (n i : ℕ) (seen : S) (at : ℕ) → n ≤ i → many item leaves seen (n - i) at ≡ value [] at
-  unfolding many
-  done n i seen at h = let e : n - i ≡ 0 = omega arith in rw e refl
+pub count_fits : (ps : List (List ℕ)) (i m : ℕ) → i < length ps → add_up (drop i ps) m ≡ true
+    → (count_of (get_or ps i []) ≤ m) × (add_up (drop (i + 1) ps) (m - count_of (get_or ps i [])) ≡ true)
+unfolding add_up
+count_fits ps i m h e =
+    let p = get_or ps i [] in
+    let q : (leb (count_of p) m && add_up (drop (suc i) ps) (m - count_of p)) ≡ true = ap (λ l. add_up l m) (sym (drop-cons ps i [] h)) ∙ e in
+    let b = and_both (leb (count_of p) m) (add_up (drop (suc i) ps) (m - count_of p)) q in
+    (leb-true (count_of p) m b.0, ap (λ k. add_up (drop k ps) (m - count_of p)) (add-one i) ∙ b.1)
 
-  pub refused : (n i : ℕ) (seen : S) (at : ℕ) {x : Refusal} → i < n → item seen at ≡ stop x
-      → many item leaves seen (n - i) at ≡ stop x
-  unfolding many
-  refused n i seen at h p = rw (turn n i h, p) refl
+pub each-length : {A : Type 0} (f : A → List ℕ) (k : ℕ) → ((x : A) → length (f x) ≡ k) → (xs : List A) → length (flat_map f xs) ≡ k * length xs
+each-length f k h [] = sym (mul-zero k)
+each-length f k h (x ∷ xs) = length-append (f x) (flat_map f xs) ∙ rw (mul-suc k (length xs)) (omega (arith, h x, each-length f k h xs))
 
-  pub go : {B : Type 0} (g : List A → B) (n i : ℕ) (seen : S) (at : ℕ) {a : A} {next : ℕ} → i < n
-      → item seen at ≡ value a next
-      → went g (many item leaves seen (n - i) at)
-      ≡ went (λ rest. g (a ∷ rest)) (many item leaves (leaves a) (n - (i + 1)) next)
-  unfolding many
-  go g n i seen at {a} {next} h p = rw (turn n i h, p) (by (many item leaves (leaves a) (n - (i + 1)) next))
-    where
-      by : (o : Out (List A)) → went g (o then λ rest end. value (a ∷ rest) end) ≡ went (λ rest. g (a ∷ rest)) o
-      by (value xs e) = refl
-      by (stop x) = refl
+point-long : (p : Point) → length (point_bytes p) ≡ 16
+point-long p = length-append (bytes_high_first 8 (cast_unsigned w64 p.x)) (bytes_high_first 8 (cast_unsigned w64 p.y)) ∙ omega (arith, bytes-length 8 (cast_unsigned w64 p.x), bytes-length 8 (cast_unsigned w64 p.y))
 
-  pub passed : (n i : ℕ) (seen : S) (at : ℕ) {a : A} {next : ℕ} → i < n
-      → item seen at ≡ value a next
-      → went nothing (many item leaves seen (n - i) at) ≡ went nothing (many item leaves (leaves a) (n - (i + 1)) next)
-  passed = go nothing
+regroup : (a b c d e : List ℕ) → (a ++ (b ++ (c ++ d))) ++ e ≡ a ++ (b ++ (c ++ (d ++ e)))
+regroup a b c d e = simp append_assoc
+
+head-long : (a b c d : ℕ) → length (bytes_high_first 2 a ++ (bytes_high_first 4 b ++ (bytes_high_first 8 c ++ bytes_high_first 2 d))) ≡ 16
+head-long a b c d =
+    omega (
+      arith,
+      length-append (bytes_high_first 2 a) (bytes_high_first 4 b ++ (bytes_high_first 8 c ++ bytes_high_first 2 d)),
+      length-append (bytes_high_first 4 b) (bytes_high_first 8 c ++ bytes_high_first 2 d),
+      length-append (bytes_high_first 8 c) (bytes_high_first 2 d),
+      bytes-length 2 a,
+      bytes-length 4 b,
+      bytes-length 8 c,
+      bytes-length 2 d,
+    )
+
+module _ (ps : List (List ℕ)) (rs : List Float) (qs : List (List ℤ)) (i at n : ℕ) (h : i < length ps) (same : length ps ≡ length rs)
+    (counted : n ≡ count_of (get_or ps i [])) (room : n ≤ length qs) where
+  here : Polygon
+  here = record { layer = get_or (get_or ps i []) 0 0; component = get_or (get_or ps i []) 1 0; sheet = sheet_bits (get_or rs i nan); points = ring_of (take n qs) }
+
+  next : polygons_of (drop i ps) (drop i rs) qs ≡ here ∷ polygons_of (drop (i + 1) ps) (drop (i + 1) rs) (drop n qs)
+  unfolding polygons_of here
+  next =
+      ap (λ l. polygons_of l (drop i rs) qs) (drop-cons ps i [] h)
+      ∙ ap (λ l. polygons_of (get_or ps i [] ∷ drop (suc i) ps) l qs) (drop-cons rs i nan (omega arith))
+      ∙ rw (← counted, add-one i) refl
+
+  -- the polygon of a turn: its head and then its ring, and what is left is put behind them
+  pub polygon-turn : (out head ring : List ℕ)
+      → head ≡ sets out at (bytes_high_first 2 (get_or (get_or ps i []) 0 0) ++ (bytes_high_first 4 (get_or (get_or ps i []) 1 0) ++ (bytes_high_first 8 (sheet_bits (get_or rs i nan)) ++ bytes_high_first 2 n)))
+      → ring ≡ sets head (at + 16) (flat_map point_bytes (ring_of (take n qs)))
+      → sets ring (at + (16 + 16 * n)) (flat_map polygon_bytes (polygons_of (drop (i + 1) ps) (drop (i + 1) rs) (drop n qs)))
+      ≡ sets out at (flat_map polygon_bytes (polygons_of (drop i ps) (drop i rs) qs))
+  unfolding here
+  polygon-turn out head ring p r =
+      let a = get_or (get_or ps i []) 0 0 in
+      let b = get_or (get_or ps i []) 1 0 in
+      let c = sheet_bits (get_or rs i nan) in
+      let t = bytes_high_first 2 a ++ (bytes_high_first 4 b ++ (bytes_high_first 8 c ++ bytes_high_first 2 n)) in
+      let u = flat_map point_bytes here.points in
+      let l : length here.points ≡ n = length-map (take n qs) _ ∙ length-take-le n qs room in
+      let w : t ++ u ≡ polygon_bytes here = regroup (bytes_high_first 2 a) (bytes_high_first 4 b) (bytes_high_first 8 c) (bytes_high_first 2 n) u ∙ ap (λ k. bytes_high_first 2 a ++ (bytes_high_first 4 b ++ (bytes_high_first 8 c ++ (bytes_high_first 2 k ++ u)))) (sym l) in
+      let v : ring ≡ sets out at (polygon_bytes here) = sets_then out at (at + 16) t u (omega (arith, head-long a b c n)) p r ∙ ap (sets out at) w in
+      let z : 16 + 16 * n ≡ length (polygon_bytes here) =
+      omega (arith, ap length w, length-append t u, head-long a b c n, each-length point_bytes 16 point-long here.points, l) in
+      let rest = flat_map polygon_bytes (polygons_of (drop (i + 1) ps) (drop (i + 1) rs) (drop n qs)) in
+      sets_then out at (at + (16 + 16 * n)) (polygon_bytes here) rest (ap (λ k. at + k) z) v refl ∙ ap (λ x. sets out at (flat_map polygon_bytes x)) (sym next)
+
+nil : {A : Type 0} (l : List A) → length l ≡ 0 → l ≡ []
+nil [] e = refl
+nil (x ∷ l) e = absurd (omega arith)
+
+pub polygons-end : (ps : List (List ℕ)) (rs : List Float) (qs : List (List ℤ)) (i at : ℕ) (out : List ℕ) → length ps ≤ i
+    → sets out at (flat_map polygon_bytes (polygons_of (drop i ps) rs qs)) ≡ out
+unfolding polygons_of
+polygons-end ps rs qs i at out h = ap (λ l. sets out at (flat_map polygon_bytes (polygons_of l rs qs))) (nil (drop i ps) (length-drop i ps ∙ omega arith))
+
+-- ---- counts that add up
+
+module _ (ps : List (List ℕ)) (i m : ℕ) where
+  pub add_short : i < length ps → m < count_of (get_or ps i []) → add_up (drop i ps) m ≡ false
+  unfolding add_up
+  add_short h l = ap (λ x. add_up x m) (drop-cons ps i [] h) ∙ rw (lt-leb (count_of (get_or ps i [])) m l) refl
+
+  pub add_next : i < length ps → count_of (get_or ps i []) ≤ m → add_up (drop i ps) m ≡ add_up (drop (i + 1) ps) (m - count_of (get_or ps i []))
+  unfolding add_up
+  add_next h l = ap (λ x. add_up x m) (drop-cons ps i [] h) ∙ rw (le-leb (count_of (get_or ps i [])) m l, add-one i) refl
+
+  pub add_end : length ps ≤ i → add_up (drop i ps) m ≡ eqb m 0
+  unfolding add_up
+  add_end h = ap (λ x. add_up x m) (nil (drop i ps) (length-drop i ps ∙ omega arith))
+
+-- ---- lengths
+
+pub entry-long : (e : Entry) → length (entry_bytes e) ≡ 10
+entry-long e = length-append (bytes_high_first 2 e.layer) (bytes_high_first 8 e.cell) ∙ omega (arith, bytes-length 2 e.layer, bytes-length 8 e.cell)
+
+pub entries-long : (rows : List (List ℕ)) → length (flat_map entry_bytes (entries_of rows)) ≡ 10 * length rows
+entries-long rows = each-length entry_bytes 10 entry-long (entries_of rows) ∙ ap (λ n. 10 * n) (length-map rows _)
+
+pub splits-long : (xs : List ℕ) → length (flat_map (bytes_high_first 4) xs) ≡ 4 * length xs
+splits-long = each-length (bytes_high_first 4) 4 (bytes-length 4)
+
+pub polygon-long : (p : Polygon) → length (polygon_bytes p) ≡ 16 + 16 * length p.points
+polygon-long p =
+    let u = flat_map point_bytes p.points in
+    omega (
+      arith,
+      ap length (regroup (bytes_high_first 2 p.layer) (bytes_high_first 4 p.component) (bytes_high_first 8 p.sheet) (bytes_high_first 2 (length p.points)) u),
+      length-append (bytes_high_first 2 p.layer ++ (bytes_high_first 4 p.component ++ (bytes_high_first 8 p.sheet ++ bytes_high_first 2 (length p.points)))) u,
+      head-long p.layer p.component p.sheet (length p.points),
+      each-length point_bytes 16 point-long p.points,
+    )
+
+pub polygons-long : (ps : List (List ℕ)) (rs : List Float) (qs : List (List ℤ)) → length ps ≡ length rs → add_up ps (length qs) ≡ true
+    → length (flat_map polygon_bytes (polygons_of ps rs qs)) ≡ 16 * length ps + 16 * length qs
+unfolding polygons_of add_up
+polygons-long [] rs qs h e = let z = eqb-true (length qs) 0 e in omega arith
+polygons-long (p ∷ ps) [] qs h e = absurd (omega arith)
+polygons-long (p ∷ ps) (r ∷ rs) qs h e =
+    let b = and_both (leb (count_of p) (length qs)) (add_up ps (length qs - count_of p)) e in
+    let k = leb-true (count_of p) (length qs) b.0 in
+    let d = length-drop (count_of p) qs in
+    let x : Polygon = record { layer = get_or p 0 0; component = get_or p 1 0; sheet = sheet_bits r; points = ring_of (take (count_of p) qs) } in
+    let n : length x.points ≡ count_of p = length-map (take (count_of p) qs) _ ∙ length-take-le (count_of p) qs k in
+    let i = polygons-long ps rs (drop (count_of p) qs) (omega arith) (ap (add_up ps) d ∙ b.1) in
+    length-append (polygon_bytes x) (flat_map polygon_bytes (polygons_of ps rs (drop (count_of p) qs))) ∙ omega (arith, polygon-long x, n, i, d)
+
+-- ---- entries and points, turn by turn
+
+pub entries_turn : (out : List ℕ) (row : List (List ℕ)) (at i : ℕ) → i < length row
+    → sets out at (flat_map entry_bytes (entries_of (drop i row)))
+    ≡ sets (sets out at (entry_bytes (entry_of (get_or row i [])))) (at + 10) (flat_map entry_bytes (entries_of (drop (i + 1) row)))
+entries_turn = mapped-turn entry_bytes entry_of 10 entry-long []
+
+pub entries_end : (out : List ℕ) (row : List (List ℕ)) (at i : ℕ) → length row ≤ i → sets out at (flat_map entry_bytes (entries_of (drop i row))) ≡ out
+entries_end = mapped-end entry_bytes entry_of 10 entry-long []
+
+pub ring_turn : (out : List ℕ) (row : List (List ℤ)) (at i : ℕ) → i < length row
+    → sets out at (flat_map point_bytes (ring_of (drop i row)))
+    ≡ sets (sets out at (point_bytes (point_of (get_or row i [])))) (at + 16) (flat_map point_bytes (ring_of (drop (i + 1) row)))
+ring_turn = mapped-turn point_bytes point_of 16 point-long []
+
+pub ring_end : (out : List ℕ) (row : List (List ℤ)) (at i : ℕ) → length row ≤ i → sets out at (flat_map point_bytes (ring_of (drop i row))) ≡ out
+ring_end = mapped-end point_bytes point_of 16 point-long []
+
+-- what putting the entries, and the points, goes by
+pub ruleset entries_put = (bytes_then, entries_turn, entries_end)
+
+pub ruleset ring_put = (ring_turn, ring_end)

@@ -1,19 +1,19 @@
--- The rules' board record, from bytes to a board or a refusal.
-use Rattle.std.specs.Prelude.{ℕ, ◌+◌, ◌-◌, ◌^◌, List, [], ◌∷◌, cond, ◌||◌, leb, eqb, ℤ, length}
+-- The rules' board record: one description of each field, over what a version allows.
+use Rattle.std.specs.Prelude.{ℕ, ◌-◌, ◌^◌, List, ◌∷◌, ◌++◌, length, Bool, true, Option, Some, None, nat_le, nat_lt, ◌==◌, Result, Ok, Err, ℤ, if◌then◌else◌}
+use Rattle.std.specs.Int.{w8, w16, w32, w64, to_be_bytes}
+use Rattle.refusals.specs.declared.Refusal.{Refusal}
 use Rattle.refusals.specs.declared.Refusal.TheVariants.{WrongVersion, WrongLength, OutOfRange}
 use Rattle.refusals.specs.Limits.{widest_level, max_cap, max_cell, max_layers, max_polygons, max_points}
 use Rattle.cell.specs.Ticks.{in_range}
-use Rattle.record.specs.declared.Settings.{Settings}
-use Rattle.record.specs.Fields.{Out, value, ◌then◌, require, many, several, field, ranged, signed}
-
--- an entry of the layer list
-pub record Entry : Type 0 where
-  pub layer : ℕ
-  pub cell : ℕ
-
-pub record Point : Type 0 where
-  pub x : ℤ
-  pub y : ℤ
+use Rattle.fields.specs.Cursor.{start, ◌>>=◌, require, number}
+use Rattle.fields.specs.Codec.{Codec, any, tested, ranged, signed, pair, named, chained, counted}
+use Rattle.record.specs.declared.board.Version.{Version}
+use Rattle.record.specs.declared.board.Version.TheVariants.{One}
+use Rattle.record.specs.declared.board.Limits.{Limits}
+pub use Rattle.record.specs.declared.board.Settings.{Settings}
+-- an entry of the layer list; a point of a ring
+pub use Rattle.record.specs.declared.board.Entry.{Entry}
+pub use Rattle.record.specs.declared.board.Point.{Point}
 
 -- a polygon. Its r_sheet is kept as the bits of a binary64 number
 pub record Polygon : Type 0 where
@@ -28,13 +28,58 @@ pub record Board : Type 0 where
   pub polygons : List Polygon
   pub splits : List ℕ
 
--- how many points a polygon has, and how many some polygons have
-abbrev pub points_in : Polygon → ℕ
-points_in p = length p.points
+-- ---- versions
 
-unfoldable pub points_of : List Polygon → ℕ
-points_of [] = 0
-points_of (p ∷ ps) = points_in p + points_of ps
+abbrev pub version_byte : Version → ℕ
+version_byte One = 1
+
+abbrev pub version_of : ℕ → Result Version Refusal
+version_of byte = if byte == 1 then Ok One else Err WrongVersion
+
+-- the rules' table of ranges
+abbrev pub limits_of : Version → Limits
+limits_of One = record { max_level = widest_level; cap = max_cap; cell = max_cell; layers = max_layers; polygons = max_polygons; ring_points = max_points }
+
+-- ---- "max_level (8 bits; 255 here means the default, 3); cap (16); target (64)"
+
+abbrev pub as_default : ℕ
+as_default = 255
+
+abbrev pub default_level : ℕ
+default_level = 3
+
+abbrev pub level : ℕ → Codec ℕ
+level most = record {
+  spelling = to_be_bytes w8;
+  fits = λ n. nat_le n most;
+  reading = λ c. number w8 c >>= λ n. if n.0 == as_default then Ok (default_level, n.1) else require (nat_le n.0 most) (OutOfRange c.at) (Ok n);
+}
+
+abbrev pub settings : Limits → Codec Settings
+settings l =
+    named (λ g. record { level = g.0; cap = g.1.0; target = g.1.1 }) (λ g. (g.level, (g.cap, g.target)))
+    (pair (level l.max_level) (pair (ranged w16 1 l.cap) (ranged w64 1 l.cell)))
+
+-- ---- "layer-list count (16), entries layer (16) and cell (64)"
+
+-- "layer numbers rising strictly": above the last one, if there is one
+abbrev pub is_above : Option ℕ → ℕ → Bool
+is_above None n = true
+is_above (Some last) n = nat_lt last n
+
+abbrev pub layer : Option ℕ → Codec ℕ
+layer last = tested (is_above last) (any w16)
+
+abbrev pub entry : Limits → Option ℕ → Codec Entry
+entry l last =
+    named (λ e. record { layer = e.0; cell = e.1 }) (λ e. (e.layer, e.cell))
+    (pair (layer last) (ranged w64 0 l.cell))
+
+abbrev pub layer_list : Limits → Codec (List Entry)
+layer_list l = chained w16 l.layers (entry l) (λ e. Some e.layer) None
+
+-- ---- "polygon count (16), each layer (16), component (32), r_sheet as binary64 bits (64), point count (16), points as
+-- signed 64-bit x and y"
 
 -- r_sheet lies from 2^-40 to 2^40. The bits of positive binary64 numbers rise with the numbers
 abbrev pub sheet_low : ℕ
@@ -43,89 +88,50 @@ sheet_low = 0x3d70_0000_0000_0000
 abbrev pub sheet_high : ℕ
 sheet_high = 0x4270_0000_0000_0000
 
--- the largest layer number, of 16 bits
-abbrev pub last_layer : ℕ
-last_layer = 2 ^ 16 - 1
+abbrev pub coordinate : Codec ℤ
+coordinate = signed in_range
 
--- "max_level (8 bits; 255 here means the default, 3)"
-abbrev pub as_default : ℕ
-as_default = 255
+abbrev pub point : Codec Point
+point = named (λ p. record { x = p.0; y = p.1 }) (λ p. (p.x, p.y)) (pair coordinate coordinate)
 
-abbrev pub default_level : ℕ
-default_level = 3
+unfoldable pub polygon : Limits → Codec Polygon
+polygon l =
+    named (λ p. record { layer = p.0; component = p.1.0; sheet = p.1.1.0; points = p.1.1.1 }) (λ p. (p.layer, (p.component, (p.sheet, p.points))))
+    (pair (any w16) (pair (any w32) (pair (ranged w64 sheet_low sheet_high) (counted w16 l.ring_points point))))
 
-unfoldable pub level : List ℕ → ℕ → Out ℕ
-level s at =
-    field 1 s at then λ v next.
-    require (leb v widest_level || eqb v as_default) (OutOfRange at) (value (cond (eqb v as_default) default_level v) next)
+abbrev pub polygon_list : Limits → Codec (List Polygon)
+polygon_list l = counted w16 l.polygons (polygon l)
 
--- "version 1 (8 bits); 32-bit length of all that follows; max_level; cap (16); target (64)"
-unfoldable pub settings : List ℕ → Out Settings
-settings s =
-    field 1 s 0 then λ version at. require (eqb version 1) WrongVersion
-    (field 4 s at then λ rest next. require (eqb rest (length s - next)) (WrongLength at)
-    (level s next then λ l at.
-    ranged 1 max_cap 2 s at then λ cap at.
-    ranged 1 max_cell 8 s at then λ target at.
-    value (record { level = l; cap = cap; target = target }) at))
+-- ---- "split count (16) and cell ids (32)"
 
--- "entries layer (16) and cell (64)", "layer numbers rising strictly": each is at least one more than the last
-unfoldable pub entry : List ℕ → ℕ → ℕ → Out Entry
-entry s least at =
-    ranged least last_layer 2 s at then λ layer at.
-    ranged 0 max_cell 8 s at then λ cell at.
-    value (record { layer = layer; cell = cell }) at
+abbrev pub split_list : Codec (List ℕ)
+split_list = counted w16 (2 ^ 16 - 1) (any w32)
 
-abbrev pub entries : List ℕ → ℕ → ℕ → Out (List Entry)
-entries s = many (entry s) (λ e. e.layer + 1) 0
+-- ---- all that follows the length, and a whole record
 
--- "layer-list count (16)"
-unfoldable pub layer_list : List ℕ → ℕ → Out (List Entry)
-layer_list s at = ranged 0 max_layers 2 s at then λ n at. entries s n at
+unfoldable pub body : Limits → Codec Board
+body l =
+    named (λ b. record { settings = b.0; layers = b.1.0; polygons = b.1.1.0; splits = b.1.1.1 }) (λ b. (b.settings, (b.layers, (b.polygons, b.splits))))
+    (pair (settings l) (pair (layer_list l) (pair (polygon_list l) split_list)))
 
-unfoldable pub coordinate : List ℕ → ℕ → Out ℤ
-coordinate s at = signed s at then λ z next. require (in_range z) (OutOfRange at) (value z next)
+-- "version 1 (8 bits); 32-bit length of all that follows". Refusal 1 has no place; 2 for a length that "differs from the
+-- bytes behind it" has the length's; 2 for what remains behind the last list has its offset
+unfoldable pub board : List ℕ → Result Board Refusal
+board bytes = do
+  first ← number w8 (start bytes)
+  version ← version_of first.0
+  n ← number w32 first.1
+  require (n.0 == length n.1.rest) (WrongLength first.1.at)
+      ((body (limits_of version)).reading n.1 >>= λ b. require (length b.1.rest == 0) (WrongLength b.1.at) (Ok b.0))
 
--- "points as signed 64-bit x and y"
-unfoldable pub point : List ℕ → ℕ → Out Point
-point s at = coordinate s at then λ x at. coordinate s at then λ y at. value (record { x = x; y = y }) at
+-- the bytes of a board's record
+unfoldable pub record_of : Version → Board → List ℕ
+record_of v b = let text = (body (limits_of v)).spelling b in version_byte v ∷ to_be_bytes w32 (length text) ++ text
 
-abbrev pub ring : List ℕ → ℕ → ℕ → Out (List Point)
-ring s = several (point s)
+-- a board whose values are all in the rules' table
+abbrev pub is_in_range : Board → Bool
+is_in_range = (body (limits_of One)).fits
 
--- "each layer (16), component (32), r_sheet as binary64 bits (64), point count (16), points"
-unfoldable pub polygon : List ℕ → ℕ → Out Polygon
-polygon s at =
-    field 2 s at then λ layer at.
-    field 4 s at then λ component at.
-    ranged sheet_low sheet_high 8 s at then λ sheet at.
-    ranged 0 max_points 2 s at then λ n at.
-    ring s n at then λ points at.
-    value (record { layer = layer; component = component; sheet = sheet; points = points }) at
-
-abbrev pub shapes : List ℕ → ℕ → ℕ → Out (List Polygon)
-shapes s = several (polygon s)
-
--- "polygon count (16)"
-unfoldable pub polygon_list : List ℕ → ℕ → Out (List Polygon)
-polygon_list s at = ranged 0 max_polygons 2 s at then λ n at. shapes s n at
-
-abbrev pub ids : List ℕ → ℕ → ℕ → Out (List ℕ)
-ids s = several (field 4 s)
-
--- "split count (16) and cell ids (32)"
-unfoldable pub split_list : List ℕ → ℕ → Out (List ℕ)
-split_list s at = field 2 s at then λ n at. ids s n at
-
--- the lists, which end the record. Refusal 2, "bytes remain", with the "first remaining byte"
-unfoldable pub lists : List ℕ → Settings → ℕ → Out Board
-lists s g at =
-    layer_list s at then λ ls at.
-    polygon_list s at then λ ps at.
-    split_list s at then λ ks at.
-    require (eqb at (length s)) (WrongLength at)
-    (value (record { settings = g; layers = ls; polygons = ps; splits = ks }) at)
-
--- a whole record
-unfoldable pub board : List ℕ → Out Board
-board s = settings s then lists s
+-- how many points a polygon has
+abbrev pub points_in : Polygon → ℕ
+points_in p = length p.points

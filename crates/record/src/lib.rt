@@ -1,23 +1,24 @@
-// The board record of the rules, read in one walk by a reader that carries the record and its offset.
+//! The board record: from bytes to the rows that a caller lends, and back. One description of each field serves both
+//! ways.
+//!
+//! Rows: a layer entry is [layer, cell]; a polygon is [layer, component, point count] with its r_sheet beside it; a
+//! point is [x, y], those of all polygons one after another; a split is a cell's id. A row of small arrays can't hold a
+//! part of an item, its length is the count of its items, and one store fills one item.
 #![tactic(auto)]
 
-pub mod check;
-pub mod fields;
-pub mod reader;
+pub mod board;
+pub mod laws;
+pub mod parts;
+pub mod put;
+pub mod reading;
+pub mod rows;
+pub mod walk;
+pub mod writing;
 
-// The settings of a board.
-#[derive(Clone, Copy)]
-pub struct Settings {
-    pub level: u64,
-    pub cap: u64,
-    pub target: u64,
-}
+pub use board::{Counts, Read, Settings};
+pub use reading::{check, read};
+pub use rows::{BoardRows, BoardRowsMut};
+pub use writing::write;
 
-// How many rows a board takes: layer entries, polygons, points of all polygons, splits.
-#[derive(Clone, Copy)]
-pub struct Counts {
-    pub layers: usize,
-    pub polygons: usize,
-    pub points: usize,
-    pub splits: usize,
-}
+#[cfg(test)]
+mod tests;

@@ -1,9 +1,9 @@
 -- Too long, refused by the reader or by the table step, or made.
-use Rattle.std.proofs.Common.{rules, List, Float, ◌≡◌, length, replicate, pos, sym, ap, ◌∙◌}
+use Rattle.std.proofs.Common.{rules, ℕ, ℤ, List, Float, ◌≡◌, length, replicate, pos, sym, ap, ◌∙◌}
 use lib.ListN.{length-replicate}
 use Rattle.refusals.specs.Said.{is_accepted}
 use Rattle.refusals.specs.Said.{refusal}
-use Rattle.board.specs.Rows.{Rows, rows_of}
+use Rattle.record.specs.Rows.{Rows, rows_of}
 use Rattle.mesh.specs.Says.{meshed_said, layer_room, polygon_room, point_room, split_room}
 use Rattle.mesh.proofs.Meshing.{Roomed, too_long, read-refused, whole}
 use Rattle.mesh.proofs.Whole.{ready, grow-refused, totals-are, made}
@@ -14,6 +14,10 @@ abbrev before : List Float → Rows
 before sheets =
     rows_of (replicate layer_room (replicate 2 0)) (replicate polygon_room (replicate 3 0)) sheets
     (replicate point_room (replicate 2 (pos 0))) (replicate split_room 0)
+
+-- and as reading left them
+abbrev after : List (List ℕ) × (List (List ℕ) × (List Float × (List (List ℤ) × (List ℕ × Unit {0})))) → Rows
+after r = rows_of r.0 r.1.0 r.1.1.0 r.1.1.1.0 r.1.1.1.1.0
 
 before-roomed : (sheets : List Float) → length sheets ≡ polygon_room → Roomed (before sheets)
 before-roomed sheets e =
@@ -34,7 +38,7 @@ returns-in_err-read-clause-result_value c =
     let roomed = before-roomed c.args.sheets.now c.requires.sheets in
     let x = c.in_err-read in
     let said : meshed_said c.from_residual.result ≡ refusal x.field-0.0 = search rules in
-    said ∙ read-refused c.args.s.now rows roomed c.if-s-gt-INPUT.false x.field-0.0 x.ensures.result_value
+    said ∙ read-refused c.args.s.now rows roomed c.if-s-gt-INPUT.false x.field-0.0 x.ensures.number_and_place
 
 pub grow_board-requires : goal.grow_board-requires
 grow_board-requires c =
@@ -42,13 +46,12 @@ grow_board-requires c =
     let rows = before c.args.sheets.now in
     let z = c.requires in
     let roomed = before-roomed c.args.sheets.now z.sheets in
-    let v = c.read.new in
-    let rows' = rows_of v.layers v.polygons v.sheets v.points v.splits in
+    let rows' = after c.read.new.rows in
     let d = c.in_ok-read in
     let g = d.read.settings in
     let n = d.read.counts in
-    let held = whole s rows roomed g n d.ensures.result_value in
-    ready s rows rows' roomed g n held d.ensures.splits_after (λ i. (c.type_inv.s i).fits) _ _ z.layers z.components
+    let held = whole s rows roomed g n d.ensures.number_and_place in
+    ready s rows rows' roomed g n held d.ensures.left (λ i. (c.type_inv.s i).fits) _ _ z.layers z.components
 
 pub returns-in_err-grown-clause-result_value : goal.returns-in_err-grown-clause-result_value
 returns-in_err-grown-clause-result_value c =
@@ -56,15 +59,14 @@ returns-in_err-grown-clause-result_value c =
     let rows = before c.args.sheets.now in
     let z = c.requires in
     let roomed = before-roomed c.args.sheets.now z.sheets in
-    let v = c.read.new in
-    let rows' = rows_of v.layers v.polygons v.sheets v.points v.splits in
+    let rows' = after c.read.new.rows in
     let d = c.in_ok-read in
     let g = d.read.settings in
     let n = d.read.counts in
-    let held = whole s rows roomed g n d.ensures.result_value in
+    let held = whole s rows roomed g n d.ensures.number_and_place in
     let x = c.in_err-grown in
     let said : meshed_said c.from_residual-in_err-grown.result ≡ refusal x.field-0.0 = search rules in
-    said ∙ grow-refused s rows rows' roomed g n held d.ensures.splits_after c.if-s-gt-INPUT.false _ z.table x.field-0.0
+    said ∙ grow-refused s rows rows' roomed g n held d.ensures.left c.if-s-gt-INPUT.false _ z.table x.field-0.0
     x.ensures.result_value
 
 pub returns : goal.returns
@@ -73,13 +75,12 @@ returns c =
     let rows = before c.args.sheets.now in
     let z = c.requires in
     let roomed = before-roomed c.args.sheets.now z.sheets in
-    let v = c.read.new in
-    let rows' = rows_of v.layers v.polygons v.sheets v.points v.splits in
+    let rows' = after c.read.new.rows in
     let d = c.in_ok-read in
-    let r = d.ensures.splits_after in
+    let r = d.ensures.left in
     let g = d.read.settings in
     let n = d.read.counts in
-    let held = whole s rows roomed g n d.ensures.result_value in
+    let held = whole s rows roomed g n d.ensures.number_and_place in
     let e = c.in_ok-grown in
     let h = e.grown.head in
     let k = e.grown.splits in

@@ -1,0 +1,50 @@
+-- Items one after the other, as a loop reads them.
+use Rattle.std.proofs.Common.{◌≡◌, ℕ, suc, length, ◌-◌, ◌+◌, ◌≤◌, ◌<◌, List, [], ◌∷◌, ◌++◌, Result, Ok, Err, refl, sym, ◌∙◌, append_assoc, arith, length-append}
+use Rattle.std.proofs.lemmas.List.{append-nil}
+use Rattle.refusals.specs.declared.Refusal.{Refusal}
+use Rattle.fields.specs.Cursor.{Cursor, ◌>>=◌}
+use Rattle.fields.specs.Codec.{Codec, many}
+
+-- what was read before, and what is still read
+abbrev pub with_front : {A : Type 0} → List A → Result (List A × Cursor) Refusal → Result (List A × Cursor) Refusal
+with_front front reading = reading >>= λ xs. Ok (front ++ xs.0, xs.1)
+
+-- before turn i: these items were read, and so many are still to be read where the reader stands
+pub record IsAt {A S : Type 0} (item : S → Codec A) (leaves : A → S) (seen : S) (n : ℕ) (old : Cursor) (i : ℕ) (front : List A) (state : S) (c : Cursor) : Type 0 where
+  pub long : length front ≡ i
+  pub still : with_front front (many item leaves state (n - i) c) ≡ many item leaves seen n old
+
+regroup : {A : Type 0} (front : List A) (x : A) (reading : Result (List A × Cursor) Refusal) → with_front front (reading >>= λ xs. Ok (x ∷ xs.0, xs.1)) ≡ with_front (front ++ x ∷ []) reading
+regroup front x (Ok xs) = rw append_assoc refl
+regroup front x (Err e) = refl
+
+module _ {A S : Type 0} (item : S → Codec A) (leaves : A → S) (seen : S) (n : ℕ) (old : Cursor) where
+  pub begins : IsAt item leaves seen n old 0 [] seen old
+  begins = record { long = refl; still = let k : n - 0 ≡ n = omega arith in rw k (alone (many item leaves seen n old)) }
+    where
+      alone : (reading : Result (List A × Cursor) Refusal) → with_front [] reading ≡ reading
+      alone (Ok xs) = refl
+      alone (Err e) = refl
+
+  module _ (i : ℕ) (front : List A) (state : S) (c : Cursor) (so_far : IsAt item leaves seen n old i front state c) where
+    pub goes_on : (x : A) (next : Cursor) → i < n → (item state).reading c ≡ Ok (x, next) → IsAt item leaves seen n old (i + 1) (front ++ x ∷ []) (leaves x) next
+    unfolding many
+    goes_on x next lt h =
+        let k : n - i ≡ suc (n - (i + 1)) = omega arith in
+        let one : with_front front (many item leaves state (n - i) c) ≡ with_front (front ++ x ∷ []) (many item leaves (leaves x) (n - (i + 1)) next) =
+        rw (k, h) (regroup front x (many item leaves (leaves x) (n - (i + 1)) next)) in
+        record { long = omega (arith, length-append front (x ∷ []), so_far.long); still = sym one ∙ so_far.still }
+
+    pub stops : (e : Refusal) → i < n → (item state).reading c ≡ Err e → many item leaves seen n old ≡ Err e
+    unfolding many
+    stops e lt h =
+        let k : n - i ≡ suc (n - (i + 1)) = omega arith in
+        let one : with_front front (many item leaves state (n - i) c) ≡ Err e = rw (k, h) refl in
+        sym so_far.still ∙ one
+
+    pub is_done : n ≤ i → many item leaves seen n old ≡ Ok (front, c)
+    unfolding many
+    is_done le =
+        let k : n - i ≡ 0 = omega arith in
+        let one : with_front front (many item leaves state (n - i) c) ≡ Ok (front, c) = rw (k, append-nil front) refl in
+        sym so_far.still ∙ one

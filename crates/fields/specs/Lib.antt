@@ -1,0 +1,3 @@
+-- Lent bytes that are read from left to right, and what a field is.
+pub mod Cursor
+pub mod Codec

@@ -1,0 +1,169 @@
+//! A reader that carries the lent bytes and its offset. Each call takes it apart and calls the offset reader.
+
+ghost use Rattle.std.specs.Prelude.{◌≡◌, length, OnErr};
+ghost use Rattle.std.specs.Int.{w8, w16, w32, w64};
+ghost use Rattle.fields.specs.Cursor.{start, Reads, bytes_of, number, signed_number};
+ghost use Rattle.fields.specs.Codec.{ranged};
+
+use crate::offset::field_at;
+use refusals::Refusal;
+use std::marker::Model;
+
+/// Lent bytes, and how many of them have been read. A clause sees where the reader stands and what is left.
+#[derive(Drop)]
+pub struct Reader<'a> {
+    bytes: &'a [u8],
+    at: usize,
+}
+
+impl<'a> Model for Reader<'a> {
+    ghost use Rattle.std.specs.Prelude.{◌≤◌, length, drop};
+    ghost use Rattle.fields.specs.Cursor.{Cursor};
+
+    ghost Value = { Cursor };
+
+    ghost view = { λ r. record { at = r.at; rest = drop r.at r.bytes.now } };
+
+    ghost invariant = { λ r. r.at ≤ length r.bytes.now };
+}
+
+impl<'a> Reader<'a> {
+    /// A reader at the first byte.
+    #[inline]
+    pub fn new(bytes: &'a [u8]) -> Reader<'a>
+        ensures { result ≡ start bytes.entry.now }
+    {
+        Reader { bytes, at: 0 }
+    }
+
+    /// How many bytes have been read.
+    #[inline]
+    pub fn offset(&self) -> usize
+        ensures { result ≡ self.now.at }
+    {
+        self.at
+    }
+
+    /// How many bytes are left.
+    #[inline]
+    pub fn left(&self) -> usize
+        ensures { result ≡ length self.now.rest }
+    {
+        self.bytes.len() - self.at
+    }
+
+    /// A second reader where this one stands, to read ahead by: what is judged first is written back only then.
+    #[inline]
+    pub fn ahead(&self) -> Reader<'a>
+        ensures { result ≡ self.now }
+    {
+        Reader {
+            bytes: self.bytes,
+            at: self.at,
+        }
+    }
+
+    // The next N bytes. The reader moves past them, or stays where one of them is missing.
+    #[inline]
+    fn field<const N: usize>(&mut self) -> Result<[u8; N], Refusal>
+        ensures read { Reads result self.new (bytes_of N self.old) }
+        ensures refused_stays { OnErr result (self.new ≡ self.old) }
+    {
+        let Some(field) = field_at::<N>(self.bytes, self.at) else {
+            return Err(Refusal::WrongLength(self.at));
+        };
+        self.at += N;
+        Ok(field)
+    }
+
+    #[inline]
+    pub fn read_u8(&mut self) -> Result<u8, Refusal>
+        ensures read { Reads result self.new (number w8 self.old) }
+        ensures refused_stays { OnErr result (self.new ≡ self.old) }
+    {
+        let [byte] = self.field::<1>()?;
+        Ok(byte)
+    }
+
+    #[inline]
+    pub fn read_u16(&mut self) -> Result<u16, Refusal>
+        ensures read { Reads result self.new (number w16 self.old) }
+        ensures refused_stays { OnErr result (self.new ≡ self.old) }
+    {
+        Ok(u16::from_be_bytes(self.field::<2>()?))
+    }
+
+    #[inline]
+    pub fn read_u32(&mut self) -> Result<u32, Refusal>
+        ensures read { Reads result self.new (number w32 self.old) }
+        ensures refused_stays { OnErr result (self.new ≡ self.old) }
+    {
+        Ok(u32::from_be_bytes(self.field::<4>()?))
+    }
+
+    #[inline]
+    pub fn read_u64(&mut self) -> Result<u64, Refusal>
+        ensures read { Reads result self.new (number w64 self.old) }
+        ensures refused_stays { OnErr result (self.new ≡ self.old) }
+    {
+        Ok(u64::from_be_bytes(self.field::<8>()?))
+    }
+
+    /// In two's complement.
+    #[inline]
+    pub fn read_i64(&mut self) -> Result<i64, Refusal>
+        ensures read { Reads result self.new (signed_number self.old) }
+        ensures refused_stays { OnErr result (self.new ≡ self.old) }
+    {
+        Ok(self.read_u64()?.cast_signed())
+    }
+
+    /// A number from `low` to `high`. It is judged before the reader moves.
+    #[inline]
+    pub fn read_u16_within(&mut self, low: u16, high: u16) -> Result<u16, Refusal>
+        ensures read { Reads result self.new ((ranged w16 low high).reading self.old) }
+        ensures refused_stays { OnErr result (self.new ≡ self.old) }
+    {
+        let mut ahead = self.ahead();
+        let value = ahead.read_u16()?;
+        if low <= value && value <= high {
+            *self = ahead;
+            Ok(value)
+        } else {
+            Err(Refusal::OutOfRange(self.at))
+        }
+    }
+
+    /// A number from `low` to `high`. It is judged before the reader moves.
+    #[inline]
+    pub fn read_u64_within(&mut self, low: u64, high: u64) -> Result<u64, Refusal>
+        ensures read { Reads result self.new ((ranged w64 low high).reading self.old) }
+        ensures refused_stays { OnErr result (self.new ≡ self.old) }
+    {
+        let mut ahead = self.ahead();
+        let value = ahead.read_u64()?;
+        if low <= value && value <= high {
+            *self = ahead;
+            Ok(value)
+        } else {
+            Err(Refusal::OutOfRange(self.at))
+        }
+    }
+}
+
+#[cfg(test)]
+mod tests {
+    use super::*;
+
+    #[test]
+    fn reads_in_turn(rt: HostRuntime) {
+        let mut reader = Reader::new(&[1, 2, 3, 255, 255, 255, 255, 255, 255, 255, 254, 9]);
+        assert_eq!(rt; reader.read_u8(), Ok(1));
+        assert_eq!(rt; reader.read_u16_within(0, 514), Err(Refusal::OutOfRange(1)));
+        assert_eq!(rt; reader.read_u16(), Ok(515));
+        assert_eq!(rt; reader.read_i64(), Ok(-2));
+        assert_eq!(rt; (reader.offset(), reader.left()), (11, 1));
+        assert_eq!(rt; reader.read_u32(), Err(Refusal::WrongLength(11)));
+        assert_eq!(rt; reader.read_u8(), Ok(9));
+    }
+}

@@ -1,0 +1,58 @@
+//! A record judged whole, and a record read to lent rows.
+
+ghost use Rattle.std.specs.Prelude.{◌≡◌};
+ghost use Rattle.record.specs.Board.{board};
+ghost use Rattle.record.specs.Lent.{rows_to_fill, rows_left};
+ghost use Rattle.record.specs.Reading.{checked, read_said, says, read_says, read_leaves};
+
+use crate::board::Read;
+use crate::rows::BoardRowsMut;
+use crate::walk::walk;
+use refusals::Refusal;
+
+/// A record judged whole, with nothing kept: its settings and what rows it takes, or its first refusal.
+pub fn check(bytes: &[u8]) -> Result<Read, Refusal>
+    ensures answer { result ≡ checked (board bytes.now) }
+    ensures number_and_place { read_said result ≡ says (board bytes.now) }
+{
+    let nothing = BoardRowsMut {
+        layers: &mut [],
+        polygons: &mut [],
+        sheets: &mut [],
+        points: &mut [],
+        splits: &mut [],
+    };
+    walk(bytes, nothing)
+}
+
+/// A record read to lent rows: all of it, or nothing. The whole record is judged first, then the room, and then it is
+/// copied.
+pub fn read(bytes: &[u8], rows: BoardRowsMut<'_>) -> Result<Read, Refusal>
+    ensures number_and_place { read_said result ≡ read_says bytes.now (rows_to_fill rows.entry) }
+    ensures left { rows_left rows.exit ≡ read_leaves bytes.now (rows_to_fill rows.entry) }
+{
+    let BoardRowsMut {
+        layers,
+        polygons,
+        sheets,
+        points,
+        splits,
+    } = rows;
+    let counts = check(bytes)?.counts;
+    let has_room = (counts.layers <= layers.len())
+        & ((counts.polygons <= polygons.len())
+            & ((counts.polygons <= sheets.len())
+                & ((counts.points <= points.len()) & (counts.splits <= splits.len()))));
+    if !has_room {
+        return Err(Refusal::NoRoom);
+    }
+    let rows = BoardRowsMut {
+        layers,
+        polygons,
+        sheets,
+        points,
+        splits,
+    };
+    let read = walk(bytes, rows)?;
+    Ok(read)
+}

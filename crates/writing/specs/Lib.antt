@@ -1,3 +1,0 @@
--- What writing says and does.
-pub mod Boards
-pub mod Written
