@@ -2,7 +2,7 @@
 use Rattle.std.proofs.Common.{◌≡◌, ◌*◌, ◌^◌, true, ◌&&◌, pos, int_le, int_lt}
 use Rattle.sound_net.specs.Nets.{all_below}
 use Rattle.sound_net.proofs.Marks.{named, placed}
-use Rattle.sound_net.proofs.pairs_are_sound.Given as goal
+use Rattle.sound_net.proofs.judge.pairs_are_sound.Given as goal
 
 abbrev pub invariant-loop-p : goal.invariant-loop-p
 invariant-loop-p l = record {

@@ -2,7 +2,7 @@ use Rattle.std.proofs.Common.{ℕ, Bool, ◌&&◌, nat_lt, slice_index, sym, ap,
 use Rattle.sound_net.specs.Nets.{all_below}
 use Rattle.sound_net.proofs.Tests.{all_none, all_more}
 use Rattle.sound_net.proofs.Marks.{both-more, marked}
-use Rattle.sound_net.proofs.all_below.Goals as goal
+use Rattle.sound_net.proofs.judge.all_below.Goals as goal
 
 pub loop-e-init : goal.loop-e-init
 loop-e-init c = all_none _

@@ -1,6 +1,6 @@
 use Rattle.std.proofs.Common.{rules, pos, slice_index_or, w64, FitsSigned}
 use Rattle.sound_net.proofs.Marks.{apart}
-use Rattle.sound_net.proofs.differ.Goals as goal
+use Rattle.sound_net.proofs.judge.differ.Goals as goal
 
 pub returns : goal.returns
 returns c =

@@ -2,7 +2,7 @@
 use Rattle.std.proofs.Common.{◌≡◌, true, pos}
 use Rattle.sound_net.specs.Nets.{all_below, eq_z}
 use Rattle.sound_net.proofs.Cells.{spread_at, lined_at}
-use Rattle.sound_net.proofs.cells_are_sound.Given as goal
+use Rattle.sound_net.proofs.judge.cells_are_sound.Given as goal
 
 abbrev pub invariant-loop-c : goal.invariant-loop-c
 invariant-loop-c l = record {

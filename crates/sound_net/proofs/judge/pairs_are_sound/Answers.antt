@@ -3,7 +3,7 @@ use mathlib.Core.Bool.{and-true}
 use Rattle.sound_net.specs.Nets.{all_below, layer_at, component_at, sound_node}
 use Rattle.sound_net.proofs.Tests.{all_none, so_far, fails}
 use Rattle.sound_net.proofs.Marks.{named, placed, nodes-both, not-placed, name-more, join-below, both-in}
-use Rattle.sound_net.proofs.pairs_are_sound.Goals as goal
+use Rattle.sound_net.proofs.judge.pairs_are_sound.Goals as goal
 
 pub loop-p-init : goal.loop-p-init
 loop-p-init c = record {

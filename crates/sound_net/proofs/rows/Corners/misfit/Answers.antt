@@ -1,6 +1,6 @@
 use Rattle.std.proofs.Common.{rules, ◌∙◌, w64, FitsSigned}
 use Rattle.sound_net.proofs.Marks.{four-joined}
-use Rattle.sound_net.proofs.misfit.Goals as goal
+use Rattle.sound_net.proofs.rows.Corners.misfit.Goals as goal
 
 pub returns : goal.returns
 returns c =

@@ -2,7 +2,7 @@
 use Rattle.std.proofs.Common.{◌≡◌, ◌+◌, ◌-◌, ◌*◌, ◌/◌, Bool, true, false, ◌&&◌, sym, ap, ◌∙◌, arith}
 use Rattle.sound_net.specs.Nets.{all_below, node_count, sound_node}
 use Rattle.sound_net.proofs.Tests.{all_more, all-fewer}
-use Rattle.sound_net.proofs.nodes_are_sound.Goals as goal
+use Rattle.sound_net.proofs.judge.nodes_are_sound.Goals as goal
 
 pub returns-else-pairs_are_sound : goal.returns-else-pairs_are_sound
 returns-else-pairs_are_sound c =
