@@ -1,8 +1,8 @@
 // A net that was judged once: what holds of it is kept by its type, so no function over it asks again.
-ghost use Rattle.std.specs.Prelude.{◌≡◌, ◌+◌, ◌*◌, ◌<◌, ◌≤◌, ◌↔◌, pos, nat_abs, ◌-ℤ◌, length, slice_index_or, IsSome, IfSome};
+ghost use Rattle.std.specs.Prelude.{◌≡◌, ◌+◌, ◌*◌, ◌^◌, ◌<◌, ◌≤◌, ◌↔◌, pos, nat_abs, ◌-ℤ◌, length, slice_index_or, IsSome, IfSome};
 ghost use Rattle.refusals.specs.Limits.{coordinate};
-ghost use Rattle.sound_net.specs.Nets.{net_in, IsSound, node_count};
-ghost use Rattle.sound_net.specs.Facts.{IsGap, AreKnown, IsSoundCell, HasSides};
+ghost use Rattle.sound_net.specs.Nets.{net_in, IsSound, node_count, from_at, to_at};
+ghost use Rattle.sound_net.specs.Facts.{IsGap, IsSoundNode, AreKnown, IsSoundCell, HasSides};
 
 use crate::{Corners, NetRows};
 
@@ -11,6 +11,15 @@ use crate::{Corners, NetRows};
 pub struct SoundNet<'a> {
     pub rows: NetRows<'a>,
     ghost sound: { IsSound (net_in rows) },
+}
+
+/// A node of a sound net, its coordinates moved up as a cell's are.
+#[derive(Clone, Copy, Debug, PartialEq, Eq)]
+pub struct SoundNode {
+    pub layer: u16,
+    pub component: u32,
+    pub x: u64,
+    pub y: u64,
 }
 
 /// A cell of a sound net: its corners, and how many ticks it is wide and high.
@@ -29,6 +38,25 @@ fn gap(nodes: &[i64], i: usize, j: usize) -> u64
     ensures { result ≡ nat_abs (slice_index_or nodes.now j (pos 0) -ℤ slice_index_or nodes.now i (pos 0)) }
 {
     (nodes[j] - nodes[i]) as u64
+}
+
+impl SoundNode {
+    ghost use Rattle.sound_net.specs.Cells.{sound_node_at};
+
+    // Node n. Internal: it is sound.
+    fn of(nodes: &[i64], n: usize) -> SoundNode
+        requires there { n * 4 + 4 ≤ length nodes.now }
+        requires sound { IsSoundNode nodes.now n }
+        ensures { result ≡ sound_node_at nodes.now n }
+    {
+        let at = n * 4;
+        SoundNode {
+            layer: nodes[at] as u16,
+            component: nodes[at + 1] as u32,
+            x: cell::ticks::offset(nodes[at + 2]),
+            y: cell::ticks::offset(nodes[at + 3]),
+        }
+    }
 }
 
 impl SoundCell {
@@ -53,8 +81,17 @@ impl SoundCell {
     }
 }
 
+// The two nodes of edge e. Internal: it stands in the row.
+fn ends_of(ends: &[u64], e: usize) -> (usize, usize)
+    requires { e * 2 + 2 ≤ length ends.now }
+    ensures { result ≡ (from_at ends.now e, to_at ends.now e) }
+{
+    let at = e * 2;
+    (ends[at] as usize, ends[at + 1] as usize)
+}
+
 impl<'a> SoundNet<'a> {
-    ghost use Rattle.sound_net.specs.Cells.{sound_cell_at};
+    ghost use Rattle.sound_net.specs.Cells.{sound_node_at, sound_cell_at};
 
     /// The rows as a net; none where they are not sound.
     pub fn judge(rows: &NetRows<'a>) -> Option<SoundNet<'a>>
@@ -69,13 +106,15 @@ impl<'a> SoundNet<'a> {
     }
 
     pub fn node_count(&self) -> usize
-        ensures { result ≡ node_count self.now.rows.nodes.now }
+        ensures count { result ≡ node_count self.now.rows.nodes.now }
+        ensures few { result < 2 ^ 60 }
     {
         self.rows.nodes.len() / 4
     }
 
     pub fn edge_count(&self) -> usize
-        ensures { result ≡ length self.now.rows.conductances.now }
+        ensures count { result ≡ length self.now.rows.conductances.now }
+        ensures few { result < 2 ^ 60 }
     {
         self.rows.conductances.len()
     }
@@ -84,6 +123,23 @@ impl<'a> SoundNet<'a> {
         ensures { result ≡ length self.now.rows.sheets.now }
     {
         self.rows.sheets.len()
+    }
+
+    pub fn node(&self, n: usize) -> SoundNode
+        requires { n < node_count self.now.rows.nodes.now }
+        ensures { result ≡ sound_node_at self.now.rows.nodes.now n }
+    {
+        SoundNode::of(self.rows.nodes, n)
+    }
+
+    /// The two nodes of an edge.
+    pub fn ends(&self, e: usize) -> (usize, usize)
+        requires { e < length self.now.rows.conductances.now }
+        ensures ends { result ≡ (from_at self.now.rows.ends.now e, to_at self.now.rows.ends.now e) }
+        ensures from_known { result.0 < node_count self.now.rows.nodes.now }
+        ensures to_known { result.1 < node_count self.now.rows.nodes.now }
+    {
+        ends_of(self.rows.ends, e)
     }
 
     pub fn cell(&self, c: usize) -> SoundCell
