@@ -1,6 +1,6 @@
 -- Laws of the last index that passes a test. Assumes nothing.
 use Rattle.std.proofs.Common.{ℕ, zero, suc, ◌<◌, ◌≡◌, refl, sym, ap, ◌∙◌, Bool, true, false, None, Some, ◌⊎◌, inl, inr, ⊎_elim, eq-or-lt_of_le, arith}
-use Rattle.conforming.specs.Nodes.{last_below, any_below}
+use Rattle.checks.specs.Nodes.{last_below, any_below}
 
 pub either : (b : Bool) → (b ≡ true) ⊎ (b ≡ false)
 either true = inl refl

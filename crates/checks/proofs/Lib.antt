@@ -1,9 +1,12 @@
 -- Laws that belong to no one function.
+pub mod Searches
+pub mod Faults
+pub mod Order
+pub mod Entries
 pub mod Lasts
-pub mod Halving
-pub mod Keyed
-pub mod Nodes
-pub mod Making
-pub mod Walking
-pub mod Checking
+pub mod Spots
+pub mod Pairs
+pub mod Indexed
+pub mod Rooms
 pub mod One
+pub mod Examples

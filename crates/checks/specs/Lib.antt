@@ -1,5 +1,8 @@
--- The row of work room: how long it is to be, and the keys that stand in it.
-pub mod Keys
+-- The two checks of a net against a table.
+pub mod Nodes
+pub mod Sides
+pub mod Checks
+pub mod Scopes
+pub mod Entries
 pub mod Rooms
-pub mod Walks
 pub mod Laws

@@ -4,15 +4,16 @@ ghost use Rattle.refusals.specs.Said.{refusal};
 ghost use Rattle.table.specs.Formed.{well_formed};
 ghost use Rattle.sound_net.specs.Nets.{net_of, node_count, sound_net};
 ghost use Rattle.network.specs.Says.{polygons, rows, netted_said, network_says, network_leaves};
-ghost use Rattle.conforming.specs.Checks as Checks;
+ghost use Rattle.checks.specs.Checks as Checks;
 ghost use Rattle.checks.specs.Rooms.{work_row};
 ghost use Rattle.power.specs.Powers.{power_said, power_says, power_row};
 ghost use Rattle.leafmesh.specs.Outcome.{outcome_of};
 ghost use Rattle.leafmesh.specs.Nets.{net_outcome_of, check_outcome_of};
 
 use crate::{Outcome, accept, refuse};
-use conforming::Fault;
+use checks::{Hanging, Polygons};
 use refusals::Refusal;
+use sound_net::NetRows;
 use table::Head;
 use unweighted::Counts;
 
@@ -81,11 +82,11 @@ fn unchecked(why: Refusal) -> CheckOutcome
     }
 }
 
-fn of_checked(answer: Result<Fault, Refusal>) -> CheckOutcome
+fn of_checked(answer: Result<Option<Hanging>, Refusal>) -> CheckOutcome
     ensures { result ≡ check_outcome_of (Checks.checked_said answer) }
 {
     match answer {
-        Ok(Fault::Clear) => CheckOutcome {
+        Ok(None) => CheckOutcome {
             number: 0,
             place: 0,
             broken: 0,
@@ -93,13 +94,13 @@ fn of_checked(answer: Result<Fault, Refusal>) -> CheckOutcome
             from: 0,
             to: 0,
         },
-        Ok(Fault::Hanging(m, a, b)) => CheckOutcome {
+        Ok(Some(hanging)) => CheckOutcome {
             number: 0,
             place: 0,
             broken: 1,
-            node: m as u64,
-            from: a as u64,
-            to: b as u64,
+            node: hanging.node as u64,
+            from: hanging.start as u64,
+            to: hanging.end as u64,
         },
         Err(why) => unchecked(why),
     }
@@ -131,15 +132,14 @@ pub extern "C" fn leafmesh_power(
     ensures answers_after { answers.new
         ≡ power_row (net_of nodes.now ends.now conductances.now corners.now sheets.now) potentials.now answers.old }
 {
-    of_power(power::cell_power(
+    let rows = NetRows {
         nodes,
         ends,
         conductances,
         corners,
         sheets,
-        potentials,
-        answers,
-    ))
+    };
+    of_power(power::cell_power(&rows, potentials, answers))
 }
 
 // The net of a table's leaves into the front of the rows.
@@ -200,14 +200,17 @@ pub extern "C" fn leafmesh_check_network_conforming(
         ≡ work_row (node_count nodes.now) (length ends.now / 2) (well_formed table.now count max_level && sound_net
         (net_of nodes.now ends.now conductances.now corners.now sheets.now)) work.old }
 {
-    of_checked(checks::check_network_conforming(
-        table,
-        Head { count, max_level },
+    let rows = NetRows {
         nodes,
         ends,
         conductances,
         corners,
         sheets,
+    };
+    of_checked(checks::check_network_conforming(
+        table,
+        Head { count, max_level },
+        &rows,
         work,
     ))
 }
@@ -235,16 +238,18 @@ pub extern "C" fn leafmesh_check_by_layer(
         (net_of nodes.now ends.now conductances.now corners.now sheets.now) && Checks.polygons_fit table.now count
         layers.now components.now) work.old }
 {
-    of_checked(checks::check_by_layer(
-        table,
-        Head { count, max_level },
+    let rows = NetRows {
         nodes,
         ends,
         conductances,
         corners,
         sheets,
-        layers,
-        components,
+    };
+    of_checked(checks::check_by_layer(
+        table,
+        Head { count, max_level },
+        &rows,
+        &Polygons { layers, components },
         work,
     ))
 }

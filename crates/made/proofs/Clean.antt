@@ -1,7 +1,7 @@
 -- The by-layer check of a made net answers 'none', whatever the table, where its polygons differ in layer or component; so does the check by
 -- x and y alone where there is one polygon. Assumes nothing.
 use lib.Ieee.{Float}
-use Rattle.std.proofs.Common.{◌≡◌, refl, sym, ap, subst, ◌∙◌, Bool, true, false, ◌&&◌, cond, List, [], ◌∷◌, ◌++◌, ℕ, zero, suc, ◌+◌, ◌<◌, zero-add, arith, T, ltb, eqb, lt→ltb, ℤ, pos, length, take, drop, eq-eqb}
+use Rattle.std.proofs.Common.{◌≡◌, refl, sym, ap, ap₂, subst, ◌∙◌, Bool, true, false, ◌&&◌, cond, Option, None, List, [], ◌∷◌, ◌++◌, ℕ, zero, suc, ◌+◌, ◌<◌, zero-add, arith, T, ltb, eqb, lt→ltb, ℤ, pos, length, take, drop, eq-eqb}
 use lib.ListN.{length-map, get_or-map}
 use Rattle.refusals.specs.Said.{accepted, refused}
 use Rattle.cell.specs.Cells.{box_of}
@@ -13,9 +13,10 @@ use Rattle.table.proofs.Cells.{length-table, at_table}
 use Rattle.table.proofs.Splits.{leaf_kids}
 use Rattle.sound_net.specs.Nets.{net_of, all_below, sound_net}
 use Rattle.sound_net.proofs.Tests.{same, all_of}
-use Rattle.conforming.specs.declared.Whose.{Whose}
-use Rattle.conforming.specs.Nodes.{any_node, nodes_of}
-use Rattle.conforming.specs.Checks.{leaf_fault, cell_fault, net_fault, layer_fault, polygons_fit, conforming_says, layers_says}
+use Rattle.checks.specs.declared.asked.Class.{Class}
+use Rattle.checks.specs.declared.asked.Class.TheVariants.{Any, Of}
+use Rattle.checks.specs.declared.asked.Hanging.{Hanging}
+use Rattle.checks.specs.Checks.{leaf_fault, cell_fault, fault_by, net_fault, own_class, layer_fault, polygons_fit, fault_values, conforming_says, layers_says}
 use Rattle.net.specs.Net.{Poly, Node, Piece, same_node, number, pieces, node_at, nodes_from, network}
 use Rattle.net.specs.Hang.{so_far, HalvedSides}
 use Rattle.net.proofs.Keys.{both_of}
@@ -32,27 +33,22 @@ use Rattle.made.proofs.Pieces.{leaf-in, pieces-polys, nodes-polys, kept, behind,
 use Rattle.made.proofs.Clear.{leaf-clear, first-clear}
 use Rattle.made.proofs.Sound.{made-sound}
 
-own_is : (ps : List Poly) (k : ℕ) → nodes_of (layers_of ps) (components_of ps) k ≡ own_of (poly_at ps k)
-own_is ps k =
-    λ i. record {
-      own = true;
-      layer = pos (get_or-map (λ (p : Poly). p.layer) ps k no_poly i);
-      component = pos (get_or-map (λ (p : Poly). p.component) ps k no_poly i);
-    }
+own_is : (ps : List Poly) (k : ℕ) → own_class (layers_of ps) (components_of ps) k ≡ own_of (poly_at ps k)
+own_is ps k = ap₂ Of (get_or-map (λ (p : Poly). p.layer) ps k no_poly) (get_or-map (λ (p : Poly). p.component) ps k no_poly)
 
 -- a cell that is no leaf has no fault
-cell-clear : (t nodes : List ℤ) (ends : List ℕ) (w : Whose) (i : ℕ) → (leaf_at t i ≡ true → leaf_fault nodes ends w (cell_at t i) ≡ []) → cell_fault t nodes ends w i ≡ []
+cell-clear : (t nodes : List ℤ) (ends : List ℕ) (w : Class) (i : ℕ) → (leaf_at t i ≡ true → leaf_fault nodes ends w (cell_at t i) ≡ None) → cell_fault t nodes ends w i ≡ None
 unfolding cell_fault
 cell-clear t nodes ends w i h = go (leaf_at t i) refl
   where
-    go : (b : Bool) → leaf_at t i ≡ b → cond b (leaf_fault nodes ends w (cell_at t i)) [] ≡ []
+    go : (b : Bool) → leaf_at t i ≡ b → cond b (leaf_fault nodes ends w (cell_at t i)) None ≡ None
     go true e = h e
     go false e = refl
 
 module _ (t : List ℤ) (n : ℕ) (ps : List Poly) (apart : AllApart ps) (fits : (i : ℕ) → i < n → (cell_at t i).poly < length ps) where
   -- a leaf of the polygon k, by a test that tells the polygon's nodes
-  leaf-none : (w : Whose) (i k : ℕ) → i < n → (cell_at t i).poly ≡ k → k < length ps → Tells (network (table t n) ps).nodes w (poly_at ps k) → leaf_at t i ≡ true
-      → leaf_fault (node_row (network (table t n) ps)) (end_row (network (table t n) ps)) w (cell_at t i) ≡ []
+  leaf-none : (w : Class) (i k : ℕ) → i < n → (cell_at t i).poly ≡ k → k < length ps → Tells (network (table t n) ps).nodes w (poly_at ps k) → leaf_at t i ≡ true
+      → leaf_fault (node_row (network (table t n) ps)) (end_row (network (table t n) ps)) w (cell_at t i) ≡ None
   leaf-none w i k h e l tells leaf =
       leaf-clear (network cs ps).nodes so (network cs ps).edges (poly_at ps k) w tells (no-duplicates cs ps) keeps (cell_at t i) (cell-within t i) sides
     where
@@ -92,17 +88,17 @@ module _ (t : List ℤ) (n : ℕ) (ps : List Poly) (apart : AllApart ps) (fits :
           (rw length-table h) (leaf_kids t n i h leaf) polygon)
 
   cell-none : (i : ℕ) → i < n
-      → cell_fault t (node_row (network (table t n) ps)) (end_row (network (table t n) ps)) (nodes_of (layers_of ps) (components_of ps) (cell_at t i).poly) i ≡ []
+      → cell_fault t (node_row (network (table t n) ps)) (end_row (network (table t n) ps)) (own_class (layers_of ps) (components_of ps) (cell_at t i).poly) i ≡ None
   cell-none i h =
       let p = poly_at ps (cell_at t i).poly in
       let net = network (table t n) ps in
-      ap (λ (w : Whose). cell_fault t (node_row net) (end_row net) w i) (own_is ps (cell_at t i).poly)
+      ap (λ (w : Class). cell_fault t (node_row net) (end_row net) w i) (own_is ps (cell_at t i).poly)
       ∙ cell-clear t (node_row net) (end_row net) (own_of p) i (leaf-none (own_of p) i (cell_at t i).poly h refl (fits i h) (own-tells net.nodes (low t n ps) p))
 
   -- whatever the table, whatever its polygons of different layers and components
-  pub no-fault : layer_fault t n (node_row (network (table t n) ps)) (end_row (network (table t n) ps)) (layers_of ps) (components_of ps) ≡ []
-  unfolding layer_fault
-  no-fault = first-clear (λ i. cell_fault t (node_row (network (table t n) ps)) (end_row (network (table t n) ps)) (nodes_of (layers_of ps) (components_of ps) (cell_at t i).poly) i) n cell-none
+  pub no-fault : layer_fault t n (node_row (network (table t n) ps)) (end_row (network (table t n) ps)) (layers_of ps) (components_of ps) ≡ None
+  unfolding fault_by
+  no-fault = first-clear (λ i. cell_fault t (node_row (network (table t n) ps)) (end_row (network (table t n) ps)) (own_class (layers_of ps) (components_of ps) (cell_at t i).poly) i) n cell-none
 
   polygons-fit : polygons_fit t n (layers_of ps) (components_of ps) ≡ true
   unfolding polygons_fit
@@ -124,9 +120,9 @@ module _ (t : List ℤ) (n : ℕ) (ps : List Poly) (apart : AllApart ps) (fits :
   says_none M conductances corners sheets formed sound =
       let net = net_of (node_row (network (table t n) ps)) (end_row (network (table t n) ps)) conductances corners sheets in
       let fault = layer_fault t n net.nodes net.ends (layers_of ps) (components_of ps) in
-      ap (λ (b : Bool). cond b (accepted fault) (refused 7 0))
+      ap (λ (b : Bool). cond b (accepted (fault_values fault)) (refused 7 0))
       (both_of (well_formed t n M && sound_net net) (polygons_fit t n (layers_of ps) (components_of ps)) (both_of (well_formed t n M) (sound_net net) formed sound) polygons-fit)
-      ∙ ap accepted no-fault
+      ∙ ap (λ (f : Option Hanging). accepted (fault_values f)) no-fault
 
   -- the call's answer for the rows of the made net
   pub says-made : (M : ℕ) → well_formed t n M ≡ true → ((k : ℕ) → k < length ps → InRange (poly_at ps k))
@@ -147,7 +143,7 @@ module _ (t : List ℤ) (n : ℕ) (p : Poly) (fits : (i : ℕ) → i < n → (ce
   zeroth : (i : ℕ) → i < n → (cell_at t i).poly < 1
   zeroth i h = omega (arith, fits i h)
 
-  pub one-fault : layer_fault t n (node_row (network (table t n) (p ∷ []))) (end_row (network (table t n) (p ∷ []))) (p.layer ∷ []) (p.component ∷ []) ≡ []
+  pub one-fault : layer_fault t n (node_row (network (table t n) (p ∷ []))) (end_row (network (table t n) (p ∷ []))) (p.layer ∷ []) (p.component ∷ []) ≡ None
   one-fault = no-fault t n (p ∷ []) alone zeroth
 
   pub one-says : (M : ℕ) → well_formed t n M ≡ true → InRange p → layers_says t n M (rows_of (network (table t n) (p ∷ []))) (p.layer ∷ []) (p.component ∷ []) ≡ accepted []
@@ -161,21 +157,21 @@ module _ (t : List ℤ) (n : ℕ) (p : Poly) (fits : (i : ℕ) → i < n → (ce
       (pieces-polys (λ (q : Poly). (q.layer ≡ p.layer) × (q.component ≡ p.component)) (table t n) (p ∷ []) 0
       (only (λ (q : Poly). (q.layer ≡ p.layer) × (q.component ≡ p.component)) (refl, refl))))
 
-  pub one-net-fault : net_fault t n (node_row (network (table t n) (p ∷ []))) (end_row (network (table t n) (p ∷ []))) ≡ []
-  unfolding net_fault
+  pub one-net-fault : net_fault t n (node_row (network (table t n) (p ∷ []))) (end_row (network (table t n) (p ∷ []))) ≡ None
+  unfolding fault_by
   one-net-fault =
       let net = network (table t n) (p ∷ []) in
-      first-clear (cell_fault t (node_row net) (end_row net) any_node) n
-      (λ i h. cell-clear t (node_row net) (end_row net) any_node i
-      (leaf-none t n (p ∷ []) alone zeroth any_node i 0 h (fits i h) (omega arith) (any_tells net.nodes (low t n (p ∷ [])) p one-poly)))
+      first-clear (λ i. cell_fault t (node_row net) (end_row net) Any i) n
+      (λ i h. cell-clear t (node_row net) (end_row net) Any i
+      (leaf-none t n (p ∷ []) alone zeroth Any i 0 h (fits i h) (omega arith) (any_tells net.nodes (low t n (p ∷ [])) p one-poly)))
 
   pub one-net-says : (M : ℕ) → well_formed t n M ≡ true → InRange p → conforming_says t n M (rows_of (network (table t n) (p ∷ []))) ≡ accepted []
   unfolding conforming_says
   one-net-says M formed range =
       let net = rows_of (network (table t n) (p ∷ [])) in
-      ap (λ (b : Bool). cond b (accepted (net_fault t n net.nodes net.ends)) (refused 7 0))
+      ap (λ (b : Bool). cond b (accepted (fault_values (net_fault t n net.nodes net.ends))) (refused 7 0))
       (both_of (well_formed t n M) (sound_net net) formed (made-sound t n M (p ∷ []) formed (only InRange range)))
-      ∙ ap accepted one-net-fault
+      ∙ ap (λ (f : Option Hanging). accepted (fault_values f)) one-net-fault
 
 -- ---- the laws that src/laws.rt promises
 

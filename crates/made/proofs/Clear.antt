@@ -5,9 +5,12 @@ use Rattle.cell.specs.declared.Cell.{Cell}
 use Rattle.cell.specs.Boxes.{mid}
 use Rattle.cell.specs.Cells.{box_of}
 use Rattle.cell.specs.Ticks.{on}
-use Rattle.conforming.specs.declared.Whose.{Whose}
-use Rattle.conforming.specs.Nodes.{joined, node_at as node_found}
-use Rattle.conforming.specs.Checks.{fault, chain, or_else, sides_fault, leaf_fault, first_fault}
+use Rattle.std.specs.Option.{option_or}
+use Rattle.checks.specs.declared.asked.Class.{Class}
+use Rattle.checks.specs.declared.asked.Place.{Place}
+use Rattle.checks.specs.declared.asked.Hanging.{Hanging}
+use Rattle.checks.specs.Nodes.{joined, last_at}
+use Rattle.checks.specs.Checks.{fault, side_fault, leaf_fault, first_fault}
 use Rattle.net.specs.Net.{find, each, Poly, Node, Edge, same_node, same_pair, nth, number, node_at, sw_of, ne_of, nw_of, join, One}
 use Rattle.net.specs.Hang.{Joined, Halved, HalvedSides}
 use Rattle.net.proofs.Find.{find-same}
@@ -30,14 +33,17 @@ joined_back ns es a b h g =
 halved-back : (ns : List Node) (es : List Edge) (a m b : Node) → Halved ns es a m b → Halved ns es b m a
 halved-back ns es a m b h t = let r = h t in (joined_back ns es m b r.1, joined_back ns es a m r.0)
 
-none_of : {a b : List ℕ} → a ≡ [] → b ≡ [] → or_else a b ≡ []
-none_of {a} {b} e f = ap (λ (z : List ℕ). or_else z b) e ∙ f
+none_of : {a b : Option Hanging} → a ≡ None → b ≡ None → option_or a b ≡ None
+none_of {a} {b} e f = ap (λ (z : Option Hanging). option_or z b) e ∙ f
+
+abbrev place : ℕ → ℕ → Place
+place x y = record { x = x; y = y }
 
 -- ---- all nodes ns, and the nodes so far, by which the edges of the polygon p are made
-module _ (ns so : List Node) (es : List Edge) (p : Poly) (w : Whose) (tells : Tells ns w p)
+module _ (ns so : List Node) (es : List Edge) (p : Poly) (w : Class) (tells : Tells ns w p)
     (once : (i : ℕ) → i < length ns → number ns (nth ns i) ≡ i)
     (kept : (x y : ℕ) → In same_node ns (node_at p x y) → In same_node so (node_at p x y) × (number ns (node_at p x y) ≡ number so (node_at p x y))) where
-  numbered : (x y i : ℕ) → x ≤ top → y ≤ top → node_found (each node_nums ns) w (on x) (on y) ≡ Some i → In same_node so (node_at p x y) × (number so (node_at p x y) ≡ i)
+  numbered : (x y i : ℕ) → x ≤ top → y ≤ top → last_at (each node_nums ns) w (on x) (on y) ≡ Some i → In same_node so (node_at p x y) × (number so (node_at p x y) ≡ i)
   numbered x y i h k e =
       let f = found ns w p tells once x y i h k e in
       let l = f.0 in
@@ -46,15 +52,15 @@ module _ (ns so : List Node) (es : List Edge) (p : Poly) (w : Whose) (tells : Te
       (r.0, sym r.1 ∙ n)
 
   edge-clear : (ax ay bx by mx my : ℕ) → ax ≤ top → ay ≤ top → bx ≤ top → by ≤ top → mx ≤ top → my ≤ top → Halved so es (node_at p ax ay) (node_at p mx my) (node_at p bx by)
-      → chain (each node_nums ns) (each end_nums es) w (on ax) (on ay) (on bx) (on by) (on mx) (on my) ≡ []
-  unfolding chain fault
+      → side_fault (each node_nums ns) (each end_nums es) w (record { start = place ax ay; middle = place mx my; end = place bx by }) ≡ None
+  unfolding side_fault fault
   edge-clear ax ay bx by mx my hax hay hbx hby hmx hmy halved = go (at mx my) (at ax ay) (at bx by) refl refl refl
     where
       at : ℕ → ℕ → Option ℕ
-      at x y = node_found (each node_nums ns) w (on x) (on y)
+      at x y = last_at (each node_nums ns) w (on x) (on y)
 
-      go : (o q r : Option ℕ) → node_found (each node_nums ns) w (on mx) (on my) ≡ o → node_found (each node_nums ns) w (on ax) (on ay) ≡ q
-          → node_found (each node_nums ns) w (on bx) (on by) ≡ r → fault (each end_nums es) o q r ≡ []
+      go : (o q r : Option ℕ) → last_at (each node_nums ns) w (on mx) (on my) ≡ o → last_at (each node_nums ns) w (on ax) (on ay) ≡ q
+          → last_at (each node_nums ns) w (on bx) (on by) ≡ r → fault (each end_nums es) o q r ≡ None
       go None q r e f g = refl
       go (Some m) None r e f g = refl
       go (Some m) (Some a) None e f g = refl
@@ -65,10 +71,10 @@ module _ (ns so : List Node) (es : List Edge) (p : Poly) (w : Whose) (tells : Te
           let s = halved (lt-ltb (find same_node so (node_at p mx my)) (length so) u.0) in
           let first : joined (each end_nums es) a m ≡ true = rw (← v.1, ← u.1) (joined_of es (join so (node_at p ax ay) (node_at p mx my) One) (s.0 One)) in
           let second : joined (each end_nums es) m b ≡ true = rw (← u.1, ← z.1) (joined_of es (join so (node_at p mx my) (node_at p bx by) One) (s.1 One)) in
-          ap (λ z. cond z [] (m ∷ a ∷ b ∷ [])) (both_of (joined (each end_nums es) a m) (joined (each end_nums es) m b) first second)
+          ap (λ z. cond z None (Some (record { node = m; start = a; end = b }))) (both_of (joined (each end_nums es) a m) (joined (each end_nums es) m b) first second)
 
-  pub leaf-clear : (c : Cell) → BoxWithin top (box_of c) → HalvedSides so es p (box_of c) → leaf_fault (each node_nums ns) (each end_nums es) w c ≡ []
-  unfolding leaf_fault sides_fault
+  pub leaf-clear : (c : Cell) → BoxWithin top (box_of c) → HalvedSides so es p (box_of c) → leaf_fault (each node_nums ns) (each end_nums es) w c ≡ None
+  unfolding leaf_fault
   leaf-clear c l h =
       let a = l.0 in
       let b = l.1 in
@@ -88,7 +94,7 @@ module _ (ns so : List Node) (es : List Edge) (p : Poly) (w : Whose) (tells : Te
       (halved-back so es (sw_of p r) (node_at p c.x0 (mid c.y0 c.y1)) (nw_of p r) h.west))))
 
 -- no fault below n, no first one
-pub first-clear : (f : ℕ → List ℕ) (n : ℕ) → ((i : ℕ) → i < n → f i ≡ []) → first_fault f n ≡ []
+pub first-clear : (f : ℕ → Option Hanging) (n : ℕ) → ((i : ℕ) → i < n → f i ≡ None) → first_fault f n ≡ None
 unfolding first_fault
 first-clear f zero h = refl
 first-clear f (suc n) h = none_of (first-clear f n (λ i l. h i (omega arith))) (h n (omega arith))

@@ -5,9 +5,10 @@ use Rattle.cell.specs.Ticks.{off, on}
 use Rattle.cell.proofs.Offsets.{off-on}
 use Rattle.sound_net.specs.Nets.{eq_z, node_count, layer_at, component_at, x_at, y_at}
 use Rattle.sound_net.proofs.Tests.{yes, same, eq_z-true, eq_z-of}
-use Rattle.conforming.specs.declared.Whose.{Whose}
-use Rattle.conforming.specs.Nodes.{any_node, here, last_below, joins, joined, node_at as node_found}
-use Rattle.conforming.proofs.Searches.{any-hit}
+use Rattle.checks.specs.declared.asked.Class.{Class}
+use Rattle.checks.specs.declared.asked.Class.TheVariants.{Any, Of}
+use Rattle.checks.specs.Nodes.{here, last_below, joins, joined, last_at}
+use Rattle.checks.proofs.Searches.{any-hit}
 use Rattle.net.specs.Net.{find, each, Poly, Node, Edge, same_node, same_pair, pair_is, nth, nowhere, number, node_at}
 use Rattle.net.proofs.Find.{find-hit}
 use Rattle.net.proofs.Keys.{both, both_of}
@@ -22,8 +23,8 @@ abbrev pub top : ℕ
 top = coordinate + coordinate
 
 -- nodes of a polygon's own layer and component
-abbrev pub own_of : Poly → Whose
-own_of p = record { own = true; layer = pos p.layer; component = pos p.component }
+abbrev pub own_of : Poly → Class
+own_of p = Of p.layer p.component
 
 -- the way back takes no two coordinates to one
 on_same : (a b : ℕ) → a ≤ top → b ≤ top → eq_z (on a) (on b) ≡ eqb a b
@@ -50,12 +51,12 @@ last_some p (suc n) i e = go (p n) refl e (last_some p n i)
     go false q f ih = let r = ih f in let l = r.0 in (omega arith, r.1)
 
 -- what a test of nodes tells of one that passes: it is the node of the polygon p at the place
-abbrev pub Tells : List Node → Whose → Poly → Type 0
+abbrev pub Tells : List Node → Class → Poly → Type 0
 Tells ns w p = (x y : ℕ) → x ≤ top → y ≤ top → (i : ℕ) → i < length ns → here (each node_nums ns) w (on x) (on y) i ≡ true → same_node (nth ns i) (node_at p x y) ≡ true
 
 -- the node that is found is the one whose number the net has
-pub found : (ns : List Node) (w : Whose) (p : Poly) → Tells ns w p → ((j : ℕ) → j < length ns → number ns (nth ns j) ≡ j) → (x y i : ℕ) → x ≤ top → y ≤ top
-    → node_found (each node_nums ns) w (on x) (on y) ≡ Some i → (i < length ns) × (number ns (node_at p x y) ≡ i)
+pub found : (ns : List Node) (w : Class) (p : Poly) → Tells ns w p → ((j : ℕ) → j < length ns → number ns (nth ns j) ≡ j) → (x y i : ℕ) → x ≤ top → y ≤ top
+    → last_at (each node_nums ns) w (on x) (on y) ≡ Some i → (i < length ns) × (number ns (node_at p x y) ≡ i)
 found ns w p tells once x y i xs ys e =
     let r = last_some (here (each node_nums ns) w (on x) (on y)) (node_count (each node_nums ns)) i e in
     let l = r.0 in
@@ -89,7 +90,7 @@ module _ (ns : List Node) (low : All (Within top) ns) (p : Poly) where
       (sym a.0 ∙ u.0) (sym a.1 ∙ u.1)
 
   -- all, where they are all of its layer and component
-  pub any_tells : All (λ (m : Node). (m.layer ≡ p.layer) × (m.component ≡ p.component)) ns → Tells ns any_node p
+  pub any_tells : All (λ (m : Node). (m.layer ≡ p.layer) × (m.component ≡ p.component)) ns → Tells ns Any p
   unfolding here
   any_tells own x y xs ys i h e =
       let a = place_is x y i xs ys h in

@@ -2,7 +2,7 @@
 use Rattle.std.proofs.Common.{◌≡◌, refl, ap, ◌∙◌, List, [], ◌∷◌, ◌++◌, ℕ, zero, suc, ◌+◌, ◌*◌, ◌<◌, arith, pos, length, get_or, length-append, get_or-append-add}
 use lib.ListN.{get_or-append}
 use Rattle.cell.specs.Ticks.{on}
-use Rattle.sound_net.specs.Nets.{node_count, layer_at, component_at, x_at, y_at, from_at, to_at, sw_at, se_at, ne_at, nw_at}
+use Rattle.sound_net.specs.Nets.{node_count, layer_at, component_at, x_at, y_at, from_at, to_at, corners_at}
 use Rattle.net.specs.Net.{each, Node, Edge, Patch, nth, nowhere}
 use Rattle.places.specs.Places.{node_nums, corner_nums, end_nums}
 
@@ -72,14 +72,14 @@ module _ (cs : List Patch) where
   corners-long = each_long corner_nums 4 (λ c. refl) cs
 
   module _ (d : Patch) (i : ℕ) (h : i < length cs) where
-    pub sw-at : sw_at (each corner_nums cs) i ≡ (get_or cs i d).sw
+    pub sw-at : (corners_at (each corner_nums cs) i).southwest ≡ (get_or cs i d).sw
     sw-at = each_first corner_nums 4 (λ c. refl) cs i d 0 h (omega arith)
 
-    pub se-at : se_at (each corner_nums cs) i ≡ (get_or cs i d).se
+    pub se-at : (corners_at (each corner_nums cs) i).southeast ≡ (get_or cs i d).se
     se-at = each_at corner_nums 4 (λ c. refl) cs i 1 d 0 h (omega arith)
 
-    pub ne-at : ne_at (each corner_nums cs) i ≡ (get_or cs i d).ne
+    pub ne-at : (corners_at (each corner_nums cs) i).northeast ≡ (get_or cs i d).ne
     ne-at = each_at corner_nums 4 (λ c. refl) cs i 2 d 0 h (omega arith)
 
-    pub nw-at : nw_at (each corner_nums cs) i ≡ (get_or cs i d).nw
+    pub nw-at : (corners_at (each corner_nums cs) i).northwest ≡ (get_or cs i d).nw
     nw-at = each_at corner_nums 4 (λ c. refl) cs i 3 d 0 h (omega arith)

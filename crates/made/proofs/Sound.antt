@@ -11,7 +11,8 @@ use Rattle.table.specs.Mesh.{table}
 use Rattle.table.specs.Formed.{well_formed}
 use Rattle.table.proofs.Wellformed.{formed-facts}
 use Rattle.sound_net.specs.Nets.{node_count, unsigned, sound_net}
-use Rattle.sound_net.specs.Facts.{SoundNode, SoundEdge, Rectangle, SoundCell, SoundNet}
+use Rattle.sound_net.specs.Facts.{IsSoundNode, IsSoundEdge, IsRectangle, IsSoundCell, IsSoundNet}
+use Rattle.sound_net.specs.declared.rows.Corners.{Corners}
 use Rattle.sound_net.proofs.Tests.{yes, same}
 use Rattle.sound_net.proofs.Sound.{net-sound}
 use Rattle.net.specs.Net.{each, Poly, Node, Edge, Patch, nth, nowhere, pieces, Cornered, Ends, One, network}
@@ -75,7 +76,7 @@ NodeIn m = (m.layer < 2 ^ 16) × (m.component < 2 ^ 32)
 unsigned_is : (k n : ℕ) → n < 2 ^ k → T (unsigned k (pos n))
 unsigned_is k n h = and_i (leb 0 n) (ltb n (2 ^ k)) (yes (le-leb 0 n (omega arith))) (lt→ltb n (2 ^ k) h)
 
-node_row : (ns : List Node) → All NodeIn ns → All (Within top) ns → (i : ℕ) → i < length ns → SoundNode (each node_nums ns) i
+node_row : (ns : List Node) → All NodeIn ns → All (Within top) ns → (i : ℕ) → i < length ns → IsSoundNode (each node_nums ns) i
 node_row ns a w i h =
     let m = all-at NodeIn nowhere ns i a h in
     let l = all-at (Within top) nowhere ns i w h in
@@ -88,7 +89,7 @@ node_row ns a w i h =
 
 -- ---- edges
 
-edge_row : (ns : List Node) (es : List Edge) → All (Ends (length ns)) es → (i : ℕ) → i < length es → SoundEdge (node_count (each node_nums ns)) (each end_nums es) i
+edge_row : (ns : List Node) (es : List Edge) → All (Ends (length ns)) es → (i : ℕ) → i < length es → IsSoundEdge (node_count (each node_nums ns)) (each end_nums es) i
 edge_row ns es a i h =
     let d : Edge = record { a = 0; b = 0; g = One } in
     let e = all-at (Ends (length ns)) d es i a h in
@@ -98,7 +99,10 @@ edge_row ns es a i h =
 
 -- ---- cells
 
-rectangle-row : (ns : List Node) → All (Within top) ns → (c : Patch) → Cornered ns c → Rectangle (each node_nums ns) c.sw c.se c.ne c.nw
+abbrev corners_of : Patch → Corners
+corners_of c = record { southwest = c.sw; southeast = c.se; northeast = c.ne; northwest = c.nw }
+
+rectangle-row : (ns : List Node) → All (Within top) ns → (c : Patch) → Cornered ns c → IsRectangle (each node_nums ns) (corners_of c)
 rectangle-row ns w c k =
     let east = all-at (Within top) nowhere ns c.se w k.se-in in
     let north = all-at (Within top) nowhere ns c.nw w k.nw-in in
@@ -111,7 +115,7 @@ rectangle-row ns w c k =
       west = x-at ns c.nw k.nw-in ∙ (ap on (sym k.west) ∙ sym (x-at ns c.sw k.sw-in));
     }
 
-cell_row : (ns : List Node) → All (Within top) ns → (cs : List Patch) → All (Cornered ns) cs → (i : ℕ) → i < length cs → SoundCell (each node_nums ns) (each corner_nums cs) i
+cell_row : (ns : List Node) → All (Within top) ns → (cs : List Patch) → All (Cornered ns) cs → (i : ℕ) → i < length cs → IsSoundCell (each node_nums ns) (each corner_nums cs) i
 cell_row ns w cs a i h =
     let d : Patch = record { sw = 0; se = 0; ne = 0; nw = 0; sheet = One } in
     let k = all-at (Cornered ns) d cs i a h in
@@ -120,17 +124,19 @@ cell_row ns w cs a i h =
     let r = k.ne-in in
     let s = k.nw-in in
     record {
-      sw_known = omega (arith, sw-at cs d i h, nodes-count ns);
-      se_known = omega (arith, se-at cs d i h, nodes-count ns);
-      ne_known = omega (arith, ne-at cs d i h, nodes-count ns);
-      nw_known = omega (arith, nw-at cs d i h, nodes-count ns);
+      known = record {
+        southwest = omega (arith, sw-at cs d i h, nodes-count ns);
+        southeast = omega (arith, se-at cs d i h, nodes-count ns);
+        northeast = omega (arith, ne-at cs d i h, nodes-count ns);
+        northwest = omega (arith, nw-at cs d i h, nodes-count ns);
+      };
       box = rw (sw-at cs d i h, se-at cs d i h, ne-at cs d i h, nw-at cs d i h) (rectangle-row ns w (get_or cs i d) k);
     }
 
 -- ---- the net
 
 module _ (t : List ℤ) (n M : ℕ) (ps : List Poly) (formed : well_formed t n M ≡ true) (range : (k : ℕ) → k < length ps → InRange (poly_at ps k)) where
-  sound-facts : SoundNet (rows_of (network (table t n) ps))
+  sound-facts : IsSoundNet (rows_of (network (table t n) ps))
   sound-facts =
       let ns = (network (table t n) ps).nodes in
       let es = (network (table t n) ps).edges in

@@ -5,7 +5,7 @@ use Rattle.table.specs.Mesh.{table}
 use Rattle.table.specs.Slots.{cell_at}
 use Rattle.table.specs.Formed.{well_formed}
 use Rattle.sound_net.specs.Nets.{Net as Rows, sound_net}
-use Rattle.conforming.specs.Checks.{conforming_says, layers_says}
+use Rattle.checks.specs.Checks.{conforming_says, layers_says}
 use Rattle.net.specs.Net.{Poly, network}
 use Rattle.made.specs.Made.{layers_of, components_of, AllApart, InRange, rows_of}
 

@@ -12,14 +12,16 @@ use Rattle.floats.proofs.Signs.{div-no-nan, square-nonneg, add-nonneg, mul-nonne
 use Rattle.floats.proofs.Ranges.{In, in-positive, num-in, mul_in}
 use Rattle.floats.proofs.Sizes.{within-finite, finite-no-nan, add-within, sub_within}
 use Rattle.floats.proofs.Bounds.{sheet-positive, potential-within}
-use Rattle.sound_net.specs.Nets.{Net, sw_at, se_at, ne_at, nw_at, sound_net}
+use Rattle.sound_net.specs.Nets.{Net, corners_at, sound_net}
 use Rattle.sound_net.proofs.Tests.{yes}
+use Rattle.sound_net.proofs.Sound.{net-facts}
+use Rattle.sound_net.proofs.Gaps.{sides}
 use Rattle.power.specs.declared.Slope.{Slope}
 use Rattle.power.specs.Formulas.{power_of}
 use Rattle.power.specs.Powers.{value_at, values_at, grad_at, power_at, listed, in_ranges, power_says, power_row}
 use Rattle.power.specs.Laws.{PowersAreNonNegative}
 use Rattle.power.proofs.Listed.{listed-length, listed_at}
-use Rattle.power.proofs.Verdict.{ranged, sloped, done}
+use Rattle.power.proofs.Verdict.{ranged, done}
 
 -- ---- a side in metres, and twice a side, are positive
 one-positive : T (positive (float 1))
@@ -89,23 +91,25 @@ power-nonneg s sheet a b c d e =
     e
 
 -- ---- the power of a cell of a sound net, its values in range
-pub cell-nonneg : (n : Net) (us : List Float) → T (sound_net n) → T (in_ranges n.nodes n.sheets us) → (c : ℕ) → c < length n.sheets → T (nonneg (power_at n.nodes n.corners n.sheets us c))
+pub cell-nonneg : (n : Net) (us : List Float) → T (sound_net n) → T (in_ranges n us) → (c : ℕ) → c < length n.sheets → T (nonneg (power_at n us c))
 unfolding power_at grad_at values_at
 cell-nonneg n us s r c h =
-    let k = sloped n us s r c h in
-    let v = ranged n.nodes n.sheets us r in
+    let f = net-facts n s in
+    let q = corners_at n.corners c in
+    let k = (f.cell c h).known in
+    let v = ranged n us r in
     let e = v.count in
-    let sw = sw_at n.corners c in
-    let se = se_at n.corners c in
-    let ne = ne_at n.corners c in
-    let nw = nw_at n.corners c in
-    let A = v.potential sw (omega (arith, k.cell.sw_known, e)) in
-    let B = v.potential se (omega (arith, k.cell.se_known, e)) in
-    let C = v.potential ne (omega (arith, k.cell.ne_known, e)) in
-    let D = v.potential nw (omega (arith, k.cell.nw_known, e)) in
-    let w = k.sides.width in
-    let t = k.sides.height in
-    power-nonneg (grad_at n.nodes n.corners us c) (value_at n.sheets c)
+    let sw = q.southwest in
+    let se = q.southeast in
+    let ne = q.northeast in
+    let nw = q.northwest in
+    let A = v.potential sw (omega (arith, k.southwest, e)) in
+    let B = v.potential se (omega (arith, k.southeast, e)) in
+    let C = v.potential ne (omega (arith, k.northeast, e)) in
+    let D = v.potential nw (omega (arith, k.northwest, e)) in
+    let w = (sides n f c h).width in
+    let t = (sides n f c h).height in
+    power-nonneg (grad_at n us c) (value_at n.sheets c)
     (slope-no-nan (value_at us se) (value_at us ne) (value_at us sw) (value_at us nw) _ B C A D (twice-positive _ w.some w.most))
     (slope-no-nan (value_at us ne) (value_at us nw) (value_at us sw) (value_at us se) _ C D A B (twice-positive _ t.some t.most))
     (metres-positive _ w.some w.most)
@@ -115,14 +119,14 @@ cell-nonneg n us s r c h =
 -- ---- what an accepted call found
 pub record Accepted (n : Net) (us answers : List Float) : Type 0 where
   pub sound : sound_net n ≡ true
-  pub fit : in_ranges n.nodes n.sheets us ≡ true
+  pub fit : in_ranges n us ≡ true
   pub enough : leb (length n.sheets) (length answers) ≡ true
 
 pub accepted-is : (n : Net) (us answers : List Float) → power_says n us answers ≡ accepted [] → Accepted n us answers
 unfolding power_says
-accepted-is n us answers = by (sound_net n) (in_ranges n.nodes n.sheets us) (leb (length n.sheets) (length answers)) refl refl refl
+accepted-is n us answers = by (sound_net n) (in_ranges n us) (leb (length n.sheets) (length answers)) refl refl refl
   where
-    by : (a b c : Bool) → sound_net n ≡ a → in_ranges n.nodes n.sheets us ≡ b → leb (length n.sheets) (length answers) ≡ c
+    by : (a b c : Bool) → sound_net n ≡ a → in_ranges n us ≡ b → leb (length n.sheets) (length answers) ≡ c
         → cond a (cond b (cond c (accepted []) (refused 6 0)) (refused 3 0)) (refused 7 0) ≡ accepted []
         → Accepted n us answers
     by true true true p q r e = record { sound = p; fit = q; enough = r }
@@ -134,7 +138,7 @@ accepted-is n us answers = by (sound_net n) (in_ranges n.nodes n.sheets us) (leb
 pub powers-nonneg : (n : Net) (us answers : List Float) → power_says n us answers ≡ accepted [] → (c : ℕ) → c < length n.sheets → T (nonneg (get_or (power_row n us answers) c nan))
 powers-nonneg n us answers a c h =
     let k = accepted-is n us answers a in
-    let f = power_at n.nodes n.corners n.sheets us in
+    let f = power_at n us in
     let m = length n.sheets in
     rw (← (done n us answers k.sound k.fit k.enough).1)
     (subst (λ (x : Float). T (nonneg x))

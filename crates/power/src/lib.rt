@@ -1,19 +1,18 @@
-// The power of a net's cells from the potentials of its nodes: cell_grad (`Values::grad`) and cell_power of the Rust.
-//
-// The rows of a net are those of `sound_net`. Lengths are in metres.
+//! The power of a net's cells from the potentials of its nodes: cell_grad (`Values::grad`) and cell_power of the Rust.
+//! Lengths are in metres.
 #![tactic(auto)]
 
-ghost use Rattle.std.specs.Prelude.{◌≡◌, ℕ, ◌+◌, ◌*◌, ◌^◌, ◌<◌, ◌≤◌, pos, nat_abs, ◌-ℤ◌, length, get_or};
+ghost use Rattle.std.specs.Prelude.{◌≡◌, ◌^◌, ◌<◌, ◌≤◌, length};
 ghost use Rattle.cell.specs.Ticks.{metres_of};
 ghost use Rattle.floats.specs.Fractions.{in_sheet, in_potential};
-ghost use Rattle.sound_net.specs.Nets.{net_of, all_below};
-ghost use Rattle.sound_net.specs.Facts.{Gap};
+ghost use Rattle.sound_net.specs.Nets.{net_in, node_count, all_below};
 ghost use Rattle.power.specs.Formulas.{slope_of, power_of};
-ghost use Rattle.power.specs.Powers.{value_at, values_at, powered, in_ranges, power_said, power_says, power_row, Sloped};
+ghost use Rattle.power.specs.Powers.{value_at, values_at, powered, in_ranges, power_said, power_says, power_row};
 
 pub mod laws;
 
 use refusals::Refusal;
+use sound_net::{NetRows, SoundNet};
 
 // What a cell's slope is worked out from: the potentials at SW, SE, NE, NW and the sides in ticks.
 #[derive(Clone, Copy)]
@@ -61,34 +60,24 @@ impl Slope {
     }
 }
 
-// The ticks from one number of the row to a larger one. Internal: both are coordinates in range.
-fn gap(nodes: &[i64], i: usize, j: usize) -> u64
-    requires from_there { i < length nodes.now }
-    requires to_there { j < length nodes.now }
-    requires gap { Gap (get_or nodes.now j (pos 0) -ℤ get_or nodes.now i (pos 0)) }
-    ensures { result ≡ nat_abs (get_or nodes.now j (pos 0) -ℤ get_or nodes.now i (pos 0)) }
-{
-    (nodes[j] - nodes[i]) as u64
-}
-
-// The values of cell c. Internal: the cell is one of a sound net, with a potential for each node.
+// The values of cell c. Internal: the cell is one of the net, with a potential for each node.
 #[tactic(auto, unfolding(crate::specs::Powers::values_at))]
-fn cell_values(nodes: &[i64], corners: &[u64], potentials: &[f64], c: usize) -> Values
-    requires { Sloped nodes.now corners.now potentials.now c }
-    ensures { result ≡ values_at nodes.now corners.now potentials.now c }
+fn cell_values(net: &SoundNet, potentials: &[f64], c: usize) -> Values
+    requires inside { c < length net.now.rows.sheets.now }
+    requires a_potential_each { length potentials.now ≡ node_count net.now.rows.nodes.now }
+    ensures values { result ≡ values_at (net_in net.now.rows) potentials.now c }
+    ensures width_in_range { result.width < 2 ^ 53 }
+    ensures height_in_range { result.height < 2 ^ 53 }
 {
-    let at = c * 4;
-    let sw = corners[at] as usize;
-    let se = corners[at + 1] as usize;
-    let ne = corners[at + 2] as usize;
-    let nw = corners[at + 3] as usize;
+    let cell = net.cell(c);
+    let at = cell.corners;
     Values {
-        u0: potentials[sw],
-        u1: potentials[se],
-        u2: potentials[ne],
-        u3: potentials[nw],
-        width: gap(nodes, sw * 4 + 2, se * 4 + 2),
-        height: gap(nodes, sw * 4 + 3, nw * 4 + 3),
+        u0: potentials[at.southwest],
+        u1: potentials[at.southeast],
+        u2: potentials[at.northeast],
+        u3: potentials[at.northwest],
+        width: cell.width,
+        height: cell.height,
     }
 }
 
@@ -115,22 +104,23 @@ fn sheets_in_range(sheets: &[f64]) -> bool
 }
 
 // Puts the power of each cell in its answer, two cells a turn: both are loaded before either is divided, so that the
-// divisions go together. Internal: the net is sound, with a potential for each node and room for the answers.
-#[tactic(auto, unfolding(crate::specs::Powers::values_at, crate::specs::Powers::listed))]
-fn fill(nodes: &[i64], corners: &[u64], sheets: &[f64], potentials: &[f64], answers: &mut [f64])
-    requires room { length sheets.now ≤ length answers.old }
-    requires sloped { (c : ℕ) → c < length sheets.now → Sloped nodes.now corners.now potentials.now c }
-    ensures { answers.new ≡ powered nodes.now corners.now sheets.now potentials.now answers.old }
+// divisions go together. Internal: there is a potential for each node, and room for the answers.
+#[tactic(auto, unfolding(crate::specs::Powers::listed))]
+fn fill(net: &SoundNet, potentials: &[f64], answers: &mut [f64])
+    requires a_potential_each { length potentials.now ≡ node_count net.now.rows.nodes.now }
+    requires room { length net.now.rows.sheets.now ≤ length answers.old }
+    ensures { answers.new ≡ powered (net_in net.now.rows) potentials.now answers.old }
 {
+    let sheets = net.rows.sheets;
     let mut c = 0usize;
     while c < sheets.len() {
-        let first = cell_values(nodes, corners, potentials, c);
+        let first = cell_values(net, potentials, c);
         // The last of an odd number.
         if c + 1 == sheets.len() {
             answers[c] = first.grad().power(sheets[c]);
             return;
         }
-        let second = cell_values(nodes, corners, potentials, c + 1);
+        let second = cell_values(net, potentials, c + 1);
         let p = first.grad().power(sheets[c]);
         let q = second.grad().power(sheets[c + 1]);
         answers[c] = p;
@@ -141,39 +131,33 @@ fn fill(nodes: &[i64], corners: &[u64], sheets: &[f64], potentials: &[f64], answ
 
 // Whether each value is one that the rules allow, and there is a potential for each node.
 #[tactic(auto, unfolding(crate::specs::Powers::in_ranges))]
-fn in_ranges(nodes: &[i64], sheets: &[f64], potentials: &[f64]) -> bool
-    ensures { result ≡ in_ranges nodes.now sheets.now potentials.now }
+fn in_ranges(net: &SoundNet, potentials: &[f64]) -> bool
+    ensures { result ≡ in_ranges (net_in net.now.rows) potentials.now }
 {
-    (potentials.len() == nodes.len() / 4)
+    (potentials.len() == net.node_count())
         & potentials_in_range(potentials)
-        & sheets_in_range(sheets)
+        & sheets_in_range(net.rows.sheets)
 }
 
-// The rules' cell_power: refusal 7 for a bad net, 3 for a value out of range, 6 for fewer answers than cells.
+/// The rules' cell_power: refusal 7 for a bad net, 3 for a value out of range, 6 for fewer answers than cells.
 #[tactic(auto, unfolding(crate::specs::Powers::power_says, crate::specs::Powers::power_row))]
 pub fn cell_power(
-    nodes: &[i64],
-    ends: &[u64],
-    conductances: &[f64],
-    corners: &[u64],
-    sheets: &[f64],
+    rows: &NetRows,
     potentials: &[f64],
     answers: &mut [f64],
 ) -> Result<(), Refusal>
-    ensures answer { power_said result
-        ≡ power_says (net_of nodes.now ends.now conductances.now corners.now sheets.now) potentials.now answers.old }
-    ensures row { answers.new
-        ≡ power_row (net_of nodes.now ends.now conductances.now corners.now sheets.now) potentials.now answers.old }
+    ensures answer { power_said result ≡ power_says (net_in rows.now) potentials.now answers.old }
+    ensures row { answers.new ≡ power_row (net_in rows.now) potentials.now answers.old }
 {
-    if !sound_net::is_sound(nodes, ends, conductances, corners, sheets) {
+    let Some(net) = SoundNet::judge(rows) else {
         return Err(Refusal::BadTable);
-    }
-    if !in_ranges(nodes, sheets, potentials) {
+    };
+    if !in_ranges(&net, potentials) {
         return Err(Refusal::OutOfRange(0));
     }
-    if answers.len() < sheets.len() {
+    if answers.len() < net.cell_count() {
         return Err(Refusal::NoRoom);
     }
-    fill(nodes, corners, sheets, potentials, answers);
+    fill(&net, potentials, answers);
     Ok(())
 }

@@ -5,9 +5,10 @@
 #![tactic(auto)]
 
 use cases::{Cases, print};
-use conforming::Fault;
+use checks::{Hanging, Polygons};
 use std::alloc::{AllocError, Global};
 use std::fmt::Write;
+use sound_net::NetRows;
 use std::io;
 use table::Head;
 use unweighted::Counts;
@@ -26,6 +27,18 @@ struct Net {
     conductances: Vec<f64>,
     corners: Vec<u64>,
     sheets: Vec<f64>,
+}
+
+impl Net {
+    fn rows(&self) -> NetRows<'_> {
+        NetRows {
+            nodes: &self.nodes,
+            ends: &self.ends,
+            conductances: &self.conductances,
+            corners: &self.corners,
+            sheets: &self.sheets,
+        }
+    }
 }
 
 fn read_net(alloc: Global, cases: &mut Cases) -> Result<Net, AllocError> {
@@ -50,10 +63,10 @@ fn read_head(cases: &mut Cases) -> Head {
 }
 
 // The hanging node and the two ends of the edge that it hangs on, or nothing.
-fn print_fault(out: &mut String, fault: Fault) -> Result<(), AllocError> {
+fn print_fault(out: &mut String, fault: Option<Hanging>) -> Result<(), AllocError> {
     match fault {
-        Fault::Clear => writeln!(out),
-        Fault::Hanging(node, from, to) => writeln!(out, " {node} {from} {to}"),
+        None => writeln!(out),
+        Some(Hanging { node, start, end }) => writeln!(out, " {node} {start} {end}"),
     }
 }
 
@@ -71,15 +84,7 @@ fn run_power(
     let potentials: Vec<f64> = cases.row(alloc)?;
     let mut answers: Vec<f64> = cases.row(alloc)?;
     write!(out, "power")?;
-    let answer = power::cell_power(
-        &net.nodes,
-        &net.ends,
-        &net.conductances,
-        &net.corners,
-        &net.sheets,
-        &potentials,
-        &mut answers,
-    );
+    let answer = power::cell_power(&net.rows(), &potentials, &mut answers);
     print::answered(out, answer, |out, ()| writeln!(out))?;
     print::fractions(out, &answers)
 }
@@ -95,16 +100,7 @@ fn run_network_conforming(
     let t: Vec<i64> = cases.row(alloc)?;
     let mut work: Vec<u64> = cases.row(alloc)?;
     write!(out, "check_network_conforming")?;
-    let answer = checks::check_network_conforming(
-        &t,
-        head,
-        &net.nodes,
-        &net.ends,
-        &net.conductances,
-        &net.corners,
-        &net.sheets,
-        &mut work,
-    );
+    let answer = checks::check_network_conforming(&t, head, &net.rows(), &mut work);
     print::answered(out, answer, print_fault)?;
     print::work(out, &work)
 }
@@ -122,18 +118,11 @@ fn run_by_layer(
     let components: Vec<u32> = cases.row(alloc)?;
     let mut work: Vec<u64> = cases.row(alloc)?;
     write!(out, "check_by_layer")?;
-    let answer = checks::check_by_layer(
-        &t,
-        head,
-        &net.nodes,
-        &net.ends,
-        &net.conductances,
-        &net.corners,
-        &net.sheets,
-        &layers,
-        &components,
-        &mut work,
-    );
+    let polygons = Polygons {
+        layers: &layers,
+        components: &components,
+    };
+    let answer = checks::check_by_layer(&t, head, &net.rows(), &polygons, &mut work);
     print::answered(out, answer, print_fault)?;
     print::work(out, &work)
 }

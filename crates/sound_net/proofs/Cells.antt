@@ -3,23 +3,19 @@ use Rattle.std.proofs.Common.{◌≡◌, ℕ, Bool, true, false, ◌&&◌, T, Li
 use mathlib.Core.Bool.{and_assoc}
 use lib.Signed.{lt_z}
 use lib.Ieee.Fits.{and_l, and_r}
-use Rattle.sound_net.specs.Nets.{all_below, eq_z, node_count, x_at, y_at, sw_at, se_at, ne_at, nw_at, known, rectangle, sound_cell}
+use Rattle.sound_net.specs.declared.rows.Corners.{Corners}
+use Rattle.sound_net.specs.Nets.{all_below, eq_z, node_count, x_at, y_at, corners_at, known, lined_up, rectangle, sound_cell}
 use Rattle.sound_net.proofs.Tests.{eq_z-true, all_both}
 
-abbrev pub southwest : List ℤ → ℕ → ℕ → Bool
-southwest nodes sw ne = lt_z (x_at nodes sw) (x_at nodes ne) && lt_z (y_at nodes sw) (y_at nodes ne)
-
-abbrev pub lined : List ℤ → ℕ → ℕ → ℕ → ℕ → Bool
-lined nodes sw se ne nw =
-    eq_z (y_at nodes se) (y_at nodes sw) && eq_z (x_at nodes ne) (x_at nodes se) && eq_z (y_at nodes ne) (y_at nodes nw) && eq_z (x_at nodes nw) (x_at nodes sw)
+abbrev pub spread : List ℤ → Corners → Bool
+spread nodes q = lt_z (x_at nodes q.southwest) (x_at nodes q.northeast) && lt_z (y_at nodes q.southwest) (y_at nodes q.northeast)
 
 -- of cell c
 abbrev pub spread_at : List ℤ → List ℕ → ℕ → Bool
-spread_at nodes corners c =
-    known (node_count nodes) (sw_at corners c) (se_at corners c) (ne_at corners c) (nw_at corners c) && southwest nodes (sw_at corners c) (ne_at corners c)
+spread_at nodes corners c = known (node_count nodes) (corners_at corners c) && spread nodes (corners_at corners c)
 
 abbrev pub lined_at : List ℤ → List ℕ → ℕ → Bool
-lined_at nodes corners c = lined nodes (sw_at corners c) (se_at corners c) (ne_at corners c) (nw_at corners c)
+lined_at nodes corners c = lined_up nodes (corners_at corners c)
 
 -- two tests are one beside a third, if they are where the third holds
 beside : (a b l : Bool) → (T l → a ≡ b) → (a && l) ≡ (b && l)
@@ -29,31 +25,27 @@ beside true false false f = refl
 beside false true false f = refl
 beside false false false f = refl
 
-apart : (p a b c d : Bool) → (p && a && b && c && d) ≡ (p && (a && b && c && d))
-apart true a b c d = refl
-apart false a b c d = refl
-
 -- where the sides are lined up, NE has the x of SE and the y of NW
-rectangle-both : (nodes : List ℤ) (sw se ne nw : ℕ) → rectangle nodes sw se ne nw ≡ (southwest nodes sw ne && lined nodes sw se ne nw)
+rectangle-both : (nodes : List ℤ) (q : Corners) → rectangle nodes q ≡ (spread nodes q && lined_up nodes q)
 unfolding rectangle
-rectangle-both nodes sw se ne nw =
-    let a = eq_z (y_at nodes se) (y_at nodes sw) in
-    let b = eq_z (x_at nodes ne) (x_at nodes se) in
-    let c = eq_z (y_at nodes ne) (y_at nodes nw) in
-    let d = eq_z (x_at nodes nw) (x_at nodes sw) in
-    apart (lt_z (x_at nodes sw) (x_at nodes se) && lt_z (y_at nodes sw) (y_at nodes nw)) a b c d
-    ∙ beside (lt_z (x_at nodes sw) (x_at nodes se) && lt_z (y_at nodes sw) (y_at nodes nw)) (southwest nodes sw ne) (lined nodes sw se ne nw) (λ (t : T (lined nodes sw se ne nw)).
+rectangle-both nodes q =
+    let a = eq_z (y_at nodes q.southeast) (y_at nodes q.southwest) in
+    let b = eq_z (x_at nodes q.northeast) (x_at nodes q.southeast) in
+    let c = eq_z (y_at nodes q.northeast) (y_at nodes q.northwest) in
+    let d = eq_z (x_at nodes q.northwest) (x_at nodes q.southwest) in
+    beside (lt_z (x_at nodes q.southwest) (x_at nodes q.southeast) && lt_z (y_at nodes q.southwest) (y_at nodes q.northwest)) (spread nodes q) (lined_up nodes q) (λ (t : T (lined_up nodes q)).
     let abc = and_l (a && b && c) d t in
-    let east = eq_z-true (x_at nodes ne) (x_at nodes se) (and_r a b (and_l (a && b) c abc)) in
-    let north = eq_z-true (y_at nodes ne) (y_at nodes nw) (and_r (a && b) c abc) in
-    ap₂ (λ (x y : ℤ). lt_z (x_at nodes sw) x && lt_z (y_at nodes sw) y) (sym east) (sym north))
+    let east = eq_z-true (x_at nodes q.northeast) (x_at nodes q.southeast) (and_r a b (and_l (a && b) c abc)) in
+    let north = eq_z-true (y_at nodes q.northeast) (y_at nodes q.northwest) (and_r (a && b) c abc) in
+    ap₂ (λ (x y : ℤ). lt_z (x_at nodes q.southwest) x && lt_z (y_at nodes q.southwest) y) (sym east) (sym north))
 
 cell-both : (nodes : List ℤ) (corners : List ℕ) (c : ℕ) → sound_cell nodes corners c ≡ (spread_at nodes corners c && lined_at nodes corners c)
 unfolding sound_cell
 cell-both nodes corners c =
-    let k = known (node_count nodes) (sw_at corners c) (se_at corners c) (ne_at corners c) (nw_at corners c) in
-    ap (λ (b : Bool). k && b) (rectangle-both nodes (sw_at corners c) (se_at corners c) (ne_at corners c) (nw_at corners c))
-    ∙ sym (and_assoc k (southwest nodes (sw_at corners c) (ne_at corners c)) (lined_at nodes corners c))
+    let q = corners_at corners c in
+    let k = known (node_count nodes) q in
+    ap (λ (b : Bool). k && b) (rectangle-both nodes q)
+    ∙ sym (and_assoc k (spread nodes q) (lined_at nodes corners c))
 
 pub cells-both : (nodes : List ℤ) (corners : List ℕ) (n : ℕ) → all_below (sound_cell nodes corners) n ≡ (all_below (spread_at nodes corners) n && all_below (lined_at nodes corners) n)
 cells-both nodes corners = all_both (spread_at nodes corners) (lined_at nodes corners) (sound_cell nodes corners) (cell-both nodes corners)

@@ -1,12 +1,14 @@
--- A net as a caller lends it, in five rows, and the rules' "A net is bad (7) if ..".
+-- A net in five rows of numbers, and the rules' "A net is bad (7) if ..".
+use Rattle.std.specs.Prelude.{ℕ, zero, suc, ◌+◌, ◌*◌, ◌/◌, ◌%◌, ◌^◌, Bool, true, false, ◌&&◌, List, length, ℤ, pos, negsuc, ◌==◌, int_le, int_lt, nat_lt, slice_index, slice_index_or, Float, IsTrue}
+use Rattle.cell.specs.Ticks.{in_range}
+use Rattle.sound_net.specs.declared.rows.NetRows.{NetRows}
+use Rattle.sound_net.specs.declared.rows.Corners.{Corners}
+
 --   nodes         four numbers a node: layer, component, x, y
 --   ends          two numbers an edge: its two nodes
 --   conductances  one an edge
 --   corners       four numbers a cell: its nodes SW, SE, NE, NW
 --   sheets        one a cell: its sheet resistance
-use Rattle.std.specs.Prelude.{ℕ, zero, suc, ◌+◌, ◌*◌, ◌/◌, ◌%◌, ◌^◌, Bool, true, false, ◌&&◌, List, length, ℤ, pos, negsuc, ◌==◌, int_le, int_lt, nat_lt, slice_index, slice_index_or, Float}
-use Rattle.cell.specs.Ticks.{in_range}
-
 pub record Net : Type 0 where
   pub nodes : List ℤ
   pub ends : List ℕ
@@ -14,9 +16,13 @@ pub record Net : Type 0 where
   pub corners : List ℕ
   pub sheets : List Float
 
--- the rows as one net
+-- rows of numbers as one net
 abbrev pub net_of : List ℤ → List ℕ → List Float → List ℕ → List Float → Net
 net_of nodes ends conductances corners sheets = record { nodes = nodes; ends = ends; conductances = conductances; corners = corners; sheets = sheets }
+
+-- the rows that a caller lends as one net
+abbrev pub net_in : NetRows → Net
+net_in rows = net_of rows.nodes.now rows.ends.now rows.conductances.now rows.corners.now rows.sheets.now
 
 -- the test holds of every index below n
 unfoldable pub all_below : (ℕ → Bool) → ℕ → Bool
@@ -65,33 +71,31 @@ unfoldable pub sound_edge : ℕ → List ℕ → ℕ → Bool
 sound_edge count ends e = nat_lt (from_at ends e) count && nat_lt (to_at ends e) count
 
 -- ---- cells
-abbrev pub sw_at : List ℕ → ℕ → ℕ
-sw_at corners c = slice_index corners (c * 4)
+abbrev pub corners_at : List ℕ → ℕ → Corners
+corners_at corners c = record {
+  southwest = slice_index corners (c * 4);
+  southeast = slice_index corners (c * 4 + 1);
+  northeast = slice_index corners (c * 4 + 2);
+  northwest = slice_index corners (c * 4 + 3);
+}
 
-abbrev pub se_at : List ℕ → ℕ → ℕ
-se_at corners c = slice_index corners (c * 4 + 1)
+-- all four are nodes of the net
+abbrev pub known : ℕ → Corners → Bool
+known count q = nat_lt q.southwest count && nat_lt q.southeast count && nat_lt q.northeast count && nat_lt q.northwest count
 
-abbrev pub ne_at : List ℕ → ℕ → ℕ
-ne_at corners c = slice_index corners (c * 4 + 2)
+-- the nodes of the south and of the north side agree in y, and those of the east and of the west side in x
+abbrev pub lined_up : List ℤ → Corners → Bool
+lined_up nodes q =
+    eq_z (y_at nodes q.southeast) (y_at nodes q.southwest) && eq_z (x_at nodes q.northeast) (x_at nodes q.southeast)
+    && eq_z (y_at nodes q.northeast) (y_at nodes q.northwest) && eq_z (x_at nodes q.northwest) (x_at nodes q.southwest)
 
-abbrev pub nw_at : List ℕ → ℕ → ℕ
-nw_at corners c = slice_index corners (c * 4 + 3)
-
--- four nodes are SW, SE, NE, NW of a rectangle with positive sides
-unfoldable pub rectangle : List ℤ → ℕ → ℕ → ℕ → ℕ → Bool
-rectangle nodes sw se ne nw =
-    int_lt (x_at nodes sw) (x_at nodes se) && int_lt (y_at nodes sw) (y_at nodes nw)
-    && eq_z (y_at nodes se) (y_at nodes sw) && eq_z (x_at nodes ne) (x_at nodes se)
-    && eq_z (y_at nodes ne) (y_at nodes nw) && eq_z (x_at nodes nw) (x_at nodes sw)
-
--- all four corners are nodes of the net
-abbrev pub known : ℕ → ℕ → ℕ → ℕ → ℕ → Bool
-known count sw se ne nw = nat_lt sw count && nat_lt se count && nat_lt ne count && nat_lt nw count
+-- they are SW, SE, NE, NW of a rectangle with positive sides
+unfoldable pub rectangle : List ℤ → Corners → Bool
+rectangle nodes q =
+    int_lt (x_at nodes q.southwest) (x_at nodes q.southeast) && int_lt (y_at nodes q.southwest) (y_at nodes q.northwest) && lined_up nodes q
 
 unfoldable pub sound_cell : List ℤ → List ℕ → ℕ → Bool
-sound_cell nodes corners c =
-    known (node_count nodes) (sw_at corners c) (se_at corners c) (ne_at corners c) (nw_at corners c)
-    && rectangle nodes (sw_at corners c) (se_at corners c) (ne_at corners c) (nw_at corners c)
+sound_cell nodes corners c = known (node_count nodes) (corners_at corners c) && rectangle nodes (corners_at corners c)
 
 -- ---- the net: its rows have the lengths of one net, and each node, edge and cell is sound
 unfoldable pub sound_net : Net → Bool
@@ -102,3 +106,6 @@ sound_net n =
     && all_below (sound_node n.nodes) (node_count n.nodes)
     && all_below (sound_edge (node_count n.nodes) n.ends) (length n.conductances)
     && all_below (sound_cell n.nodes n.corners) (length n.sheets)
+
+abbrev pub IsSound : Net → Type 0
+IsSound n = IsTrue (sound_net n)

@@ -1,6 +1,0 @@
-use Rattle.conforming.proofs.Faults.{first-stop}
-use Rattle.checks.proofs.walk.Goals as goal
-
-pub returns-in-Hanging : goal.returns-in-Hanging
-returns-in-Hanging c =
-    first-stop _ _ _ c.loop-i-test.true c.loop-i.invariant c.cell_fault-fault.ensures c.in-Hanging.is

@@ -1,0 +1,154 @@
+// A net that was judged once: what holds of it is kept by its type, so no function over it asks again.
+ghost use Rattle.std.specs.Prelude.{◌≡◌, ◌+◌, ◌*◌, ◌^◌, ◌<◌, ◌≤◌, ◌↔◌, pos, nat_abs, ◌-ℤ◌, length, slice_index_or, IsSome, IfSome};
+ghost use Rattle.refusals.specs.Limits.{coordinate};
+ghost use Rattle.sound_net.specs.Nets.{net_in, IsSound, node_count, from_at, to_at};
+ghost use Rattle.sound_net.specs.Facts.{IsGap, IsSoundNode, AreKnown, IsSoundCell, HasSides};
+
+use crate::{Corners, NetRows};
+
+/// Rows that make a sound net.
+#[derive(Clone, Copy)]
+pub struct SoundNet<'a> {
+    pub rows: NetRows<'a>,
+    ghost sound: { IsSound (net_in rows) },
+}
+
+/// A node of a sound net, its coordinates moved up as a cell's are.
+#[derive(Clone, Copy, Debug, PartialEq, Eq)]
+pub struct SoundNode {
+    pub layer: u16,
+    pub component: u32,
+    pub x: u64,
+    pub y: u64,
+}
+
+/// A cell of a sound net: its corners, and how many ticks it is wide and high.
+#[derive(Clone, Copy, Debug, PartialEq, Eq)]
+pub struct SoundCell {
+    pub corners: Corners,
+    pub width: u64,
+    pub height: u64,
+}
+
+// The ticks from one number of the row to a larger one. Internal: both are coordinates in range.
+fn gap(nodes: &[i64], i: usize, j: usize) -> u64
+    requires from_there { i < length nodes.now }
+    requires to_there { j < length nodes.now }
+    requires gap { IsGap (slice_index_or nodes.now j (pos 0) -ℤ slice_index_or nodes.now i (pos 0)) }
+    ensures { result ≡ nat_abs (slice_index_or nodes.now j (pos 0) -ℤ slice_index_or nodes.now i (pos 0)) }
+{
+    (nodes[j] - nodes[i]) as u64
+}
+
+impl SoundNode {
+    ghost use Rattle.sound_net.specs.Cells.{sound_node_at};
+
+    // Node n. Internal: it is sound.
+    fn of(nodes: &[i64], n: usize) -> SoundNode
+        requires there { n * 4 + 4 ≤ length nodes.now }
+        requires sound { IsSoundNode nodes.now n }
+        ensures { result ≡ sound_node_at nodes.now n }
+    {
+        let at = n * 4;
+        SoundNode {
+            layer: nodes[at] as u16,
+            component: nodes[at + 1] as u32,
+            x: cell::ticks::offset(nodes[at + 2]),
+            y: cell::ticks::offset(nodes[at + 3]),
+        }
+    }
+}
+
+impl SoundCell {
+    ghost use Rattle.sound_net.specs.Cells.{sound_cell_at};
+
+    // Cell c. Internal: it is sound.
+    fn of(nodes: &[i64], corners: &[u64], c: usize) -> SoundCell
+        requires there { c * 4 + 4 ≤ length corners.now }
+        requires sound { IsSoundCell nodes.now corners.now c }
+        requires sides { HasSides nodes.now corners.now c }
+        ensures value { result ≡ sound_cell_at nodes.now corners.now c }
+        ensures corners_known { AreKnown (node_count nodes.now) result.corners }
+        ensures width_in_range { result.width ≤ coordinate + coordinate }
+        ensures height_in_range { result.height ≤ coordinate + coordinate }
+    {
+        let q = Corners::of(corners, c);
+        SoundCell {
+            corners: q,
+            width: gap(nodes, q.southwest * 4 + 2, q.southeast * 4 + 2),
+            height: gap(nodes, q.southwest * 4 + 3, q.northwest * 4 + 3),
+        }
+    }
+}
+
+// The two nodes of edge e. Internal: it stands in the row.
+fn ends_of(ends: &[u64], e: usize) -> (usize, usize)
+    requires { e * 2 + 2 ≤ length ends.now }
+    ensures { result ≡ (from_at ends.now e, to_at ends.now e) }
+{
+    let at = e * 2;
+    (ends[at] as usize, ends[at + 1] as usize)
+}
+
+impl<'a> SoundNet<'a> {
+    ghost use Rattle.sound_net.specs.Cells.{sound_node_at, sound_cell_at};
+
+    /// The rows as a net; none where they are not sound.
+    pub fn judge(rows: &NetRows<'a>) -> Option<SoundNet<'a>>
+        ensures sound { IsSome result ↔ IsSound (net_in rows.now) }
+        ensures same_rows { IfSome result (λ s. net_in s.rows ≡ net_in rows.now) }
+    {
+        if rows.is_sound() {
+            Some(SoundNet { rows: *rows })
+        } else {
+            None
+        }
+    }
+
+    pub fn node_count(&self) -> usize
+        ensures count { result ≡ node_count self.now.rows.nodes.now }
+        ensures few { result < 2 ^ 60 }
+    {
+        self.rows.nodes.len() / 4
+    }
+
+    pub fn edge_count(&self) -> usize
+        ensures count { result ≡ length self.now.rows.conductances.now }
+        ensures few { result < 2 ^ 60 }
+    {
+        self.rows.conductances.len()
+    }
+
+    pub fn cell_count(&self) -> usize
+        ensures { result ≡ length self.now.rows.sheets.now }
+    {
+        self.rows.sheets.len()
+    }
+
+    pub fn node(&self, n: usize) -> SoundNode
+        requires { n < node_count self.now.rows.nodes.now }
+        ensures { result ≡ sound_node_at self.now.rows.nodes.now n }
+    {
+        SoundNode::of(self.rows.nodes, n)
+    }
+
+    /// The two nodes of an edge.
+    pub fn ends(&self, e: usize) -> (usize, usize)
+        requires { e < length self.now.rows.conductances.now }
+        ensures ends { result ≡ (from_at self.now.rows.ends.now e, to_at self.now.rows.ends.now e) }
+        ensures from_known { result.0 < node_count self.now.rows.nodes.now }
+        ensures to_known { result.1 < node_count self.now.rows.nodes.now }
+    {
+        ends_of(self.rows.ends, e)
+    }
+
+    pub fn cell(&self, c: usize) -> SoundCell
+        requires { c < length self.now.rows.sheets.now }
+        ensures value { result ≡ sound_cell_at self.now.rows.nodes.now self.now.rows.corners.now c }
+        ensures corners_known { AreKnown (node_count self.now.rows.nodes.now) result.corners }
+        ensures width_in_range { result.width ≤ coordinate + coordinate }
+        ensures height_in_range { result.height ≤ coordinate + coordinate }
+    {
+        SoundCell::of(self.rows.nodes, self.rows.corners, c)
+    }
+}
