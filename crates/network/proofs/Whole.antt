@@ -22,7 +22,7 @@ use Rattle.unweighted.specs.Netted.{Counted}
 use Rattle.unweighted.proofs.Low as Low
 use Rattle.node_rows.proofs.Lists.{items-long}
 use Rattle.weights.specs.Weigh.{weight_in, NetRows}
-use Rattle.weighing.proofs.Held.{Held, Fitting, row-begins, held_rows, held-written}
+use Rattle.weights.proofs.Held.{Held, Fitting, row-begins, held_rows, held-written}
 use Rattle.refusals.specs.Said.{accepted}
 use Rattle.network.specs.Says.{Rows, Roomy, rows, polygons, net_of, counted, filled}
 
@@ -140,7 +140,6 @@ module _ {t : List ℤ} {n M : ℕ} {layers components : List ℕ} {sheets : Lis
           record {
             few = omega arith;
             most-nodes = omega arith;
-            most-edges = omega arith;
             low = nodes-low;
             layers = layers-low;
             cornered = patches-cornered [] qs (Leaf.positive-leaves t n M G.formed (polys_of layers components sheets));

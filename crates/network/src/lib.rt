@@ -15,6 +15,7 @@ pub mod laws;
 use refusals::{Refusal, limits};
 use table::Head;
 use unweighted::Counts;
+use weights::bare::BareNet;
 
 // The net into the rows. Internal: all is judged, and there are l leaves.
 fn fill(
@@ -54,17 +55,16 @@ fn fill(
         corners,
         cells,
     );
-    weighing::apply_weights(
+    let net = BareNet {
         nodes,
-        c.nodes,
         corners,
-        cells,
+        sheets: cells,
         ends,
-        c.edges,
-        work,
-        l,
-        conductances,
-    );
+        node_count: c.nodes,
+        cell_count: l,
+        edge_count: c.edges,
+    };
+    weights::apply_weights(&net, work, conductances);
     c
 }
 

@@ -1,16 +1,19 @@
--- Faces, distances and the formula of a weight. Assumes nothing.
-use Rattle.std.proofs.Common.{◌≡◌, refl, sym, ap, ap₂, ◌∙◌, Bool, true, false, List, ℕ, zero, suc, ◌+◌, ◌^◌, ◌<◌, min, arith, le_of_lt, mul-one, zero-lt-suc, T, eqb, ℤ}
+-- Faces, distances and the formula of a weight.
+use Rattle.std.proofs.Common.{◌≡◌, refl, sym, ap, ap₂, ◌∙◌, Bool, true, false, List, ℕ, zero, suc, ◌+◌, ◌*◌, ◌^◌, ◌<◌, min, arith, le_of_lt, mul-one, zero-lt-suc, T, eqb, cond, length, get_or, Option, None, Some, ℤ, Float}
 use lib.Ieee.{binary64, of_int, of_bits, mul, round}
 use lib.Ieee.Back.{round_whole}
 use lib.Ieee.Exact.{HasValue}
 use lib.Ieee.Positive.{positive, positive_of_value, mul_at}
 use Rattle.refusals.specs.Limits.{coordinate}
-use Rattle.net.specs.Net.{Node, Edge, Patch, nth, lesser_of, apart, face, distance, num, halves, Half, ◌·◌}
-use Rattle.net.specs.Flat.{pick_num}
+use Rattle.net.specs.Net.{Node, Edge, Patch, Way, nth, lesser_of, flat, apart, face, distance, num, halves, Half, ◌·◌, sheet_of, weight, weighed}
 use Rattle.net.proofs.Faces.{face-low, distance-low}
-use Rattle.node_rows.specs.Rows.{nodes_in, way_of, Extended}
-use Rattle.node_rows.proofs.Lists.{node_at, nodes-within}
-use Rattle.weights.specs.Weigh.{flat_in, lesser_at, face_in, distance_in}
+use Rattle.node_rows.specs.Rows.{nodes_in, patches_in}
+use Rattle.node_rows.proofs.Lists.{nodes-within}
+use Rattle.weights.specs.declared.lines.Axis.{Axis}
+use Rattle.weights.specs.declared.lines.Axis.TheVariants.{Column, Row}
+use Rattle.weights.specs.declared.weigh.Extents.{Extents}
+use Rattle.weights.specs.Weigh.{edge_of}
+use Rattle.weights.specs.Bare.{across_of, face_of, distance_of, Extended}
 
 -- ---- binary64
 
@@ -34,37 +37,43 @@ half_is (suc n) h =
     mul_at binary64 (num (suc n)) Half (suc n) 1 1 2 (positive_of_value (num (suc n)) (suc n) 1 (num-value (suc n) h) (zero-lt-suc n)) half-positive (zero-lt-suc 0) (zero-lt-suc 1) (num-value (suc n) h) half-value
     ∙ ap (λ (z : ℕ). round binary64 false z 2) (mul-one (suc n))
 
--- ---- the rows, and the net that they hold
+-- ---- the face and the distance of an edge, by the extents along the axis across it
 
-picked : (b : Bool) (x y z w : ℕ) → x ≡ z → y ≡ w → pick_num b x y ≡ elim b [ true ↦ z | false ↦ w ]
-picked true x y z w p q = p
-picked false x y z w p q = q
+module _ (ns : List Node) (cs : List Patch) (x : Extents) (X : Extended ns cs x) (e : Edge) (from : e.a < length ns) (to : e.b < length ns) where
+  pub face-is : face_of x (across_of ns e.a e.b) e.a e.b ≡ face ns cs e
+  unfolding face
+  face-is = go (flat ns e)
+    where
+      go : (b : Bool) → face_of x (cond b Column Row) e.a e.b ≡ elim b [ true ↦ lesser_of Way.up ns cs e + lesser_of Way.down ns cs e | false ↦ lesser_of Way.right ns cs e + lesser_of Way.left ns cs e ]
+      go true = λ t. min (X.up-is e.a from t) (X.up-is e.b to t) + min (X.down-is e.a from t) (X.down-is e.b to t)
+      go false = λ t. min (X.right-is e.a from t) (X.right-is e.b to t) + min (X.left-is e.a from t) (X.left-is e.b to t)
 
-module _ (row : List ℤ) (w : List ℕ) (n l : ℕ) (cs : List Patch) (X : Extended row cs w n l) (e : Edge) (from : e.a < n) (to : e.b < n) where
-  lesser-is : (q : ℕ) → q < 4 → lesser_at w l q e.a e.b ≡ lesser_of (way_of q) (nodes_in row n) cs e
-  lesser-is q h = ap₂ (λ (x y : ℕ). min x y) (X.at q e.a h from) (X.at q e.b h to)
+  pub distance_is : distance_of ns (across_of ns e.a e.b) e.a e.b ≡ distance ns e
+  unfolding distance
+  distance_is = go (flat ns e)
+    where
+      go : (b : Bool) → distance_of ns (cond b Column Row) e.a e.b ≡ elim b [ true ↦ apart (nth ns e.a).x (nth ns e.b).x | false ↦ apart (nth ns e.a).y (nth ns e.b).y ]
+      go true = refl
+      go false = refl
 
-  flat-is : flat_in row e.a e.b ≡ eqb (nth (nodes_in row n) e.a).y (nth (nodes_in row n) e.b).y
-  flat-is = ap₂ (λ (x y : Node). eqb x.y y.y) (sym (node_at row n e.a from)) (sym (node_at row n e.b to))
+-- ---- an edge of a net's rows
 
-  pub face-is : face_in row w l e.a e.b ≡ face (nodes_in row n) cs e
-  unfolding face_in face
-  face-is =
-      rw flat-is
-      (picked (eqb (nth (nodes_in row n) e.a).y (nth (nodes_in row n) e.b).y) _ _ _ _
-      (ap₂ (λ (x y : ℕ). x + y) (lesser-is 0 (omega arith)) (lesser-is 1 (omega arith)))
-      (ap₂ (λ (x y : ℕ). x + y) (lesser-is 2 (omega arith)) (lesser-is 3 (omega arith))))
+module _ (nodes : List ℤ) (n : ℕ) (cs : List Patch) (x : Extents) (X : Extended (nodes_in nodes n) cs x) (ends : List ℕ) (j : ℕ) (g : Float)
+    (a b : ℕ) (a-is : a ≡ get_or ends (2 * j) 0) (b-is : b ≡ get_or ends (2 * j + 1) 0)
+    (from : a < length (nodes_in nodes n)) (to : b < length (nodes_in nodes n)) where
+  abbrev e : Edge
+  e = record { a = a; b = b; g = g }
 
-  pub distance_is : distance_in row e.a e.b ≡ distance (nodes_in row n) e
-  unfolding distance_in distance
-  distance_is =
-      rw flat-is
-      (picked (eqb (nth (nodes_in row n) e.a).y (nth (nodes_in row n) e.b).y) _ _ _ _
-      (ap₂ (λ (x y : Node). apart x.x y.x) (sym (node_at row n e.a from)) (sym (node_at row n e.b to)))
-      (ap₂ (λ (x y : Node). apart x.y y.y) (sym (node_at row n e.a from)) (sym (node_at row n e.b to))))
+  pub face-small : face_of x (across_of (nodes_in nodes n) a b) a b < 2 ^ 53
+  face-small = omega (arith, face-is (nodes_in nodes n) cs x X e from to, face-low (coordinate + coordinate) (nodes_in nodes n) (nodes-within nodes n) cs e)
 
-  pub face-small : face_in row w l e.a e.b < 2 ^ 53
-  face-small = omega (arith, face-is, face-low (coordinate + coordinate) (nodes_in row n) (nodes-within row n) cs e)
+  pub distance-small : distance_of (nodes_in nodes n) (across_of (nodes_in nodes n) a b) a b < 2 ^ 53
+  distance-small = omega (arith, distance_is (nodes_in nodes n) cs x X e from to, distance-low (coordinate + coordinate) (nodes_in nodes n) (nodes-within nodes n) e)
 
-  pub distance-small : distance_in row e.a e.b < 2 ^ 53
-  distance-small = omega (arith, distance_is, distance-low (coordinate + coordinate) (nodes_in row n) (nodes-within row n) e)
+  pub weighed-is : (o : Option Float) → sheet_of cs a b ≡ o
+      → weight g (face_of x (across_of (nodes_in nodes n) a b) a b) (distance_of (nodes_in nodes n) (across_of (nodes_in nodes n) a b) a b) o ≡ (weighed (nodes_in nodes n) cs (edge_of ends j g)).g
+  unfolding weighed edge_of
+  weighed-is o h =
+      let f = face-is (nodes_in nodes n) cs x X e from to in
+      let d = distance_is (nodes_in nodes n) cs x X e from to in
+      (λ t. weight g (f t) (d t) (sym h t)) ∙ (λ t. (weighed (nodes_in nodes n) cs (record { a = a-is t; b = b-is t; g = g })).g)

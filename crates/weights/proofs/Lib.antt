@@ -1,5 +1,10 @@
 -- Laws that belong to no one function.
+pub mod Entries
+pub mod Order
+pub mod Neighbours
+pub mod Walk
+pub mod Hanging
 pub mod Pairs
-pub mod Sheets
 pub mod Faces
-pub mod Weighed
+pub mod Held
+pub mod Nets

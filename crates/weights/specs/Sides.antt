@@ -1,26 +1,39 @@
--- The sides of the cells, four to a cell, and behind them the edges, as pairs of nodes: the first pair of equal key tells an edge's cell.
-use Rattle.std.specs.Prelude.{List, ℕ, ◌+◌, ◌*◌, ◌-◌, ◌/◌, ◌%◌, ◌<◌, ◌≤◌, min, max, ltb, length, get_or}
-use Rattle.refusals.specs.Limits.{max_slots}
-use Rattle.rows.specs.Parts.{tab}
-use Rattle.net.specs.Flat.{pick_num}
-use Rattle.bare.specs.Slots.{many}
+-- The sides of cells as entries of a row: two nodes, the lesser first, the cell, and which side of it. Definitions only.
+use Rattle.std.specs.Prelude.{◌≡◌, ℕ, ◌+◌, ◌*◌, ◌/◌, ◌%◌, ◌<◌, ◌≤◌, min, max, List, [], ◌∷◌, map, slice_index, Option, MatchOption, IsPermutation, IsSorted}
+use Rattle.std.specs.List.{range_with_len}
+use Rattle.std.specs.Ordering.{nat_cmp}
+use Rattle.std.specs.Cmp.Lexicographic.{slice_cmp}
 
--- end e of pair i: side i % 4 of cell i / 4 goes from that corner to the next; the pairs from 4 * l on are the edges
-unfoldable pub pair_end : List ℕ → List ℕ → ℕ → ℕ → ℕ → ℕ
-pair_end corners ends l i e = pick_num (ltb i (4 * l)) (get_or corners (4 * (i / 4) + (i % 4 + e) % 4) 0) (get_or ends (2 * (i - 4 * l) + e) 0)
+-- corner s of cell v; side s goes from it to the next one
+abbrev pub corner_of : List ℕ → ℕ → ℕ → ℕ
+corner_of corners v s = slice_index corners (4 * v + s)
 
-unfoldable pub pair_key : List ℕ → List ℕ → ℕ → ℕ → ℕ
-pair_key corners ends l i = min (pair_end corners ends l i 0) (pair_end corners ends l i 1) * many + max (pair_end corners ends l i 0) (pair_end corners ends l i 1)
+abbrev pub pair_of : ℕ → ℕ → List ℕ
+pair_of a b = min a b ∷ max a b ∷ []
 
--- the keys of l cells and k edges
-unfoldable pub pair_keys : List ℕ → List ℕ → ℕ → ℕ → List ℕ
-pair_keys corners ends l k = tab (pair_key corners ends l) (4 * l + k)
+abbrev pub side_pair : List ℕ → ℕ → ℕ → List ℕ
+side_pair corners v s = pair_of (corner_of corners v s) (corner_of corners v ((s + 1) % 4))
 
--- rows of l cells and k edges, whose nodes are few
-pub record Paired (corners ends : List ℕ) (l k : ℕ) : Type 0 where
-  pub few : l ≤ max_slots
-  pub most : k ≤ 8 * l
-  pub corners-room : 4 * l ≤ length corners
-  pub ends-room : 2 * k ≤ length ends
-  pub corners-low : (j : ℕ) → j < 4 * l → get_or corners j 0 < many
-  pub ends_low : (j : ℕ) → j < 2 * k → get_or ends j 0 < many
+-- side s of cell v
+abbrev pub side_of : List ℕ → ℕ → ℕ → List ℕ
+side_of corners v s = min (corner_of corners v s) (corner_of corners v ((s + 1) % 4)) ∷ max (corner_of corners v s) (corner_of corners v ((s + 1) % 4)) ∷ v ∷ s ∷ []
+
+-- the i-th of all sides, four to a cell
+abbrev pub side_entry : List ℕ → ℕ → List ℕ
+side_entry corners i = side_of corners (i / 4) (i % 4)
+
+-- the sides of l cells, in order
+pub record Sided (corners : List ℕ) (l : ℕ) (row : List (List ℕ)) : Type 0 where
+  pub same : IsPermutation (map (side_entry corners) (range_with_len 0 (4 * l))) row
+  pub sorted : IsSorted (slice_cmp nat_cmp) row
+
+-- the first cell that has two nodes as the ends of a side, where there is one
+pub record IsFirstCell (corners : List ℕ) (l a b v : ℕ) : Type 0 where
+  pub inside : v < l
+  pub side : ℕ
+  pub is_side : side < 4
+  pub there : side_pair corners v side ≡ pair_of a b
+  pub first : (u s : ℕ) → u < l → s < 4 → side_pair corners u s ≡ pair_of a b → v ≤ u
+
+abbrev pub FirstCellIs : List ℕ → ℕ → ℕ → ℕ → Option ℕ → Type 0
+FirstCellIs corners l a b o = MatchOption o ((u s : ℕ) → u < l → s < 4 → side_pair corners u s ≡ pair_of a b → ⊥) (IsFirstCell corners l a b)

@@ -1,56 +1,36 @@
-// The first cell with an edge's pair: cells' sides and edges are sorted together by pair.
-ghost use Rattle.std.specs.Prelude.{◌≡◌, ◌+◌, ◌*◌, ◌<◌, ◌≤◌, length};
-ghost use Rattle.rows.specs.Parts.{part, put, tab};
-ghost use Rattle.net.specs.First.{first_of};
-ghost use Rattle.bare.specs.Slots.{many};
-ghost use Rattle.weights.specs.Sides.{pair_end, pair_key, pair_keys, Paired};
+//! The first cell that has an edge as a side: a sorted row of all sides in place of a map.
+ghost use Rattle.std.specs.Prelude.{◌≡◌, ◌*◌, ℕ, List, length, IsSorted};
+ghost use Rattle.std.specs.Ordering.{nat_cmp};
+ghost use Rattle.std.specs.Cmp.Lexicographic.{slice_cmp};
+ghost use Rattle.weights.specs.Sides.{Sided, FirstCellIs};
 
-// End e of pair i.
-#[tactic(auto, using(crate::proofs::Pairs::end_low), unfolding(crate::specs::Sides::pair_end))]
-fn pair_end(corners: &[u64], ends: &[u64], l: usize, k: usize, i: usize, e: usize) -> u64
-    requires paired { Paired corners.now ends.now l k }
-    requires pair_there { i < 4 * l + k }
-    requires end { e < 2 }
-    ensures { (result ≡ pair_end corners.now ends.now l i e) × (result < many) }
+use crate::bare::BareNet;
+use crate::lines::Entry;
+
+/// The sides of the cells in order.
+pub fn sort_sides(net: &BareNet, row: &mut [Entry], keys: &mut [u64], scratch: &mut [Entry])
+    requires an_entry_each { length row.old ≡ 4 * net.now.cell_count }
+    requires a_key_each { length keys.old ≡ 4 * net.now.cell_count }
+    requires scratch_alike { length scratch.old ≡ 4 * net.now.cell_count }
+    ensures { Sided net.now.corners.now net.now.cell_count row.new }
 {
-    if i < 4 * l {
-        corners[4 * (i / 4) + (i % 4 + e) % 4]
-    } else {
-        ends[2 * (i - 4 * l) + e]
+    for i in 0..4 * net.cell_count {
+        let cell = i / 4;
+        let side = i % 4;
+        let a = net.corner(cell, side) as u64;
+        let b = net.corner(cell, (side + 1) % 4) as u64;
+        scratch[i] = [a.min(b), a.max(b), cell as u64, side as u64];
     }
+    sorted::sort_into(scratch, keys, row);
 }
 
-#[tactic(auto, unfolding(crate::specs::Sides::pair_key))]
-fn pair_key(corners: &[u64], ends: &[u64], l: usize, k: usize, i: usize) -> u64
-    requires paired { Paired corners.now ends.now l k }
-    requires pair_there { i < 4 * l + k }
-    ensures { result ≡ pair_key corners.now ends.now l i }
+/// The first cell that has two nodes as the ends of a side.
+pub fn first_cell(row: &[Entry], a: u64, b: u64) -> Option<usize>
+    requires { IsSorted (slice_cmp nat_cmp) row.now }
+    ensures { (corners : List ℕ) (l : ℕ) → Sided corners l row.now → FirstCellIs corners l a b result }
 {
-    let a = pair_end(corners, ends, l, k, i, 0);
-    let b = pair_end(corners, ends, l, k, i, 1);
-    a.min(b) * 65536 + a.max(b)
-}
-
-fn side_keys(corners: &[u64], ends: &[u64], work: &mut [u64], l: usize, k: usize)
-    requires paired { Paired corners.now ends.now l k }
-    requires room { 4 * l + k ≤ length work.old }
-    ensures { work.new ≡ put work.old 0 (pair_keys corners.now ends.now l k) }
-{
-    let n = 4 * l + k;
-    for i in 0..n {
-        work[i] = pair_key(corners, ends, l, k, i);
-    }
-}
-
-// The first pair that is the same as each pair stands behind the keys and their order. Internal.
-pub fn sort_sides(corners: &[u64], ends: &[u64], work: &mut [u64], l: usize, k: usize)
-    requires paired { Paired corners.now ends.now l k }
-    requires room { 3 * (4 * l + k) ≤ length work.old }
-    ensures { part work.new (2 * (4 * l + k)) (4 * l + k) ≡ tab (first_of (pair_keys corners.now ends.now l k))
-        (4 * l + k) }
-{
-    let n = 4 * l + k;
-    let e = 3 * n;
-    side_keys(corners, ends, work, l, k);
-    rows::firsts(&mut work[0..e], n, 32);
+    let Some(&[_, _, cell, _]) = sorted::runs::first(row, &[a.min(b), a.max(b)]) else {
+        return None;
+    };
+    Some(cell as usize)
 }

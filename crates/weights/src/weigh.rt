@@ -1,52 +1,66 @@
-// The weight of each edge that is a side of a cell: its face over the sheet resistance times its length.
-ghost use Rattle.std.specs.Prelude.{◌≡◌, ◌+◌, ◌*◌, ◌^◌, ◌<◌, ◌≤◌, min, length, get_or};
-ghost use Rattle.std.specs.Prelude.{Some};
+//! The weight of each edge that is a side of a cell: its face over the sheet resistance times its length.
+ghost use Rattle.std.specs.Prelude.{◌≡◌, ◌+◌, ◌^◌, ◌<◌, ◌≤◌, min, length, slice_index, Some};
 ghost use Rattle.rows.specs.Parts.{put, tab};
-ghost use Rattle.net.specs.Net.{apart, weight, weighed};
-ghost use Rattle.node_rows.specs.Rows.{nodes_in, patches_in};
-ghost use Rattle.weights.specs.Weigh.{edge_of, weight_in, face_in, distance_in, Ready};
+ghost use Rattle.net.specs.Net.{weight, weighed};
+ghost use Rattle.weights.specs.Sides.{Sided};
+ghost use Rattle.weights.specs.Weigh.{edge_of, weight_in};
+ghost use Rattle.weights.specs.Bare.{nodes_of, cells_of, across_of, face_of, distance_of, HasExtents, Extended};
 
-use node_rows::{x_at, y_at};
+use crate::bare::BareNet;
+use crate::lines::{Axis, Entry};
+use crate::sides::first_cell;
 
-// The lesser extent of nodes a and b, of the extents that stand from `from` on.
-fn lesser_at(work: &[u64], from: usize, a: usize, b: usize) -> u64
-    requires from_there { from + a < length work.now }
-    requires to_there { from + b < length work.now }
-    ensures { result ≡ min (get_or work.now (from + a) 0) (get_or work.now (from + b) 0) }
-{
-    work[from + a].min(work[from + b])
+/// How far each node reaches, in half ticks.
+#[derive(Clone, Copy)]
+pub struct Extents<'a> {
+    pub up: &'a [u64],
+    pub down: &'a [u64],
+    pub right: &'a [u64],
+    pub left: &'a [u64],
 }
 
-// In half ticks, by the extents up and down of a flat edge, and right and left of any other.
-#[tactic(auto, unfolding(crate::specs::Weigh::face_in))]
-fn face_of(nodes: &[i64], work: &[u64], l: usize, a: usize, b: usize) -> u64
-    requires from_there { 4 * a + 4 ≤ length nodes.now }
-    requires to_there { 4 * b + 4 ≤ length nodes.now }
-    requires from_low { a < 4 * l }
-    requires to_low { b < 4 * l }
-    requires extents_there { 64 * l ≤ length work.now }
-    requires face_small { face_in nodes.now work.now l a b < 2 ^ 53 }
-    ensures { result ≡ face_in nodes.now work.now l a b }
+// The lesser extent of two nodes.
+fn lesser(extents: &[u64], a: usize, b: usize) -> u64
+    requires from_there { a < length extents.now }
+    requires to_there { b < length extents.now }
+    ensures { result ≡ min (slice_index extents.now a) (slice_index extents.now b) }
 {
-    if y_at(nodes, a) == y_at(nodes, b) {
-        lesser_at(work, 44 * l, a, b) + lesser_at(work, 48 * l, a, b)
-    } else {
-        lesser_at(work, 52 * l, a, b) + lesser_at(work, 56 * l, a, b)
+    extents[a].min(extents[b])
+}
+
+// The face between two nodes, in half ticks, by their extents along an axis.
+fn face(extents: &Extents, along: Axis, a: usize, b: usize) -> u64
+    requires small { face_of extents.now along a b < 2 ^ 53 }
+    requires from_there { HasExtents extents.now a }
+    requires to_there { HasExtents extents.now b }
+    ensures { result ≡ face_of extents.now along a b }
+{
+    match along {
+        Axis::Column => lesser(extents.up, a, b) + lesser(extents.down, a, b),
+        Axis::Row => lesser(extents.right, a, b) + lesser(extents.left, a, b),
     }
 }
 
-// In ticks.
-#[tactic(auto, unfolding(crate::specs::Weigh::distance_in))]
-fn distance_of(nodes: &[i64], a: usize, b: usize) -> u64
-    requires from_there { 4 * a + 4 ≤ length nodes.now }
-    requires to_there { 4 * b + 4 ≤ length nodes.now }
-    ensures { result ≡ distance_in nodes.now a b }
+// The axis across an edge of two nodes.
+fn across(net: &BareNet, a: usize, b: usize) -> Axis
+    requires from_there { a < net.now.node_count }
+    requires to_there { b < net.now.node_count }
+    ensures { result ≡ across_of (nodes_of net.now) a b }
 {
-    if y_at(nodes, a) == y_at(nodes, b) {
-        x_at(nodes, a).abs_diff(x_at(nodes, b))
-    } else {
-        y_at(nodes, a).abs_diff(y_at(nodes, b))
-    }
+    let [_, _, from] = net.place(Axis::Column, a);
+    let [_, _, to] = net.place(Axis::Column, b);
+    if from == to { Axis::Column } else { Axis::Row }
+}
+
+// How far apart the lines of two nodes are, in ticks.
+fn distance(net: &BareNet, axis: Axis, a: usize, b: usize) -> u64
+    requires from_there { a < net.now.node_count }
+    requires to_there { b < net.now.node_count }
+    ensures { result ≡ distance_of (nodes_of net.now) axis a b }
+{
+    let [_, from, _] = net.place(axis, a);
+    let [_, to, _] = net.place(axis, b);
+    from.abs_diff(to)
 }
 
 // Two roundings, of the product and of the quotient: binary64 has the half of a face and a distance.
@@ -63,58 +77,36 @@ fn weight_of(g: f64, face: u64, distance: u64, sheet: f64) -> f64
     }
 }
 
-// What becomes of the conductance g of edge j. It stays where the edge is a side of no cell.
-#[tactic(auto, using(crate::proofs::Weighed::end_in), unfolding(crate::specs::Weigh::edge_of))]
-fn weigh_edge(
-    nodes: &[i64],
-    n: usize,
-    corners: &[u64],
-    sheets: &[f64],
-    ends: &[u64],
-    k: usize,
-    work: &[u64],
-    l: usize,
-    j: usize,
-    g: f64,
-) -> f64
-    requires ready { Ready nodes.now n corners.now sheets.now ends.now k work.now l }
-    requires edge_there { j < k }
-    ensures { result ≡ (weighed (nodes_in nodes.now n) (patches_in corners.now sheets.now l) (edge_of ends.now j g)).g }
+// What becomes of the conductance g of an edge. It stays where the edge is a side of no cell.
+fn weigh_edge(net: &BareNet, extents: &Extents, sides: &[Entry], edge: usize, g: f64) -> f64
+    requires sided { Sided net.now.corners.now net.now.cell_count sides.now }
+    requires extended { Extended (nodes_of net.now) (cells_of net.now) extents.now }
+    requires edge_there { edge < net.now.edge_count }
+    ensures { result ≡ (weighed (nodes_of net.now) (cells_of net.now) (edge_of net.now.ends.now edge g)).g }
 {
-    let m = 4 * l;
-    let from = 2 * (m + k) + m;
-    let first = work[from + j] as usize;
-    if first >= m {
+    let a = net.end(edge, 0);
+    let b = net.end(edge, 1);
+    let Some(cell) = first_cell(sides, a as u64, b as u64) else {
         return g;
-    }
-    let a = ends[2 * j] as usize;
-    let b = ends[2 * j + 1] as usize;
+    };
+    let axis = across(net, a, b);
     weight_of(
         g,
-        face_of(nodes, work, l, a, b),
-        distance_of(nodes, a, b),
-        sheets[first / 4],
+        face(extents, axis, a, b),
+        distance(net, axis, a, b),
+        net.sheets[cell],
     )
 }
 
-// The weight of each edge. Internal: the extents stand 44 * l on in the work room, and in front of them each pair's
-// first pair.
-pub fn weigh_edges(
-    nodes: &[i64],
-    n: usize,
-    corners: &[u64],
-    sheets: &[f64],
-    ends: &[u64],
-    k: usize,
-    work: &[u64],
-    l: usize,
-    g: &mut [f64],
-)
-    requires ready { Ready nodes.now n corners.now sheets.now ends.now k work.now l }
-    requires room { k ≤ length g.old }
-    ensures { g.new ≡ put g.old 0 (tab (weight_in nodes.now n corners.now sheets.now l ends.now g.old) k) }
+/// The weight of each edge.
+pub fn weigh_edges(net: &BareNet, extents: &Extents, sides: &[Entry], conductances: &mut [f64])
+    requires sided { Sided net.now.corners.now net.now.cell_count sides.now }
+    requires extended { Extended (nodes_of net.now) (cells_of net.now) extents.now }
+    requires room { net.now.edge_count ≤ length conductances.old }
+    ensures { conductances.new ≡ put conductances.old 0 (tab (weight_in net.now.nodes.now net.now.node_count
+        net.now.corners.now net.now.sheets.now net.now.cell_count net.now.ends.now conductances.old) net.now.edge_count) }
 {
-    for j in 0..k {
-        g[j] = weigh_edge(nodes, n, corners, sheets, ends, k, work, l, j, g[j]);
+    for j in 0..net.edge_count {
+        conductances[j] = weigh_edge(net, extents, sides, j, conductances[j]);
     }
 }

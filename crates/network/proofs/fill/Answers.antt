@@ -23,8 +23,8 @@ write_net-c-requires-clause-ready c =
     Whole.net-requires r.given r.one_component_a_layer (λ j h. (low j).fits) r.leaves_counted r.roomy
     f.ensures.boxes_after f.ensures.work_after f.auto.boxes f.auto.work
 
-pub apply_weights-requires-clause-net_rows : goal.apply_weights-requires-clause-net_rows
-apply_weights-requires-clause-net_rows c =
+pub invariant_of-net : goal.invariant_of-net
+invariant_of-net c =
     let r = c.requires in
     let low = c.type_inv.layers in
     let f = c.fill_leaves in
@@ -32,8 +32,10 @@ apply_weights-requires-clause-net_rows c =
     c.write_net-c.ensures.counted _
     (Whole.net-given r.given r.one_component_a_layer (λ j h. (low j).fits) r.leaves_counted r.roomy
     f.ensures.boxes_after f.ensures.work_after f.auto.boxes f.auto.work) in
-    Whole.weights-require r.given r.one_component_a_layer (λ j h. (low j).fits) r.leaves_counted r.roomy
-    f.ensures.boxes_after f.ensures.work_after f.auto.boxes f.auto.work d.0 d.1
+    record {
+      rows = Whole.weights-require r.given r.one_component_a_layer (λ j h. (low j).fits) r.leaves_counted r.roomy
+          f.ensures.boxes_after f.ensures.work_after f.auto.boxes f.auto.work d.0 d.1;
+    }
 
 pub apply_weights-requires-clause-work_room : goal.apply_weights-requires-clause-work_room
 apply_weights-requires-clause-work_room c =

@@ -1,15 +1,13 @@
-use Rattle.weights.proofs.Pairs.{pairs-sort, pairs_first}
+use Rattle.std.proofs.Common.{subst, List, ℕ, arith, IsPermutation}
+use Rattle.weights.specs.Sides.{side_entry}
+use Rattle.weights.proofs.Entries.{filled_all}
 use Rattle.weights.proofs.sides.sort_sides.Goals as goal
-
-pub firsts-requires-clause-small : goal.firsts-requires-clause-small
-firsts-requires-clause-small c =
-    let a = c.args in
-    let r = c.requires in
-    (pairs-sort a.corners.now a.ends.now a.l a.k r.paired a.work.now r.room _ c.side_keys.ensures).1
 
 pub returns : goal.returns
 returns c =
-    let a = c.args in
-    let r = c.requires in
-    pairs_first a.corners.now a.ends.now a.l a.k r.paired a.work.now r.room _ c.side_keys.ensures _
-    c.firsts.ensures
+    let net = c.args.net.now in
+    record {
+      same = subst (λ (xs : List (List ℕ)). IsPermutation xs c.sort_into.new.into)
+          (filled_all (side_entry net.corners.now) c.loop-i.scratch _ c.loop-i.i (omega arith) (omega arith) c.loop-i.invariant) c.sort_into.ensures.same;
+      sorted = c.sort_into.ensures.sorted;
+    }

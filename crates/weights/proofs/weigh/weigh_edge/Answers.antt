@@ -1,28 +1,67 @@
-use Rattle.std.proofs.Common.{◌∙◌, arith}
-use Rattle.weights.specs.Weigh.{edge_of}
-use Rattle.weights.proofs.Weighed.{face_in_lem, distance_in_lem, edge_stays, edge-weighed}
+use Rattle.std.proofs.Common.{◌≡◌, ◌+◌, ◌*◌, ◌<◌, ◌∙◌, ap, sym, ℕ, length, get_or, add-zero, arith, None, Some, Float}
+use Rattle.std.specs.Float.{nan}
+use Rattle.weights.specs.declared.bare.BareNet.{BareNet}
+use Rattle.weights.specs.Bare.{nodes_of, cells_of}
+use Rattle.weights.proofs.Nets.{nodes-long}
+use Rattle.weights.proofs.Faces.{face-small, distance-small, weighed-is}
+use Rattle.weights.proofs.Pairs.{sheet-missing, sheet-found}
 use Rattle.weights.proofs.weigh.weigh_edge.Goals as goal
 
-pub returns-then-first-m : goal.returns-then-first-m
-returns-then-first-m c =
-    edge_stays _ _ _ _ _ _ _ _ c.requires.ready c.args.j c.requires.edge_there c.args.g c.if-first-m.true
+there : (net : BareNet) (a : ℕ) → a < net.node_count → a < length (nodes_of net)
+there net a h = let n = nodes-long net in omega arith
 
-pub face_of-requires-clause-face_small : goal.face_of-requires-clause-face_small
-face_of-requires-clause-face_small c = face_in_lem _ _ _ _ _ _ _ _ c.requires.ready c.args.j c.requires.edge_there
+from-is : (net : BareNet) (j : ℕ) {a : ℕ} → a ≡ get_or net.ends.now (2 * j + 0) 0 → a ≡ get_or net.ends.now (2 * j) 0
+from-is net j e = e ∙ ap (λ (z : ℕ). get_or net.ends.now z 0) (add-zero (2 * j))
+
+pub returns-in_default : goal.returns-in_default
+returns-in_default c =
+    let net = c.args.net.now in
+    let a = c.end-a.ensures in
+    let b = c.end-b.ensures in
+    weighed-is net.nodes.now net.node_count (cells_of net) c.args.extents.now c.requires.extended net.ends.now c.args.edge c.args.g _ _ (from-is net c.args.edge a.value) b.value
+    (there net _ a.node_there) (there net _ b.node_there) None
+    (sheet-missing net.corners.now net.sheets.now net.cell_count _ _ (c.in_default.ensures net.corners.now net.cell_count c.requires.sided))
+
+pub face-requires-clause-small : goal.face-requires-clause-small
+face-requires-clause-small c =
+    let net = c.args.net.now in
+    let a = c.end-a.ensures in
+    let b = c.end-b.ensures in
+    rw c.across-axis.ensures
+    (face-small net.nodes.now net.node_count (cells_of net) c.args.extents.now c.requires.extended net.ends.now c.args.edge c.args.g _ _ (from-is net c.args.edge a.value) b.value
+    (there net _ a.node_there) (there net _ b.node_there))
+
+pub face-requires-clause-from_there : goal.face-requires-clause-from_there
+face-requires-clause-from_there c = c.requires.extended.there _ (there c.args.net.now _ c.end-a.ensures.node_there)
+
+pub face-requires-clause-to_there : goal.face-requires-clause-to_there
+face-requires-clause-to_there c = c.requires.extended.there _ (there c.args.net.now _ c.end-b.ensures.node_there)
 
 pub weight_of-requires-clause-face_small : goal.weight_of-requires-clause-face_small
 weight_of-requires-clause-face_small c =
-    let f = face_in_lem _ _ _ _ _ _ _ _ c.requires.ready c.args.j c.requires.edge_there in
-    omega (arith, f, c.face_of.ensures)
+    let net = c.args.net.now in
+    let a = c.end-a.ensures in
+    let b = c.end-b.ensures in
+    rw (c.face.ensures, c.across-axis.ensures)
+    (face-small net.nodes.now net.node_count (cells_of net) c.args.extents.now c.requires.extended net.ends.now c.args.edge c.args.g _ _ (from-is net c.args.edge a.value) b.value
+    (there net _ a.node_there) (there net _ b.node_there))
 
 pub weight_of-requires-clause-distance_small : goal.weight_of-requires-clause-distance_small
 weight_of-requires-clause-distance_small c =
-    let d = distance_in_lem _ _ _ _ _ _ _ _ c.requires.ready c.args.j c.requires.edge_there in
-    omega (arith, d, c.distance_of.ensures)
+    let net = c.args.net.now in
+    let a = c.end-a.ensures in
+    let b = c.end-b.ensures in
+    rw (c.distance.ensures, c.across-axis.ensures)
+    (distance-small net.nodes.now net.node_count (cells_of net) c.args.extents.now c.requires.extended net.ends.now c.args.edge c.args.g _ _ (from-is net c.args.edge a.value) b.value
+    (there net _ a.node_there) (there net _ b.node_there))
 
 pub returns : goal.returns
-unfolding edge_of
 returns c =
+    let net = c.args.net.now in
+    let a = c.end-a.ensures in
+    let b = c.end-b.ensures in
     c.weight_of.ensures
-    ∙ edge-weighed _ _ _ _ _ _ _ _ c.requires.ready c.args.j c.requires.edge_there c.args.g c.if-first-m.false
-    c.face_of.ensures c.distance_of.ensures
+    ∙ rw (c.face.ensures, c.distance.ensures, c.across-axis.ensures)
+    (weighed-is net.nodes.now net.node_count (cells_of net) c.args.extents.now c.requires.extended net.ends.now c.args.edge c.args.g _ _ (from-is net c.args.edge a.value) b.value
+    (there net _ a.node_there) (there net _ b.node_there) (Some (get_or net.sheets.now c.in-Some.cell nan))
+    (sheet-found net.corners.now net.sheets.now net.cell_count _ _ _ (c.in-Some.ensures net.corners.now net.cell_count c.requires.sided)))

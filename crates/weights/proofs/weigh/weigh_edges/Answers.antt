@@ -1,33 +1,39 @@
-use Rattle.std.proofs.Common.{arith}
-use lib.Ieee.{nan}
+use Rattle.std.proofs.Common.{ap, ◌∙◌, arith, Float}
+use Rattle.std.specs.Float.{nan}
 use Rattle.rows.proofs.Fill.{fill_begins, fill-above, front-turn, fill-ends}
-use Rattle.weights.specs.Weigh.{weight_in}
-use Rattle.weights.proofs.Weighed.{edge-turn}
+use Rattle.net.specs.Net.{weighed}
+use Rattle.node_rows.specs.Rows.{edge_in}
+use Rattle.weights.specs.Weigh.{edge_of, weight_in}
+use Rattle.weights.specs.Bare.{nodes_of, cells_of}
 use Rattle.weights.proofs.weigh.weigh_edges.Goals as goal
 
 pub loop-j-init : goal.loop-j-init
 loop-j-init c =
-    let a = c.args in
-    let f = weight_in a.nodes.now a.n a.corners.now a.sheets.now a.l a.ends.now a.g.now in
+    let net = c.args.net.now in
+    let gs = c.args.conductances.now in
+    let f = weight_in net.nodes.now net.node_count net.corners.now net.sheets.now net.cell_count net.ends.now gs in
     let r = c.requires.room in
-    fill_begins nan a.g.now 0 a.k f (omega arith)
+    fill_begins nan gs 0 net.edge_count f (omega arith)
 
 pub loop-j-preserved : goal.loop-j-preserved
+unfolding edge_of edge_in
 loop-j-preserved c =
-    let a = c.args in
-    let f = weight_in a.nodes.now a.n a.corners.now a.sheets.now a.l a.ends.now a.g.now in
+    let net = c.args.net.now in
+    let gs = c.args.conductances.now in
+    let f = weight_in net.nodes.now net.node_count net.corners.now net.sheets.now net.cell_count net.ends.now gs in
     let r = c.requires.room in
     let i = c.loop-j in
     let t = c.loop-j-test.true in
     let n = i.auto.j-end in
-    let was = fill-above nan a.g.now 0 a.k f (omega arith) _ _ i.invariant n i.j (omega arith) in
-    let value = edge-turn _ _ _ _ _ _ _ _ c.requires.ready i.j t _ a.g.now was c.weigh_edge.ensures in
-    front-turn nan a.g.now a.k f r _ _ i.invariant t _ value
+    let was = fill-above nan gs 0 net.edge_count f (omega arith) _ _ i.invariant n i.j (omega arith) in
+    let value = c.weigh_edge.ensures ∙ ap (λ (g : Float). (weighed (nodes_of net) (cells_of net) (edge_of net.ends.now i.j g)).g) was in
+    front-turn nan gs net.edge_count f r _ _ i.invariant t _ value
 
 pub returns : goal.returns
 returns c =
-    let a = c.args in
-    let f = weight_in a.nodes.now a.n a.corners.now a.sheets.now a.l a.ends.now a.g.now in
+    let net = c.args.net.now in
+    let gs = c.args.conductances.now in
+    let f = weight_in net.nodes.now net.node_count net.corners.now net.sheets.now net.cell_count net.ends.now gs in
     let r = c.requires.room in
     let i = c.loop-j.invariant in
-    fill-ends nan a.g.now 0 a.k f (omega arith) _ _ i c.loop-j.auto.j-end c.loop-j-test.false
+    fill-ends nan gs 0 net.edge_count f (omega arith) _ _ i c.loop-j.auto.j-end c.loop-j-test.false

@@ -1,2 +1,0 @@
--- What the rows of the hanging nodes' code hold.
-pub mod Items

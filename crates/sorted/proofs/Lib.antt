@@ -1,0 +1,5 @@
+pub mod Bits
+pub mod Keys
+pub mod Order
+pub mod Beginning
+pub mod Ends

@@ -1,0 +1,10 @@
+use Rattle.std.proofs.Common.{rules}
+use Rattle.std.proofs.lemmas.List.Sorted.{IsPartitionPoint-from_clause}
+use Rattle.sorted.proofs.Beginning.{less, less-parted}
+use Rattle.sorted.proofs.runs.count_below.Goals as goal
+
+pub returns-clause-parted : goal.returns-clause-parted
+returns-clause-parted g c =
+    let row = c.args.row.now in
+    let key = c.args.key.now in
+    IsPartitionPoint-from_clause (less row c.requires key) row _ c.partition_point.ensures.partitioned (less-parted row c.requires key) (λ a r f' k. search rules)
