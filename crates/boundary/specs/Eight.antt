@@ -1,7 +1,7 @@
 -- The rules' "Boundary cases": what the definitions come to, and what the document says. proofs/Eight.antt holds the
 -- two lists together. Rows, rings and rectangles are in the caller's ticks. P7's strips are as the code holds them,
 -- 2^36 more.
-use Rattle.std.specs.Prelude.{ℕ, suc, ◌≡◌, ◌+◌, ◌*◌, ◌-◌, Bool, true, false, ◌&&◌, List, [], ◌∷◌, ◌++◌, map, ℤ, pos}
+use Rattle.std.specs.Prelude.{ℕ, ◌≡◌, ◌+◌, ◌*◌, ◌-◌, Bool, true, false, ◌&&◌, List, [], ◌∷◌, ◌++◌, map, ℤ, pos}
 use Rattle.std.specs.Prelude.{Float, replicate, not, filter, count_by, length}
 use Rattle.std.specs.List.{range_with_len}
 use Rattle.std.specs.Int.Signed.{le_z}
