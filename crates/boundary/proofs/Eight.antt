@@ -17,8 +17,8 @@ use Rattle.strips.specs.Sorted.{up_to, picked, insert, sorted, distinct}
 use Rattle.strips.specs.Rings.{edge_at, vertical, reaches}
 use Rattle.strips.specs.Strips.{levels, crossings, pair_up, banded, strips_of}
 use Rattle.build.specs.Grid.{held_at}
-use Rattle.boundary.specs.Eight.{same_row, lent, leaves, splits_from, computed, expected}
+use Rattle.boundary.specs.Eight.{same_row, lent, computed, expected}
 
 pub eight : computed lent ≡ expected
-unfolding computed expected same_row lent leaves splits_from sound_rect contact_says shares_edge in_range off on counted kept cell_at stored put_cell put_first in_slot split table rest_zero side_ok root_ok born_ok same_but kid_ok kids_ok place_ok cell_ok shape_ok well_formed ids_to leaf_at put_kid split_row due step with_each each_with pass run evened flat row_of even_says even_row up_to picked insert sorted distinct edge_at vertical reaches levels crossings pair_up banded strips_of held_at of_int round mul div add sub neg to_bits
+unfolding computed expected same_row lent sound_rect contact_says shares_edge in_range off on counted kept cell_at stored put_cell put_first in_slot split table rest_zero side_ok root_ok born_ok same_but kid_ok kids_ok place_ok cell_ok shape_ok well_formed ids_to leaf_at put_kid split_row due step with_each each_with pass run evened flat row_of even_says even_row up_to picked insert sorted distinct edge_at vertical reaches levels crossings pair_up banded strips_of held_at of_int round mul div add sub neg to_bits
 eight = refl

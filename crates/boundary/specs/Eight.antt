@@ -1,8 +1,9 @@
 -- The rules' "Boundary cases": what the definitions come to, and what the document says. proofs/Eight.antt holds the
 -- two lists together. Rows, rings and rectangles are in the caller's ticks. P7's strips are as the code holds them,
 -- 2^36 more.
-use Rattle.std.specs.Prelude.{ℕ, suc, ◌≡◌, ◌+◌, ◌*◌, ◌-◌, Bool, true, false, ◌&&◌, List, [], ◌∷◌, ◌++◌, map, ℤ, pos}
-use Rattle.std.specs.Prelude.{Float, replicate, if◌then◌else◌}
+use Rattle.std.specs.Prelude.{ℕ, ◌≡◌, ◌+◌, ◌*◌, ◌-◌, Bool, true, false, ◌&&◌, List, [], ◌∷◌, ◌++◌, map, ℤ, pos}
+use Rattle.std.specs.Prelude.{Float, replicate, not, filter, count_by, length}
+use Rattle.std.specs.List.{range_with_len}
 use Rattle.std.specs.Int.Signed.{le_z}
 use Rattle.std.specs.Float.{binary64}
 use Rattle.std.specs.Float.Ieee.{to_bits}
@@ -11,7 +12,7 @@ use Rattle.refusals.specs.Said.{Said, accepted, refused, bit}
 use Rattle.contact.specs.declared.Rect.{Rect}
 use Rattle.contact.specs.Contact.{contact_says}
 use Rattle.cell.specs.Cells.{no_cell}
-use Rattle.table.specs.Mesh.{Cell, is_none, table}
+use Rattle.table.specs.Mesh.{Cell, is_leaf, is_none, table}
 use Rattle.table.specs.Rows.{head_of}
 use Rattle.table.specs.Refine.{refined_row}
 use Rattle.coarsest.specs.declared.Engine.TheVariants.{Balancing, Conforming}
@@ -59,14 +60,12 @@ lent slots =
     let roots = root 0 0 8 8 0 ++ root 8 0 16 8 1 ++ replicate ((slots - 2) * 8) (pos 0) in
     refined_row (refined_row roots (head_of 2 2) 0) (head_of 6 2) 3
 
-unfoldable pub leaves : List Cell → ℕ
-leaves [] = 0
-leaves (c ∷ cs) = if is_none c.kids then suc (leaves cs) else leaves cs
+abbrev pub leaf_count : List Cell → ℕ
+leaf_count cells = count_by (λ c. is_none c.kids) cells
 
--- the ids of the split cells, from i on
-unfoldable pub splits_from : ℕ → List Cell → List ℕ
-splits_from i [] = []
-splits_from i (c ∷ cs) = if is_none c.kids then splits_from (suc i) cs else i ∷ splits_from (suc i) cs
+-- the ids of the split cells
+abbrev pub split_ids : List Cell → List ℕ
+split_ids cells = filter (λ i. not (is_leaf cells i)) (range_with_len 0 (length cells))
 
 abbrev pub rect : ℕ → ℕ → ℕ → ℕ → Rect
 rect a b c d = record { x0 = pos a; y0 = pos b; x1 = pos c; y1 = pos d }
@@ -87,8 +86,8 @@ unfoldable pub computed : (ℕ → List ℤ) → List (List ℕ)
 computed p2 =
     balance_says [] 0
     ∷ balance_says (p2 42) 10
-    ∷ splits_from 0 (table (balanced (p2 42) 10) 14)
-    ∷ (leaves (table (balanced (p2 42) 10) 14) ∷ [])
+    ∷ split_ids (table (balanced (p2 42) 10) 14)
+    ∷ (leaf_count (table (balanced (p2 42) 10) 14) ∷ [])
     ∷ conform_says (p2 42) 10
     ∷ balance_says (p2 13) 10
     ∷ balance_says (p2 14) 10

@@ -1,5 +1,5 @@
 -- Strips cut into cells: bounds on the numbers. Assumes nothing.
-use Rattle.std.proofs.Common.{ℕ, ◌+◌, ◌-◌, ◌*◌, ◌/◌, ◌<◌, ◌≤◌, ◌≡◌, refl, List, [], arith, mul-le-mul, mul-pos, mul-le-mul_left, div-mul-le_self, one-mul, add-one, length, drop, get_or, drop_of_length-le, drop-cons}
+use Rattle.std.proofs.Common.{ℕ, ◌+◌, ◌-◌, ◌*◌, ◌/◌, ◌<◌, ◌≤◌, ◌≡◌, refl, List, [], arith, mul-le-mul_left, div-mul-le_self, add-one, length, drop, get_or, drop_of_length-le, drop-cons}
 use Rattle.refusals.specs.Limits.{max_cap}
 use Rattle.strips.specs.declared.walk.Strip.{Strip}
 use Rattle.build.specs.Grid.{held_at, cut_of, listed_at}

@@ -1,6 +1,6 @@
 -- Roots placed in the table: their numbers one behind the other, and what is placed later behind what was placed before.
 -- Assumes nothing.
-use Rattle.std.proofs.Common.{ℕ, zero, suc, ◌+◌, ◌-◌, ◌*◌, ◌<◌, ◌≤◌, ◌≡◌, refl, sym, ap, ◌∙◌, List, [], ◌∷◌, ◌++◌, append_assoc, arith, min, add-one, suc-mul, zero-mul, ⊎_elim, ℤ, pos, length, take, drop, set, length-append, take-append-drop, take_at, drop_at, length-take-le, drop-drop}
+use Rattle.std.proofs.Common.{ℕ, zero, suc, ◌+◌, ◌*◌, ◌<◌, ◌≤◌, ◌≡◌, refl, sym, ap, ◌∙◌, List, [], ◌∷◌, ◌++◌, append_assoc, arith, min, add-one, suc-mul, zero-mul, ⊎_elim, ℤ, pos, length, take, drop, length-append, take-append-drop, take_at, drop_at, length-take-le, drop-drop}
 use Rattle.cell.proofs.Offsets.{below?}
 use lib.Seq.{sets-eq}
 use Rattle.refusals.specs.Limits.{max_polygons}

@@ -1,9 +1,9 @@
 -- The rules' "Rings to roots", from a strip to its cells.
-use Rattle.std.specs.Prelude.{ℕ, zero, suc, ◌+◌, ◌-◌, ◌*◌, ◌/◌, ◌%◌, min, max, Bool, true, ◌&&◌, List, [], ◌∷◌, ◌++◌}
-use Rattle.std.specs.Prelude.{map, ℤ, pos, ◌==◌, if◌then◌else◌, slice_index}
+use Rattle.std.specs.Prelude.{ℕ, zero, suc, ◌+◌, ◌-◌, ◌*◌, ◌/◌, ◌%◌, min, max, Bool, ◌&&◌, List, [], ◌∷◌, ◌++◌}
+use Rattle.std.specs.Prelude.{ℤ, pos, ◌==◌, if◌then◌else◌, slice_index}
+use Rattle.std.specs.List.{flat_map, list_all}
 use Rattle.cell.specs.Ticks.{on}
 use Rattle.cell.specs.Cells.{no_cell}
-use Rattle.strips.specs.Sorted.{up_to}
 use Rattle.strips.specs.declared.walk.Strip.{Strip}
 use Rattle.build.specs.declared.grid.Cut.{Cut}
 
@@ -54,8 +54,7 @@ grid_to poly s g (suc j) = grid_to poly s g j ++ row_to poly (row_of s g j) g.nx
 
 -- the roots of strips, one after another
 unfoldable pub roots_in : ℕ → ℕ → ℕ → List Strip → List Root
-roots_in poly cap c [] = []
-roots_in poly cap c (s ∷ ss) = grid_to poly s (cut_of cap c s) (cut_of cap c s).ny ++ roots_in poly cap c ss
+roots_in poly cap c ss = flat_map (λ s. grid_to poly s (cut_of cap c s) (cut_of cap c s).ny) ss
 
 -- "a base cell side isn't a multiple of 2^(max_level+1) ticks": the side of length w, cut n times, of the unit u
 abbrev pub evenly : ℕ → ℕ → ℕ → Bool
@@ -65,8 +64,7 @@ abbrev pub even_strip : ℕ → Cut → Strip → Bool
 even_strip u g s = evenly u g.nx (width s) && evenly u g.ny (height s)
 
 unfoldable pub all_even : ℕ → ℕ → ℕ → List Strip → Bool
-all_even u cap c [] = true
-all_even u cap c (s ∷ ss) = even_strip u (cut_of cap c s) s && all_even u cap c ss
+all_even u cap c ss = list_all (λ s. even_strip u (cut_of cap c s) s) ss
 
 -- the table's eight numbers of each root: a leaf of level 0 with no parent
 unfoldable pub flat : List Root → List ℤ

@@ -1,5 +1,5 @@
 -- What the steps of the code promise one another. Internal.
-use Rattle.std.specs.Prelude.{ℕ, ◌+◌, ◌-◌, ◌*◌, ◌/◌, ◌%◌, ◌^◌, ◌<◌, ◌≤◌, min, ◌≡◌, true, false, List, ◌++◌, ℤ, pos}
+use Rattle.std.specs.Prelude.{ℕ, ◌+◌, ◌-◌, ◌*◌, ◌/◌, ◌%◌, ◌<◌, ◌≤◌, min, ◌≡◌, true, false, List, ◌++◌, ℤ, pos}
 use Rattle.std.specs.Prelude.{length, take, drop, replicate, Option, Some, None, Result, Ok, Err, if◌then◌else◌, nat_lt}
 use Rattle.refusals.specs.Limits.{widest_level, max_cap, max_cell, max_points, max_polygons, max_slots}
 use Rattle.strips.specs.declared.walk.Strip.{Strip}

@@ -1,5 +1,5 @@
 -- A row of balance by its searches: what the split of the least leaf that is due makes, and what it needs. Assumes nothing.
-use Rattle.std.proofs.Common.{ℕ, ◌+◌, ◌<◌, ◌≤◌, ◌≡◌, sym, ap, subst, ◌∙◌, true, List, arith, length, Ok, Err, None}
+use Rattle.std.proofs.Common.{ℕ, ◌+◌, ◌<◌, ◌≤◌, ◌≡◌, sym, subst, ◌∙◌, true, List, arith, Ok, Err, None}
 use Rattle.refusals.specs.declared.Refusal.{Refusal}
 use Rattle.table.specs.Mesh.{Cell, at, split}
 use Rattle.table.specs.Tables.{cells}

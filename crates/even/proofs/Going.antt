@@ -1,11 +1,9 @@
 -- What goes on from one part of an evening to the next. Assumes nothing.
-use Rattle.std.proofs.Common.{ℕ, ◌+◌, ◌/◌, ◌<◌, ◌≤◌, ◌≡◌, refl, sym, ap, subst, ◌∙◌, List, arith, length, Result, Ok, Err, None}
-use Rattle.std.specs.Result.{OnOk, OnErr, IfErr}
+use Rattle.std.proofs.Common.{ℕ, ◌/◌, ◌≤◌, ◌≡◌, refl, ap, ◌∙◌, List, arith, length, Ok, Err}
 use Rattle.refusals.specs.declared.Refusal.{Refusal}
-use Rattle.refusals.specs.declared.Refusal.TheVariants.{NoRoom}
-use Rattle.table.specs.Mesh.{Cell, at, table, is_none}
-use Rattle.table.specs.Formed.{Formed, WellFormed}
-use Rattle.table.proofs.Cells.{length-table, at_table}
+use Rattle.table.specs.Mesh.{Cell}
+use Rattle.table.specs.Formed.{Formed}
+use Rattle.table.proofs.Cells.{length-table}
 use Rattle.table.proofs.Wellformed.{formed-facts}
 use Rattle.table.specs.declared.edit.TableMut.{TableMut}
 use Rattle.table.specs.TablesMut.{cells_mut}

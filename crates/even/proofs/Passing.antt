@@ -14,7 +14,7 @@ use Rattle.table.specs.TablesMut.{cells_mut}
 use Rattle.search.specs.declared.roots.Roots.{Roots}
 use Rattle.search.specs.Roots.{Indexes}
 use Rattle.even.specs.Makes.{GoesOn, Makes}
-use Rattle.even.proofs.Going.{On, on-as, on-makes, on_then, full_then, goes_then, formed_of, length-of}
+use Rattle.even.proofs.Going.{On, on-as, on_then, full_then, goes_then, formed_of, length-of}
 use Rattle.even.proofs.Turns.{rows_next, rows-room}
 
 -- u came from s by the rows before a's

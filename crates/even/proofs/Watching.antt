@@ -1,12 +1,12 @@
 -- The rows that have no mark have nothing due, and what is marked after a pass is all that can be. Assumes nothing.
 use mathlib.Core.Logic.{by_cases}
-use Rattle.std.proofs.Common.{ℕ, zero, suc, ◌+◌, ◌-◌, ◌<◌, ◌≤◌, ◌≡◌, refl, sym, ap, ◌∙◌, Bool, true, false, true≢false, Option, None, Some, List, arith, add-zero, add-suc, length}
+use Rattle.std.proofs.Common.{ℕ, zero, suc, ◌+◌, ◌-◌, ◌<◌, ◌≤◌, ◌≡◌, sym, ap, ◌∙◌, true, false, true≢false, Some, List, arith, add-zero, add-suc, length}
 use native.Mathlib.Decide.{dec_lt}
 use Rattle.cell.specs.Boxes.{Quad, num, quad_at}
 use Rattle.cell.proofs.Contact.{shares-sym}
 use Rattle.table.specs.Mesh.{Cell, at}
 use Rattle.table.specs.Formed.{Formed}
-use Rattle.table.proofs.Meshes.{some_is, num-below, kids-in}
+use Rattle.table.proofs.Meshes.{num-below, kids-in}
 use Rattle.table.proofs.Wellformed.{num-quad}
 use Rattle.coarsest.specs.declared.Engine.{Engine}
 use Rattle.coarsest.specs.declared.Engine.TheVariants.{Balancing, Conforming}

@@ -1,5 +1,6 @@
 -- The row that holds a list of cells: eight numbers a cell, and zeros behind them.
 use Rattle.std.specs.Prelude.{ℕ, ◌-◌, List, [], ◌∷◌, ◌++◌, ℤ, pos, length, replicate, Option, None, Some}
+use Rattle.std.specs.List.{flat_map}
 use Rattle.cell.specs.Cells.{no_cell}
 use Rattle.cell.specs.Ticks.{on}
 use Rattle.table.specs.Mesh.{Cell}
@@ -16,8 +17,7 @@ numbers_of c =
     ∷ pos c.level ∷ marked c.parent ∷ marked c.kids ∷ pos c.polygon ∷ []
 
 unfoldable pub flat : List Cell → List ℤ
-flat [] = []
-flat (c ∷ cs) = numbers_of c ++ flat cs
+flat cells = flat_map numbers_of cells
 
 -- the cells in a row of this length
 unfoldable pub row_of : List Cell → ℕ → List ℤ

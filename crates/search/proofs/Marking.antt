@@ -1,5 +1,5 @@
 -- Marks put together from parts of what is to be seen. Assumes nothing.
-use Rattle.std.proofs.Common.{ℕ, ◌+◌, ◌/◌, ◌<◌, ◌≤◌, ◌≡◌, sym, ap, subst, ◌∙◌, Bool, true, false, true≢false, ◌⊎◌, ⊎_elim, None, Some, List, arith, length}
+use Rattle.std.proofs.Common.{ℕ, ◌+◌, ◌<◌, ◌≤◌, ◌≡◌, sym, ap, subst, ◌∙◌, true, false, true≢false, ◌⊎◌, ⊎_elim, None, Some, List, arith, length}
 use Rattle.cell.specs.Boxes.{Quad, num, quadrant, shares_edge}
 use Rattle.table.specs.Mesh.{Cell, at}
 use Rattle.table.specs.Formed.{Formed}

@@ -1,5 +1,5 @@
 -- All cells from the roots: each stands in the subtree of one, and those that do not meet a hold nothing for it. Assumes nothing.
-use Rattle.std.proofs.Common.{◌≡◌, sym, subst, ◌∙◌, true, false, None, ◌⊎◌, inl, inr, List, ℕ, ◌+◌, ◌<◌, ◌≤◌, arith, length}
+use Rattle.std.proofs.Common.{◌≡◌, subst, true, false, None, ◌⊎◌, inl, inr, List, ℕ, ◌+◌, ◌<◌, ◌≤◌, arith, length}
 use mathlib.Core.Logic.{by_cases}
 use native.Mathlib.Decide.{dec_lt, ℕ_discrete}
 use Rattle.table.specs.Mesh.{Cell, at}

@@ -1,5 +1,5 @@
 -- What the searches find: closed boxes that meet, the subtree of a cell, and the least id of a kind.
-use Rattle.std.specs.Prelude.{ℕ, ◌+◌, ◌/◌, ◌<◌, ◌≤◌, ◌≡◌, Bool, true, false, ◌&&◌, List, [], ◌∷◌, None, Some, nat_lt}
+use Rattle.std.specs.Prelude.{ℕ, ◌+◌, ◌<◌, ◌≤◌, ◌≡◌, Bool, true, false, ◌&&◌, List, [], ◌∷◌, None, Some, nat_lt}
 use Rattle.std.specs.Prelude.{nat_le}
 use Rattle.cell.specs.Boxes.{Box, num}
 use Rattle.table.specs.Mesh.{Cell, at}

@@ -1,5 +1,5 @@
 -- No point of a ring lies between two neighbouring heights.
-use Rattle.std.proofs.Common.{ℕ, zero, suc, ◌+◌, ◌<◌, ◌≤◌, ◌≡◌, sym, Bool, true, ◌&&◌, List, [], ◌∷◌, map, ◌⊎◌, inl, inr, ⊎_elim, arith, add-one, subst, ℤ, leb, ltb, length, get_or}
+use Rattle.std.proofs.Common.{ℕ, zero, suc, ◌+◌, ◌<◌, ◌≤◌, ◌≡◌, sym, true, ◌&&◌, List, [], ◌∷◌, map, ◌⊎◌, inl, inr, ⊎_elim, arith, add-one, subst, ℤ, leb, ltb, length, get_or}
 use Rattle.refusals.specs.Limits.{coordinate}
 use Rattle.strips.specs.Sorted.{up_to, sorted}
 use Rattle.strips.specs.Rings.{y_at}

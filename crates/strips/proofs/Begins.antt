@@ -1,5 +1,5 @@
 -- Each vertical edge of a ring begins at a point of the ring.
-use Rattle.std.proofs.Common.{ℕ, zero, suc, ◌%◌, ◌<◌, ◌≤◌, List, [], ◌∷◌, ◌++◌, ℤ, leb, length, get_or, arith}
+use Rattle.std.proofs.Common.{ℕ, zero, suc, ◌%◌, ◌<◌, ◌≤◌, List, [], ◌∷◌, ◌++◌, ℤ, leb, length, arith}
 use Rattle.refusals.specs.Limits.{max_points}
 use Rattle.strips.specs.Sorted.{up_to, picked, insert, sorted}
 use Rattle.strips.specs.Walk.{key_of, vertical_at, unsorted_edges, edges_of, BeginAtPoints}

@@ -1,9 +1,8 @@
 -- Laws of the strips. Each is the contract of a function of src/laws.rt.
-use Rattle.std.specs.Prelude.{ℕ, ◌%◌, ◌≤◌, ◌≡◌, false, List, ◌∷◌, ◌++◌, length, ℤ, Result}
-use Rattle.refusals.specs.Limits.{max_points}
+use Rattle.std.specs.Prelude.{ℕ, ◌%◌, ◌≡◌, false, List, ◌∷◌, ◌++◌, length, ℤ, Result}
 use Rattle.refusals.specs.declared.Refusal.{Refusal}
 use Rattle.strips.specs.Rings.{ring_slants}
-use Rattle.strips.specs.Strips.{levels, crossings, strips_of}
+use Rattle.strips.specs.Strips.{levels, crossings}
 use Rattle.strips.specs.Said.{stripped_said, strips_says, strips_leave}
 
 -- what a call of `strips` comes to: its answer, and what the lent row holds then

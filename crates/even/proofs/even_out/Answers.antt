@@ -1,4 +1,4 @@
-use Rattle.std.proofs.Common.{ℕ, ◌<◌, ◌≤◌, ◌≡◌, List, ℤ, ap, sym, ◌∙◌, arith, rules}
+use Rattle.std.proofs.Common.{◌≡◌, List, ℤ, ap, ◌∙◌, arith, rules}
 use Rattle.table.specs.declared.Head.{Head}
 use Rattle.table.specs.declared.edit.TableMut.{TableMut}
 use Rattle.table.specs.Rows.{IsTable}

@@ -1,4 +1,4 @@
-use Rattle.std.proofs.Common.{refl, sym, ap, ap₂, ◌∙◌, true≢false, arith, ◌≡◌, ◌≤◌, ◌/◌, ℕ, ℤ, List, length, le-leb}
+use Rattle.std.proofs.Common.{sym, ap, ap₂, ◌∙◌, true≢false, arith, ◌≡◌, ◌≤◌, ◌/◌, ℕ, ℤ, List, length, le-leb}
 use borrow.Author.Tests.{lt-leb}
 use Rattle.table.specs.declared.Head.{Head}
 use Rattle.table.specs.Formed.{WellFormed}
@@ -8,7 +8,7 @@ use Rattle.table.proofs.Cells.{length-table}
 use Rattle.table.proofs.Wellformed.{formed-facts, facts-formed}
 use Rattle.coarsest.proofs.Evened.{evened-grown}
 use Rattle.even.specs.Rows.{row_of}
-use Rattle.even.specs.Even.{even_cells, even_says, even_row, EndsCoarsest}
+use Rattle.even.specs.Even.{even_cells, even_says, even_row}
 use Rattle.even.proofs.Rowing.{row_is}
 use Rattle.even.proofs.Ending.{ends-done, ends-full, ends-bad}
 use Rattle.even.proofs.even_table.Goals as goal

@@ -1,4 +1,4 @@
-use Rattle.std.proofs.Common.{ℕ, ◌+◌, ◌/◌, ◌<◌, ◌≤◌, ◌≡◌, List, ℤ, length, arith, refl, sym, ap, ◌∙◌, lt-ltb, le-ltb}
+use Rattle.std.proofs.Common.{◌/◌, ◌<◌, ◌≤◌, ◌≡◌, length, arith, refl, sym, ap, ◌∙◌, lt-ltb, le-ltb}
 use Rattle.strips.specs.Strips.{strips_of}
 use Rattle.build.specs.Grid.{roots_in}
 use Rattle.build.specs.Board.{board_of, size_at}

@@ -1,4 +1,4 @@
-use Rattle.std.proofs.Common.{◌+◌, length, arith, refl, sym, ◌∙◌}
+use Rattle.std.proofs.Common.{◌+◌, length, arith, refl, sym}
 use Rattle.build.specs.Board.{board_of}
 use Rattle.build.proofs.Boards.{no-roots, length-roots-more, roots-mono, polygon-placed}
 use Rattle.build.proofs.Judging.{sum_none}

@@ -1,4 +1,4 @@
-use Rattle.std.proofs.Common.{◌∙◌, pow_pos}
+use Rattle.std.proofs.Common.{pow_pos}
 use Rattle.build.specs.Board.{board_of}
 use Rattle.build.proofs.Boards.{sizes, unit-fits}
 use Rattle.build.proofs.judged.Judged.cutter.Goals as goal

@@ -1,4 +1,4 @@
-use Rattle.std.proofs.Common.{ℕ, ap, ◌∙◌, ◌<◌, ◌+◌, ◌-◌, length, get_or, drop, take, ◌≡◌, refl, arith, length-drop, length-take-le}
+use Rattle.std.proofs.Common.{ℕ, ap, ◌∙◌, ◌+◌, ◌-◌, length, get_or, drop, take, ◌≡◌, refl, arith, length-drop, length-take-le}
 use Rattle.build.proofs.Judging.{sum_more, ring_ends, ring-part}
 use Rattle.build.proofs.outlines.Outlines.ring.Goals as goal
 

@@ -1,6 +1,6 @@
 use Rattle.std.proofs.Common.{arith, ap, sym, ◌∙◌}
 use Rattle.std.proofs.lemmas.Result.{err_from_is_err_and}
-use Rattle.table.specs.Mesh.{Cell, at, is_leaf}
+use Rattle.table.specs.Mesh.{at, is_leaf}
 use Rattle.coarsest.specs.declared.Engine.TheVariants.{Balancing}
 use Rattle.coarsest.specs.Sweep.{row}
 use Rattle.coarsest.proofs.Loops.{no-leaf}

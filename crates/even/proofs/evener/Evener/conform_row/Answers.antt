@@ -1,5 +1,5 @@
-use Rattle.std.proofs.Common.{ℕ, ◌≡◌, ◌<◌, ◌≤◌, arith, length, true, false, ap, subst, sym, ◌∙◌, List, Bool}
-use Rattle.table.specs.Mesh.{Cell, at, is_leaf, is_none, split}
+use Rattle.std.proofs.Common.{ℕ, ◌≡◌, ◌<◌, ◌≤◌, arith, true, false, ap, subst, sym, ◌∙◌, List, Bool}
+use Rattle.table.specs.Mesh.{Cell, at, is_leaf}
 use Rattle.table.specs.Tables.{cells}
 use Rattle.coarsest.specs.declared.Engine.TheVariants.{Conforming}
 use Rattle.coarsest.specs.Passes.{due, split_if}

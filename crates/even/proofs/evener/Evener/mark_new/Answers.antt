@@ -1,7 +1,7 @@
-use Rattle.std.proofs.Common.{ℕ, ◌+◌, ◌<◌, ◌≤◌, ◌≡◌, sym, ap, subst, ◌∙◌, Some, List, length, arith}
+use Rattle.std.proofs.Common.{ℕ, ◌+◌, ◌<◌, ◌≤◌, ◌≡◌, sym, ap, ◌∙◌, Some, arith}
 use mathlib.Core.Logic.{by_cases}
 use native.Mathlib.Decide.{dec_lt}
-use Rattle.table.specs.Mesh.{Cell, at}
+use Rattle.table.specs.Mesh.{at}
 use Rattle.table.specs.Tables.{cells}
 use Rattle.table.specs.declared.view.Table.{Table}
 use Rattle.std.specs.Option.{is_some}

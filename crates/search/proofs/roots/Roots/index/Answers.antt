@@ -1,4 +1,4 @@
-use Rattle.std.proofs.Common.{◌≡◌, sym, subst, arith}
+use Rattle.std.proofs.Common.{sym, subst, arith}
 use Rattle.table.specs.Tables.{cells}
 use Rattle.table.proofs.Cells.{length-table}
 use Rattle.table.proofs.Wellformed.{formed-facts}

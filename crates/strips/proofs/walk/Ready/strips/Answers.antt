@@ -1,5 +1,5 @@
-use Rattle.std.proofs.Common.{◌≡◌, refl, sym, ap, ◌∙◌, drop, lt-ltb, le-ltb}
-use Rattle.strips.specs.Walk.{left, start_band}
+use Rattle.std.proofs.Common.{◌≡◌, refl, ◌∙◌, lt-ltb, le-ltb}
+use Rattle.strips.specs.Walk.{start_band}
 use Rattle.strips.proofs.Crossing.{ready-strips}
 use Rattle.strips.proofs.Walks.{started}
 use Rattle.strips.proofs.walk.Ready.strips.Goals as goal
