@@ -1,5 +1,5 @@
 -- Laws of the first fault, and of the polygons' test. Assumes nothing.
-use Rattle.std.proofs.Common.{ℕ, zero, suc, ◌<◌, ◌≡◌, Bool, true, ⊎_elim, eq-or-lt_of_le, arith, List, length, Option, None, Some, eqb, ltb, eqb→eq, ltb→lt, ℤ, sym, ◌∙◌}
+use Rattle.std.proofs.Common.{ℕ, zero, suc, ◌<◌, ◌≡◌, Bool, true, ⊎_elim, eq-or-lt_of_le, arith, List, length, Option, None, Some, eqb, ltb, eqb→eq, ltb→lt, ℤ, sym}
 use lib.Ieee.Fits.{and_l, and_r}
 use Rattle.table.specs.Slots.{cell_at}
 use Rattle.sound_net.specs.Nets.{all_below}

@@ -1,8 +1,7 @@
 -- What is found in a row in order is what the net has. Assumes nothing.
-use Rattle.std.proofs.Common.{ℕ, ◌+◌, ◌<◌, ◌≤◌, ◌≡◌, refl, sym, ap, ap₂, subst, ◌∙◌, Bool, true, false, Option, None, Some, ◌&&◌, ◌||◌, ◌==◌, ◌/◌, List, [], ◌∷◌, map, length, get_or, arith, ℤ, min, max, IfSome, IfNone, All, Contains, IsPermutation, ⊎_elim}
+use Rattle.std.proofs.Common.{ℕ, ◌<◌, ◌≤◌, ◌≡◌, refl, sym, ap, ap₂, subst, ◌∙◌, Bool, true, false, Option, None, Some, ◌&&◌, ◌||◌, ◌==◌, ◌/◌, List, [], ◌∷◌, map, length, arith, ℤ, min, max, IfSome, IfNone, All, Contains, ⊎_elim}
 use Rattle.std.specs.List.{range_with_len}
-use Rattle.std.proofs.lemmas.List.{get_or_default}
-use Rattle.std.proofs.lemmas.List.Elements.{All-from_get_or, Contains-get_or}
+use Rattle.std.proofs.lemmas.List.Elements.{Contains-get_or}
 use Rattle.std.proofs.lemmas.List.FromFn.{length-map-range_with_len, get_or-map-range_with_len}
 use Rattle.std.proofs.lemmas.List.Sorted.{IsPermutation-sym, Contains-permutation}
 use Rattle.std.proofs.lemmas.Bool.Decides.{nat_tests}
@@ -12,7 +11,7 @@ use Rattle.sound_net.specs.Facts.{IsSoundNode}
 use Rattle.checks.specs.declared.asked.Place.{Place}
 use Rattle.checks.specs.declared.asked.Class.{Class}
 use Rattle.checks.specs.declared.index.Key.{Key}
-use Rattle.checks.specs.Nodes.{here, last_below, any_below, node_at, joins, joined}
+use Rattle.checks.specs.Nodes.{here, node_at, joins, joined}
 use Rattle.checks.specs.Sides.{Near}
 use Rattle.checks.specs.Entries.{key_of, place_entry, pair_of, pair_entry, IsInOrder, IsPlaced, IsPaired, IsAt, IsLastAt}
 use Rattle.checks.proofs.Searches.{any-hit}

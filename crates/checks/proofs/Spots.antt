@@ -1,5 +1,5 @@
 -- The numbers of a node as an entry has them. Assumes nothing.
-use Rattle.std.proofs.Common.{ℕ, suc, ◌+◌, ◌-◌, ◌^◌, min, ◌<◌, ◌≤◌, ◌≡◌, refl, sym, ap, ap₂, ◌∙◌, Bool, true, false, ◌&&◌, ◌==◌, List, arith, T, eqb, leb, ltb, eqb→eq, leb→le, ltb→lt, ℤ, pos, negsuc, nat_abs, eq-eqb, le-ltb, lt-ltb}
+use Rattle.std.proofs.Common.{ℕ, suc, ◌+◌, ◌-◌, min, ◌≤◌, ◌≡◌, refl, sym, ap, ap₂, ◌∙◌, Bool, true, false, ◌&&◌, ◌==◌, List, arith, T, leb, eqb→eq, leb→le, ℤ, pos, negsuc, nat_abs, eq-eqb, le-ltb, lt-ltb}
 use lib.IntN.{sub_ℕ}
 use lib.Ieee.Fits.{and_l, and_r}
 use Rattle.refusals.specs.Limits.{coordinate}

@@ -1,5 +1,5 @@
 -- Nodes and edges as entries of rows in order.
-use Rattle.std.specs.Prelude.{◌≡◌, ℕ, ◌≤◌, min, max, Bool, ◌&&◌, ◌||◌, ◌==◌, nat_lt, nat_le, ◌/◌, List, [], ◌∷◌, map, length, slice_index, ℤ, All, Contains, IsPermutation, IsSorted}
+use Rattle.std.specs.Prelude.{◌≡◌, ℕ, ◌≤◌, min, max, Bool, ◌&&◌, ◌||◌, ◌==◌, nat_lt, nat_le, List, [], ◌∷◌, map, slice_index, ℤ, All, Contains, IsPermutation, IsSorted}
 use Rattle.std.specs.List.{range_with_len}
 use Rattle.std.specs.Ordering.{nat_cmp}
 use Rattle.std.specs.Cmp.Lexicographic.{slice_cmp}

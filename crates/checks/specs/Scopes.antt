@@ -1,7 +1,7 @@
 -- Which nodes a leaf is held against.
-use Rattle.std.specs.Prelude.{ℕ, ◌<◌, length, slice_index}
+use Rattle.std.specs.Prelude.{ℕ, ◌<◌, length}
 use Rattle.checks.specs.declared.asked.Class.{Class}
-use Rattle.checks.specs.declared.asked.Class.TheVariants.{Any, Of}
+use Rattle.checks.specs.declared.asked.Class.TheVariants.{Any}
 use Rattle.checks.specs.declared.asked.Polygons.{Polygons}
 use Rattle.checks.specs.declared.asked.Scope.{Scope}
 use Rattle.checks.specs.declared.asked.Scope.TheVariants.{Everywhere, ByLayer}

@@ -105,14 +105,24 @@ pub fn sort_pairs(net: &SoundNet, row: &mut [PairEntry])
     row.sort_unstable();
 }
 
+// Whether an entry stands no later than a key: without a branch, so that a machine halves without guessing.
+fn stands_upto(entry: &PlaceEntry, key: Key) -> bool
+    ensures { result ≡ is_upto key entry.now }
+{
+    let [layer, component, x, y, _] = *entry;
+    (layer < key.layer)
+        | ((layer == key.layer)
+            & ((component < key.component)
+                | ((component == key.component) & ((x < key.x) | ((x == key.x) & (y <= key.y))))))
+}
+
 // How many entries stand no later than a key.
 fn count_upto(row: &[PlaceEntry], key: Key) -> usize
     requires { IsSorted (slice_cmp nat_cmp) row.now }
     ensures parted { IsPartitionPoint (λ e. is_upto key e ≡ true) (λ e. is_upto key e ≡ false) row.now result }
     ensures bound { result ≤ length row.now }
 {
-    let key = [key.layer, key.component, key.x, key.y];
-    row.partition_point(|&[layer, component, x, y, _]| [layer, component, x, y] <= key)
+    row.partition_point(|entry| stands_upto(entry, key))
 }
 
 // The last of the entries with a key.

@@ -207,12 +207,7 @@ pub extern "C" fn leafmesh_check_network_conforming(
         corners,
         sheets,
     };
-    of_checked(checks::check_network_conforming(
-        table,
-        Head { count, max_level },
-        &rows,
-        work,
-    ))
+    of_checked(checks::check_network_conforming(table, Head { count, max_level }, &rows, work))
 }
 
 // The same with nodes of the leaf's own layer and component.

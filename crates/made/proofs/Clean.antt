@@ -1,7 +1,7 @@
 -- The by-layer check of a made net answers 'none', whatever the table, where its polygons differ in layer or component; so does the check by
 -- x and y alone where there is one polygon. Assumes nothing.
 use lib.Ieee.{Float}
-use Rattle.std.proofs.Common.{◌≡◌, refl, sym, ap, ap₂, subst, ◌∙◌, Bool, true, false, ◌&&◌, cond, Option, None, List, [], ◌∷◌, ◌++◌, ℕ, zero, suc, ◌+◌, ◌<◌, zero-add, arith, T, ltb, eqb, lt→ltb, ℤ, pos, length, take, drop, eq-eqb}
+use Rattle.std.proofs.Common.{◌≡◌, refl, sym, ap, ap₂, subst, ◌∙◌, Bool, true, false, ◌&&◌, cond, Option, None, List, [], ◌∷◌, ◌++◌, ℕ, zero, suc, ◌<◌, arith, T, ltb, eqb, lt→ltb, ℤ, length, take, drop, eq-eqb}
 use lib.ListN.{length-map, get_or-map}
 use Rattle.refusals.specs.Said.{accepted, refused}
 use Rattle.cell.specs.Cells.{box_of}

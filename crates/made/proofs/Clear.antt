@@ -1,5 +1,5 @@
 -- No edge of a leaf is a fault where the nodes at the middles of its sides are halved. Assumes nothing.
-use Rattle.std.proofs.Common.{◌≡◌, refl, sym, ap, ◌∙◌, true, ◌&&◌, cond, List, [], ◌∷◌, ℕ, zero, suc, ◌<◌, ◌≤◌, arith, eqb, length, get_or, lt-ltb, Option, None, Some}
+use Rattle.std.proofs.Common.{◌≡◌, refl, sym, ap, ◌∙◌, true, ◌&&◌, cond, List, ℕ, zero, suc, ◌<◌, ◌≤◌, arith, eqb, length, get_or, lt-ltb, Option, None, Some}
 use mathlib.Core.Bool.{or_comm}
 use Rattle.cell.specs.declared.Cell.{Cell}
 use Rattle.cell.specs.Boxes.{mid}

@@ -1,5 +1,5 @@
 -- The leaves and the nodes of one polygon among those of all. Assumes nothing.
-use Rattle.std.proofs.Common.{◌≡◌, refl, sym, ap, subst, ◌∙◌, true, false, ◌&&◌, None, ⊎_elim, List, [], ◌∷◌, ◌++◌, ℕ, zero, suc, ◌+◌, ◌<◌, ◌≤◌, arith, eqb, ℤ, length, take, drop, length-append, length-drop, get_or-drop, eq-eqb, eqb-true}
+use Rattle.std.proofs.Common.{◌≡◌, refl, sym, ap, subst, ◌∙◌, true, false, ◌&&◌, None, ⊎_elim, List, [], ◌∷◌, ◌++◌, ℕ, zero, suc, ◌+◌, ◌<◌, ◌≤◌, arith, eqb, ℤ, length, drop, length-append, length-drop, get_or-drop, eq-eqb, eqb-true}
 use Rattle.cell.specs.Boxes.{Box}
 use Rattle.cell.specs.Cells.{box_of}
 use Rattle.cell.proofs.Offsets.{off-le}
@@ -11,7 +11,7 @@ use Rattle.net.specs.Hang.{so_far}
 use Rattle.net.proofs.Find.{order, test, find-nil, find-no, find-left, find-right}
 use Rattle.net.proofs.Keys.{both, both_of}
 use Rattle.net.proofs.Weld.{weld-nil, weld-old, weld-new}
-use Rattle.net.proofs.All.{All, all-by, all_nil, all-weld, all-each, all-each-by, In, weld-more}
+use Rattle.net.proofs.All.{All, all-by, all-each, all-each-by, In, weld-more}
 use Rattle.net.proofs.Pieces.{all_corners, nodes-weld}
 use Rattle.net.proofs.Faces.{Within}
 use Rattle.net.proofs.Leaves.{all-from, all-pieces, polys-pieces, nodes-all, BoxWithin, nodes-within}

@@ -141,11 +141,7 @@ fn in_ranges(net: &SoundNet, potentials: &[f64]) -> bool
 
 /// The rules' cell_power: refusal 7 for a bad net, 3 for a value out of range, 6 for fewer answers than cells.
 #[tactic(auto, unfolding(crate::specs::Powers::power_says, crate::specs::Powers::power_row))]
-pub fn cell_power(
-    rows: &NetRows,
-    potentials: &[f64],
-    answers: &mut [f64],
-) -> Result<(), Refusal>
+pub fn cell_power(rows: &NetRows, potentials: &[f64], answers: &mut [f64]) -> Result<(), Refusal>
     ensures answer { power_said result ≡ power_says (net_in rows.now) potentials.now answers.old }
     ensures row { answers.new ≡ power_row (net_in rows.now) potentials.now answers.old }
 {

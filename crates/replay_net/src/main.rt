@@ -6,9 +6,9 @@
 
 use cases::{Cases, print};
 use checks::{Hanging, Polygons};
+use sound_net::NetRows;
 use std::alloc::{AllocError, Global};
 use std::fmt::Write;
-use sound_net::NetRows;
 use std::io;
 use table::Head;
 use unweighted::Counts;

@@ -1,10 +1,10 @@
 -- The test of a net and the facts of a sound net: each from the other. Assumes nothing.
-use Rattle.std.proofs.Common.{◌≡◌, ℕ, ◌*◌, ◌/◌, ◌%◌, ◌<◌, ◌&&◌, T, eqb, ltb, List, length, ℤ, arith, eqb→eq, ltb→lt, lt→ltb}
+use Rattle.std.proofs.Common.{◌≡◌, ℕ, ◌*◌, ◌/◌, ◌%◌, ◌&&◌, T, eqb, ltb, List, length, ℤ, arith, eqb→eq, ltb→lt, lt→ltb}
 use lib.Signed.{lt_z}
 use lib.Ieee.Fits.{and_l, and_r, and_i}
 use mir.Facts.{yes_eqb}
 use Rattle.cell.specs.Ticks.{in_range}
-use Rattle.sound_net.specs.Nets.{Net, all_below, eq_z, node_count, layer_at, component_at, x_at, y_at, unsigned, from_at, to_at, corners_at, known, lined_up, sound_node, sound_edge, rectangle, sound_cell, sound_net, IsSound}
+use Rattle.sound_net.specs.Nets.{Net, all_below, eq_z, node_count, layer_at, component_at, x_at, y_at, unsigned, from_at, to_at, corners_at, known, sound_node, sound_edge, rectangle, sound_cell, sound_net, IsSound}
 use Rattle.sound_net.specs.declared.rows.Corners.{Corners}
 use Rattle.sound_net.specs.Facts.{IsSoundNode, IsSoundEdge, IsRectangle, AreKnown, IsSoundCell, IsSoundNet}
 use Rattle.sound_net.proofs.Tests.{yes, all-at, all_of, eq_z-true, eq_z-of}

@@ -1,6 +1,5 @@
-use Rattle.std.proofs.Common.{◌≡◌, true, sym, ◌∙◌, ap₂, ◌&&◌, arith}
+use Rattle.std.proofs.Common.{sym, ◌∙◌, ap₂, ◌&&◌, arith}
 use Rattle.sound_net.specs.Nets.{net_in}
-use Rattle.checks.specs.Checks.{polygons_fit}
 use Rattle.checks.proofs.Faults.{fit-facts}
 use Rattle.checks.proofs.Rooms.{after-walk}
 use Rattle.checks.proofs.check_by_layer.Goals as goal

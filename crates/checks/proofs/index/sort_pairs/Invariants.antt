@@ -1,5 +1,5 @@
 -- The entries of the edges passed.
-use Rattle.std.proofs.Common.{◌≡◌, ◌/◌, take, length}
+use Rattle.std.proofs.Common.{◌≡◌, take, length}
 use Rattle.checks.specs.Entries.{pair_entry}
 use Rattle.checks.proofs.Entries.{entries}
 use Rattle.checks.proofs.index.sort_pairs.Given as goal

@@ -1,4 +1,4 @@
-use Rattle.std.proofs.Common.{rules, arith}
+use Rattle.std.proofs.Common.{arith}
 use Rattle.sound_net.specs.Nets.{net_in}
 use Rattle.sound_net.proofs.Sound.{sound-facts}
 use Rattle.sound_net.proofs.view.SoundNet.ends.Goals as goal
