@@ -1,0 +1,2 @@
+-- Laws that the proofs of the functions cite.
+pub mod Numerals

@@ -1,0 +1,2 @@
+-- What leafnet prints.
+pub mod Lines
