@@ -1,2 +1,10 @@
 -- What leafnet prints.
 pub mod Lines
+pub mod Rooms
+pub mod Boards
+pub mod Refining
+pub mod Growing
+pub mod Nets
+pub mod Output
+pub mod Listed
+pub mod Held

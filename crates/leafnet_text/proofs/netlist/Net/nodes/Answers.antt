@@ -1,0 +1,7 @@
+use Rattle.leafnet_text.proofs.netlist.Net.nodes.Goals as goal
+
+pub slice_bounds-result-end : goal.slice_bounds-result-end
+slice_bounds-result-end c = ?
+
+pub returns : goal.returns
+returns c = ?

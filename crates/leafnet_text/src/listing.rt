@@ -1,0 +1,83 @@
+//! The text of a mesh and its net, line after line.
+ghost use Rattle.std.specs.Prelude.{◌≡◌, ◌+◌, ◌*◌, ◌≤◌, ◌++◌, length, All, OnOk, IfOk, string_bytes};
+ghost use Rattle.std.specs.Float.{NotNan};
+ghost use Rattle.leafnet_text.specs.Output.{leaf_lines};
+ghost use Rattle.leafnet_text.specs.Listed.{node_row_lines, edge_row_lines};
+
+use crate::lines::{Corners, Edge, Leaf, Node};
+use cell::ticks::ticks;
+use std::alloc::AllocError;
+use std::fmt::Write as _;
+use table::slots::cell_at;
+
+impl Leaf {
+    ghost use Rattle.leafnet_text.specs.Output.{leaf_at};
+
+    // The leaf in slot `id` of a table.
+    fn at(row: &[i64], id: usize) -> Leaf
+        requires { id * 8 + 8 ≤ length row.now }
+        ensures { result ≡ leaf_at row.now id }
+    {
+        let cell = cell_at(row, id);
+        Leaf {
+            id,
+            polygon: cell.poly,
+            level: cell.level,
+            corners: Corners {
+                x0: ticks(cell.x0),
+                y0: ticks(cell.y0),
+                x1: ticks(cell.x1),
+                y1: ticks(cell.y1),
+            },
+        }
+    }
+}
+
+fn write_leaves(text: &mut String, row: &[i64], order: &[u64]) -> Result<(), AllocError>
+    requires { All (λ id. id * 8 + 8 ≤ length row.now) order.now }
+    ensures { OnOk result (string_bytes text.new ≡ string_bytes text.old ++ leaf_lines row.now order.now) }
+{
+    for id in order {
+        let leaf = Leaf::at(row, *id as usize);
+        writeln!(text, "{leaf}")?;
+    }
+    Ok(())
+}
+
+fn write_nodes(text: &mut String, nodes: &[[i64; 4]]) -> Result<(), AllocError>
+    ensures { OnOk result (string_bytes text.new ≡ string_bytes text.old ++ node_row_lines nodes.now) }
+{
+    for (number, row) in nodes.iter().enumerate() {
+        let [layer, component, x, y] = *row;
+        let node = Node {
+            number,
+            layer,
+            component,
+            x,
+            y,
+        };
+        writeln!(text, "{node}")?;
+    }
+    Ok(())
+}
+
+fn write_edges(
+    text: &mut String,
+    ends: &[[u64; 2]],
+    conductances: &[f64],
+) -> Result<(), AllocError>
+    requires one_an_edge { length conductances.now ≡ length ends.now }
+    requires numbers { All NotNan conductances.now }
+    ensures { OnOk result (string_bytes text.new
+        ≡ string_bytes text.old ++ edge_row_lines ends.now conductances.now) }
+{
+    for ([from, to], conductance) in ends.iter().zip(conductances) {
+        let edge = Edge {
+            from: *from,
+            to: *to,
+            conductance: *conductance,
+        };
+        writeln!(text, "{edge}")?;
+    }
+    Ok(())
+}
