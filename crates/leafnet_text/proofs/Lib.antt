@@ -3,3 +3,8 @@ pub mod Numerals
 pub mod Refusing
 pub mod Refining
 pub mod Turns
+pub mod Fronts
+pub mod Steps
+pub mod Nets
+pub mod Narrowing
+pub mod Reading

@@ -1,15 +1,18 @@
 -- What a refusal prints. Assumes nothing.
-use Rattle.std.proofs.Common.{◌≡◌, refl, sym, ap, ◌∙◌, List, ℕ, [], ◌++◌}
+use Rattle.std.proofs.Common.{◌≡◌, sym, ap, subst, ◌∙◌, false, List, ℕ, [], Result, Err}
 use Rattle.refusals.specs.declared.Refusal.{Refusal}
-use Rattle.refusals.specs.Said.{Said, accepted, refused, refusal, is_accepted}
+use Rattle.refusals.specs.Said.{Said, refusal, is_accepted}
 use Rattle.refusals.proofs.Settled.{as-refused}
-use Rattle.std.proofs.Common.{false}
+use Rattle.leafnet_text.specs.declared.stop.Stop.{Stop}
+use Rattle.leafnet_text.specs.declared.stop.Stop.TheVariants.{Refused}
 use Rattle.leafnet_text.specs.Lines.{refusal_line}
-use Rattle.leafnet_text.specs.Output.{ended, unless_refused}
+use Rattle.leafnet_text.specs.Output.{ended, unless_refused, Prints, PrintsNext}
 
 -- a refusal prints itself, whatever text there would be
-pub refused-text : (why : Refusal) (text : List ℕ) → unless_refused (refusal why) text ≡ unless_refused (refusal why) []
-refused-text why text = let r = as-refused why in ap (λ (s : Said). unless_refused s text) r.2 ∙ sym (ap (λ (s : Said). unless_refused s []) r.2)
+pub refused-text : (why : Refusal) (said : Said) (text : List ℕ) → refusal why ≡ said → unless_refused said text ≡ unless_refused (refusal why) []
+refused-text why said text e =
+    let r = as-refused why in
+    ap (λ (s : Said). unless_refused s text) (sym e ∙ r.2) ∙ sym (ap (λ (s : Said). unless_refused s []) r.2)
 
 -- on a line of its own
 pub refused-line : (why : Refusal) → unless_refused (refusal why) [] ≡ ended (refusal_line (refusal why))
@@ -20,3 +23,12 @@ refused-line why =
 -- a refusal is not accepted
 pub not-accepted : (why : Refusal) → is_accepted (refusal why) ≡ false
 not-accepted why = let r = as-refused why in ap is_accepted r.2
+
+-- an answer that is this refusal
+pub prints-refused : {A : Type 0} (r : Result A Refusal) (why : Refusal) (next : A → List ℕ) (text : List ℕ)
+    → r ≡ Err why → text ≡ unless_refused (refusal why) [] → PrintsNext r next text
+prints-refused r why next text e h = subst (λ x. PrintsNext x next text) (sym e) h
+
+pub prints-stopped : {A : Type 0} (r : Result A Stop) (why : Refusal) (next : A → List ℕ) (text : List ℕ)
+    → r ≡ Err (Refused why) → text ≡ unless_refused (refusal why) [] → Prints r next text
+prints-stopped r why next text e h = subst (λ x. Prints x next text) (sym e) h

@@ -19,7 +19,7 @@ enumerate-more xs i d h =
 -- the pairs of two lists with one more
 pub zip-more : {A B : Type 0} (xs : List A) (ys : List B) (i : ℕ) (d : A) (e : B) → i < length xs → i < length ys
     → zip (take (i + 1) xs) (take (i + 1) ys) ≡ zip (take i xs) (take i ys) ++ ((get_or xs i d, get_or ys i e) ∷ [])
-zip-more xs ys i d e h k = rw add-one (go xs ys i h k)
+zip-more {A = A} {B = B} xs ys i d e h k = rw add-one (go xs ys i h k)
   where
     go : (xs : List A) (ys : List B) (i : ℕ) → i < length xs → i < length ys
         → zip (take (suc i) xs) (take (suc i) ys) ≡ zip (take i xs) (take i ys) ++ ((get_or xs i d, get_or ys i e) ∷ [])

@@ -1,6 +1,7 @@
 -- The table of a board, step by step: its roots, the record's splits, balance. Each step goes on from what the one before it leaves.
-use Rattle.std.specs.Prelude.{ℕ, ◌+◌, ◌-◌, ◌*◌, ◌/◌, List, length, ℤ}
-use Rattle.refusals.specs.Said.{Said}
+use Rattle.std.specs.Prelude.{ℕ, ◌+◌, ◌-◌, ◌*◌, ◌/◌, List, [], ◌∷◌, length, ℤ, Result}
+use Rattle.refusals.specs.declared.Refusal.{Refusal}
+use Rattle.refusals.specs.Said.{Said, said}
 use Rattle.table.specs.declared.Head.{Head}
 use Rattle.table.specs.Mesh.{Cell}
 use Rattle.build.specs.Board.{roots_of}
@@ -14,6 +15,10 @@ use Rattle.leafnet_text.specs.Refining.{refine_all_says, refine_all_row}
 -- a head of so many cells
 abbrev pub head_with : ℕ → Given → Head
 head_with count g = record { count = count; max_level = g.board.settings.max_level }
+
+-- an answer's value, of a call that makes roots: how many there are
+abbrev pub rooted_said : Result Head Refusal → Said
+rooted_said = said (λ head. head.count ∷ [])
 
 -- the roots
 abbrev pub roots_say : Given → Said

@@ -33,6 +33,24 @@ impl Leaf {
     }
 }
 
+impl Node {
+    ghost use Rattle.leafnet_text.specs.Listed.{node_in};
+
+    // The node of a number and a row: layer, component, x, y.
+    fn new(number: usize, row: &[i64; 4]) -> Node
+        ensures { result ≡ node_in (number, row.now) }
+    {
+        let [layer, component, x, y] = *row;
+        Node {
+            number,
+            layer,
+            component,
+            x,
+            y,
+        }
+    }
+}
+
 fn write_leaves(text: &mut String, row: &[i64], order: &[u64]) -> Result<(), AllocError>
     requires { All (λ id. id * 8 + 8 ≤ length row.now) order.now }
     ensures { OnOk result (string_bytes text.new ≡ string_bytes text.old ++ leaf_lines row.now order.now) }
@@ -48,14 +66,7 @@ fn write_nodes(text: &mut String, nodes: &[[i64; 4]]) -> Result<(), AllocError>
     ensures { OnOk result (string_bytes text.new ≡ string_bytes text.old ++ node_row_lines nodes.now) }
 {
     for (number, row) in nodes.iter().enumerate() {
-        let [layer, component, x, y] = *row;
-        let node = Node {
-            number,
-            layer,
-            component,
-            x,
-            y,
-        };
+        let node = Node::new(number, row);
         writeln!(text, "{node}")?;
     }
     Ok(())
