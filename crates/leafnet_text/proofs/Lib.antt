@@ -8,3 +8,4 @@ pub mod Steps
 pub mod Nets
 pub mod Narrowing
 pub mod Reading
+pub mod Tabled

@@ -63,6 +63,8 @@ finite-number (fin s m e) h = tt
 
 -- what a call leaves that answered these counts
 pub record Left (w : Rules.Net) (c : Counts) (nodes : List ℤ) (ends : List ℕ) (gs : List Float) : Type 0 where
+  pub node_count : c.nodes ≡ length w.nodes
+  pub edge_count : c.edges ≡ length w.edges
   pub few_nodes : c.nodes ≤ NODES
   pub few_edges : c.edges ≤ EDGES
   pub nodes_listed : take c.nodes (first_chunks 4 NODES nodes) ≡ map node_nums w.nodes
@@ -122,6 +124,8 @@ module _ (t : List ℤ) (n m : ℕ) (p : Polygons) (c : Counts) (r : Rows) (e : 
       let call : AcceptedCall = record { table = t; count = n; max_level = m; polygons = p; lent = net_rows; counts = c.nodes ∷ c.edges ∷ c.cells ∷ []; accepting = sym e } in
       let conduct : All (λ (e : Rules.Edge). NotNan e.g) w.edges = λ k d h. finite-number _ (edges-conduct call k d h).finite in
       record {
+        node_count = nodes-are;
+        edge_count = edges_are;
         few_nodes = omega (arith, nodes-are, nodes-fit);
         few_edges = omega (arith, edges_are, edges-fit);
         nodes_listed =

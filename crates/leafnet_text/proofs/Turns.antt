@@ -1,5 +1,5 @@
 -- Items and pairs of lists up to a place: one more. Assumes nothing.
-use Rattle.std.proofs.Common.{ℕ, zero, suc, ◌+◌, ◌<◌, ◌≡◌, refl, sym, ap, ◌∙◌, List, [], ◌∷◌, ◌++◌, add-zero, add-one, arith, length, get_or, take, length-take-le}
+use Rattle.std.proofs.Common.{ℕ, zero, suc, ◌+◌, ◌<◌, ◌≡◌, refl, sym, ap, ◌∙◌, List, [], ◌∷◌, ◌++◌, append_assoc, add-zero, add-one, arith, length, get_or, take, length-take-le}
 use Rattle.std.specs.List.{enumerate_from, zip}
 use Rattle.std.proofs.lemmas.List.{take_more}
 
@@ -27,3 +27,8 @@ zip-more {A = A} {B = B} xs ys i d e h k = rw add-one (go xs ys i h k)
     go (x ∷ xs) [] i h k = absurd (omega arith)
     go (x ∷ xs) (y ∷ ys) zero h k = refl
     go (x ∷ xs) (y ∷ ys) (suc i) h k = ap (λ l. (x, y) ∷ l) (go xs ys i (omega arith) (omega arith))
+
+-- four texts, each behind what there was
+pub joined : (a b c d : List ℕ) {s t u v w c' d' : List ℕ} → s ≡ [] → t ≡ s ++ a → u ≡ t ++ b → v ≡ u ++ c → c ≡ c' → w ≡ v ++ d → d ≡ d' → w ≡ a ++ (b ++ (c' ++ d'))
+joined a b c d {c' = c'} {d' = d'} none first second third same fourth alike =
+    fourth ∙ (λ i. third i ++ alike i) ∙ (λ i. (second i ++ same i) ++ d') ∙ (λ i. ((first i ++ b) ++ c') ++ d') ∙ (λ i. (((none i ++ a) ++ b) ++ c') ++ d') ∙ simp append_assoc

@@ -63,7 +63,7 @@ totals_of row head splits net =
     }
 
 -- of a table, what balance split, and its net
-abbrev pub lines_text : List ℤ → Head → ℕ → Net.Net → List ℕ
+unfoldable pub lines_text : List ℤ → Head → ℕ → Net.Net → List ℕ
 lines_text row head splits net =
     ended (totals_line (totals_of row head splits net))
     ++ (leaf_lines row (order_in row head) ++ (node_lines net.nodes ++ edge_lines net.edges))

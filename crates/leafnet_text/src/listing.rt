@@ -4,10 +4,16 @@ ghost use Rattle.std.specs.Float.{NotNan};
 ghost use Rattle.leafnet_text.specs.Output.{leaf_lines};
 ghost use Rattle.leafnet_text.specs.Listed.{node_row_lines, edge_row_lines};
 
-use crate::lines::{Corners, Edge, Leaf, Node};
+use crate::input::Board;
+use crate::lines::{Corners, Edge, Leaf, Node, Totals};
+use crate::mesh::Mesh;
+use crate::netlist::Net;
+use crate::rooms::LEAVES;
+use crate::stop::Stop;
 use cell::ticks::ticks;
-use std::alloc::AllocError;
+use std::alloc::{AllocError, Global};
 use std::fmt::Write as _;
+use table::leaves::leaf_order;
 use table::slots::cell_at;
 
 impl Leaf {
@@ -91,4 +97,42 @@ fn write_edges(
         writeln!(text, "{edge}")?;
     }
     Ok(())
+}
+
+impl Mesh {
+    ghost use Rattle.leafnet_text.specs.Boards.{given_of, polygons_of};
+    ghost use Rattle.leafnet_text.specs.Listed.{listed_text};
+    ghost use Rattle.leafnet_text.specs.Output.{Prints, table_text};
+
+    // The lines of a mesh with this leaf order, and of its net.
+    #[tactic(auto, unfolding(crate::specs::Listed::listed_text))]
+    fn lines(&self, alloc: Global, order: &[u64], net: &Net) -> Result<String, AllocError>
+        requires { All (λ id. id * 8 + 8 ≤ length self.now.row) order.now }
+        ensures { IfOk result (λ text. string_bytes text ≡ listed_text self.now order.now net.now) }
+    {
+        let totals = Totals {
+            cells: self.head.count,
+            leaves: order.len(),
+            nodes: net.counts.nodes,
+            edges: net.counts.edges,
+            splits: self.splits,
+        };
+        let mut text = String::new(alloc);
+        writeln!(text, "{totals}")?;
+        write_leaves(&mut text, &self.row, order)?;
+        write_nodes(&mut text, net.nodes())?;
+        write_edges(&mut text, net.ends(), net.conductances())?;
+        Ok(text)
+    }
+
+    /// The text of a mesh of this board, or the refusal of its leaf order or its net.
+    pub fn text(&self, alloc: Global, board: &Board) -> Result<String, Stop>
+        ensures { Prints result (λ text. string_bytes text)
+            (table_text self.now.row self.now.head self.now.splits (polygons_of (given_of board.now))) }
+    {
+        let mut order = [0u64; LEAVES];
+        let leaves = leaf_order(&self.row, self.head, &mut order)?;
+        let net = Net::of_mesh(self, board)?;
+        Ok(self.lines(alloc, &order[..leaves], &net)?)
+    }
 }

@@ -1,5 +1,6 @@
 //! The net of a mesh in rows, to be printed.
-ghost use Rattle.std.specs.Prelude.{◌≡◌, ◌≤◌};
+ghost use Rattle.std.specs.Prelude.{◌≡◌, ◌≤◌, All, length, take};
+ghost use Rattle.std.specs.Float.{NotNan};
 ghost use Rattle.leafnet_text.specs.declared.netlist.TheConstants.{NODES, EDGES};
 
 use crate::input::Board;
@@ -23,7 +24,7 @@ const CORNERS: usize = 4 * LEAVES;
 
 const WORK: usize = 64 * LEAVES;
 
-/// A net: four numbers a node, two ends and a conductance an edge, at the front of each row.
+/// A net: four numbers a node, two ends and a conductance an edge, from each row's start on. No conductance is a NaN.
 #[derive(Clone, Copy)]
 pub struct Net {
     pub nodes: [i64; NODE_NUMBERS],
@@ -32,6 +33,7 @@ pub struct Net {
     pub counts: Counts,
     ghost few_nodes: { counts.nodes ≤ NODES },
     ghost few_edges: { counts.edges ≤ EDGES },
+    ghost numbers: { All NotNan (take counts.edges conductances) },
 }
 
 impl Net {
@@ -39,16 +41,12 @@ impl Net {
     ghost use Rattle.network.specs.Says.{net_of, network_says};
     ghost use Rattle.leafnet_text.specs.Rooms.{net_rows};
     ghost use Rattle.leafnet_text.specs.Boards.{given_of, polygons_of};
-    ghost use Rattle.leafnet_text.specs.Nets.{nodes_in, ends_in, conductances_in, IsNet};
-    ghost use Rattle.leafnet_text.specs.Output.{PrintsNext, unless_refused, lines_text};
+    ghost use Rattle.leafnet_text.specs.Nets.{net_said, nodes_in, ends_in, conductances_in, IsNet};
 
     /// The net of a mesh.
     pub fn of_mesh(mesh: &Mesh, board: &Board) -> Result<Net, Refusal>
-        ensures text { let polygons = polygons_of (given_of board.now) in
-            let text = lines_text mesh.now.row mesh.now.head mesh.now.splits
-                (net_of mesh.now.row mesh.now.head.count polygons) in
-            PrintsNext result (λ _. text)
-                (unless_refused (network_says mesh.now.row mesh.now.head.count mesh.now.head.max_level polygons net_rows) text) }
+        ensures says { net_said result
+            ≡ network_says mesh.now.row mesh.now.head.count mesh.now.head.max_level (polygons_of (given_of board.now)) net_rows }
         ensures net { IfOk result (IsNet (net_of mesh.now.row mesh.now.head.count (polygons_of (given_of board.now)))) }
     {
         let mut nodes = [0i64; NODE_NUMBERS];
@@ -88,14 +86,16 @@ impl Net {
 
     /// The two ends of each edge.
     pub fn ends(&self) -> &[[u64; 2]]
-        ensures { result.now ≡ ends_in self.now }
+        ensures rows { result.now ≡ ends_in self.now }
+        ensures count { length result.now ≡ self.now.counts.edges }
     {
         let (ends, _) = self.ends.as_chunks();
         &ends[..self.counts.edges]
     }
 
     pub fn conductances(&self) -> &[f64]
-        ensures { result.now ≡ conductances_in self.now }
+        ensures rows { result.now ≡ conductances_in self.now }
+        ensures count { length result.now ≡ self.now.counts.edges }
     {
         &self.conductances[..self.counts.edges]
     }
