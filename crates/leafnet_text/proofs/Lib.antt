@@ -9,3 +9,5 @@ pub mod Nets
 pub mod Narrowing
 pub mod Reading
 pub mod Tabled
+pub mod Worked
+pub mod Unread

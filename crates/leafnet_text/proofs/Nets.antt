@@ -1,8 +1,8 @@
 -- What the network call leaves in the program's rows. Assumes nothing.
 use lib.Ieee.{Float}
-use Rattle.std.proofs.Common.{ℕ, zero, suc, ◌*◌, ◌≤◌, ◌≡◌, refl, sym, ap, ◌∙◌, Bool, true, false, cond, List, [], ◌∷◌, ◌++◌, map, arith, leb, ℤ, pos, length, get_or, take, drop, All, IsTrue, T}
+use Rattle.std.proofs.Common.{ℕ, zero, suc, ◌≤◌, ◌≡◌, refl, sym, ap, ◌∙◌, Bool, true, false, cond, List, [], ◌∷◌, ◌++◌, map, arith, leb, ℤ, pos, length, get_or, take, drop, All, IsTrue}
 use mathlib.Core.Bool.{false≢true}
-use lib.Ieee.{nan, inf, fin, is_nan, binary64, of_bits}
+use lib.Ieee.{nan, inf, fin, is_nan}
 use lib.ListN.{length-map, length-replicate}
 use Rattle.std.proofs.Math.Seq.{take-append_seam}
 use Rattle.std.proofs.lemmas.List.Elements.{All-map, All-same}
@@ -16,7 +16,6 @@ use Rattle.floats.specs.Fractions.{in_sheet}
 use Rattle.rows.specs.Parts.{put}
 use Rattle.net.specs.Net as Rules
 use Rattle.net.specs.Net.{each}
-use Rattle.net.specs.Laws.{IsPositive}
 use Rattle.places.specs.Places.{node_nums, end_nums}
 use Rattle.network.specs.Says.{Polygons, Rows, fits, sheets_from, roomy, net_of, filled, counted, network_says, network_leaves}
 use Rattle.network.specs.Laws.{AcceptedCall}

@@ -1,5 +1,5 @@
 -- The rows that a record was read to give its board. Assumes nothing.
-use Rattle.std.proofs.Common.{ℕ, ◌+◌, ◌≤◌, ◌<◌, ◌≡◌, refl, sym, ap, ap₂, subst, ◌∙◌, Bool, true, ◌&&◌, List, [], ◌∷◌, map, leb, length, get_or, take, length-append, leb-true}
+use Rattle.std.proofs.Common.{ℕ, ◌+◌, ◌≤◌, ◌<◌, ◌≡◌, refl, sym, ap, ap₂, subst, ◌∙◌, true, ◌&&◌, List, [], ◌∷◌, map, leb, length, get_or, take, length-append, leb-true}
 use mathlib.Core.List.{map-map}
 use lib.ListN.{length-map, length-replicate}
 use Rattle.refusals.specs.Said.{accepted, refusal}
@@ -18,7 +18,7 @@ use Rattle.record.proofs.Walks.{then-value, require-value}
 use Rattle.board.specs.Rows.{Rows, entry_row, polygon_row, sheet_of, point_row, rings, filled}
 use Rattle.board.specs.Reading.{numbers, has_room, reading, says, leaves}
 use Rattle.leafnet_text.specs.Rooms.{layer_room, polygon_room, point_room, split_room, record_rows}
-use Rattle.leafnet_text.specs.Boards.{Given, given, given_by, settings_of, board_in, column, AreNarrow}
+use Rattle.leafnet_text.specs.Boards.{given, given_by, settings_of, board_in, column, AreNarrow}
 use Rattle.leafnet_text.specs.Output.{unless_refused, board_text, record_text}
 use Rattle.leafnet_text.proofs.Fronts.{front}
 use Rattle.leafnet_text.proofs.Narrowing.{record-narrow}

@@ -1,7 +1,7 @@
 -- Leaf after leaf: one id more, the first refusal, and the values of the end. Assumes nothing.
-use Rattle.std.proofs.Common.{ℕ, ◌+◌, ◌*◌, ◌≡◌, refl, sym, ap, ◌∙◌, Bool, true, false, List, [], ◌∷◌, ℤ, length, arith, ◌++◌}
+use Rattle.std.proofs.Common.{ℕ, ◌+◌, ◌*◌, ◌≡◌, refl, sym, ap, ◌∙◌, Bool, true, false, List, [], ◌∷◌, ℤ, length, arith}
 use mathlib.Core.Bool.{false≢true}
-use Rattle.refusals.specs.Said.{accepted, refused, refusal, is_accepted}
+use Rattle.refusals.specs.Said.{accepted, is_accepted}
 use Rattle.table.specs.declared.Head.{Head}
 use Rattle.table.specs.Rows.{head_of}
 use Rattle.table.specs.Refine.{refine_says, refined_row}

@@ -1,22 +1,19 @@
 -- From a board to its balanced table: what is printed where a step refuses, and what an accepted step leaves. Assumes nothing.
-use Rattle.std.proofs.Common.{ℕ, ◌+◌, ◌-◌, ◌*◌, ◌/◌, ◌≡◌, sym, ap, ◌∙◌, Bool, true, false, cond, List, [], ◌∷◌, leb, ℤ, length}
+use Rattle.std.proofs.Common.{ℕ, ◌-◌, ◌/◌, ◌≡◌, sym, ap, ◌∙◌, Bool, true, false, cond, List, [], ◌∷◌, leb, ℤ, length}
 use Rattle.refusals.specs.declared.Refusal.{Refusal}
 use Rattle.refusals.specs.declared.Refusal.TheVariants.{BadTable, NoRoom}
-use Rattle.refusals.specs.Said.{Said, accepted, refused, refusal}
+use Rattle.refusals.specs.Said.{Said, accepted, refusal}
 use Rattle.strips.specs.Said.{if_accepted}
 use Rattle.table.specs.declared.Head.{Head}
 use Rattle.table.specs.Rows.{head_of}
 use Rattle.table.specs.Formed.{well_formed}
-use Rattle.build.specs.Board.{roots_of}
-use Rattle.build.specs.Says.{build_says}
 use Rattle.build.proofs.Fitting.{refused-accepted}
 use Rattle.build.proofs.Formed.{passed-size}
 use Rattle.coarsest.specs.declared.Engine.TheVariants.{Balancing}
-use Rattle.even.specs.Even.{even_cells, even_says, even_row}
+use Rattle.even.specs.Even.{even_cells, even_says}
 use Rattle.leafnet_text.specs.Rooms.{table_room}
 use Rattle.leafnet_text.specs.Boards.{Given, polygons_of}
-use Rattle.leafnet_text.specs.Refining.{refine_all_says, refine_all_row}
-use Rattle.leafnet_text.specs.Growing.{roots_say, roots_row, roots_head, splits_say, split_row, split_head, balance_says, balanced_cells, balanced_row, balanced_head, balance_splits}
+use Rattle.leafnet_text.specs.Growing.{roots_say, roots_row, roots_head, splits_say, split_row, split_head, balance_says, balanced_row, balanced_head, balance_splits}
 use Rattle.leafnet_text.specs.Output.{unless_refused, table_text, board_text}
 use Rattle.leafnet_text.proofs.Refusing.{refused-text}
 use Rattle.leafnet_text.proofs.Refining.{all-values}

@@ -1,13 +1,12 @@
 -- From a balanced table to its text: its leaf order, its net, and the lines of both. Assumes nothing.
-use Rattle.std.proofs.Common.{ℕ, ◌+◌, ◌*◌, ◌<◌, ◌≤◌, ◌≡◌, refl, sym, ap, ap₂, subst, ◌∙◌, Bool, true, false, cond, List, [], ◌∷◌, ◌++◌, map, leb, leb-true, arith, ℤ, length, take, drop, get_or, replicate, All}
-use mathlib.Core.Bool.{false≢true}
+use Rattle.std.proofs.Common.{ℕ, ◌+◌, ◌*◌, ◌≤◌, ◌≡◌, refl, sym, ap, ap₂, subst, ◌∙◌, Bool, true, false, cond, List, [], ◌∷◌, ◌++◌, map, leb, leb-true, arith, ℤ, length, take, drop, replicate, All}
 use lib.ListN.{length-replicate}
 use Rattle.std.proofs.Math.Seq.{take-append_seam}
 use Rattle.std.proofs.lemmas.List.Elements.{All-from_get_or}
-use Rattle.std.specs.List.{flat_map, enumerate_from, zip}
+use Rattle.std.specs.List.{flat_map, enumerate_from}
 use Rattle.refusals.specs.declared.Refusal.{Refusal}
 use Rattle.refusals.specs.declared.Refusal.TheVariants.{BadTable, NoRoom}
-use Rattle.refusals.specs.Said.{Said, accepted, refused, refusal, is_accepted}
+use Rattle.refusals.specs.Said.{Said, accepted, refusal, is_accepted}
 use Rattle.table.specs.declared.Head.{Head}
 use Rattle.table.specs.Rows.{order_in}
 use Rattle.table.specs.Formed.{well_formed}
@@ -25,7 +24,7 @@ use Rattle.leafnet_text.specs.declared.netlist.Net.{Net}
 use Rattle.leafnet_text.specs.Lines.{totals_line, node_line, edge_line}
 use Rattle.leafnet_text.specs.Rooms.{leaf_room, net_rows}
 use Rattle.leafnet_text.specs.Nets.{nodes_in, ends_in, conductances_in, IsNet}
-use Rattle.leafnet_text.specs.Output.{ended, leaf_lines, node_of, node_lines, edge_lines, totals_of, lines_text, unless_refused, table_text}
+use Rattle.leafnet_text.specs.Output.{ended, leaf_lines, node_of, node_lines, edge_lines, lines_text, unless_refused, table_text}
 use Rattle.leafnet_text.specs.Listed.{node_in, node_row_lines, edge_row_lines, listed_text}
 use Rattle.leafnet_text.proofs.Refusing.{refused-text}
 

@@ -8,3 +8,4 @@ pub mod Nets
 pub mod Output
 pub mod Listed
 pub mod Held
+pub mod Worked

@@ -1,5 +1,5 @@
 -- The rules' rooms of `leafnet`, and the rows that it lends to the calls.
-use Rattle.std.specs.Prelude.{ℕ, ◌*◌, [], ◌∷◌, pos, replicate}
+use Rattle.std.specs.Prelude.{ℕ, ◌*◌, pos, replicate}
 use Rattle.std.specs.Float.{binary64}
 use Rattle.std.specs.Float.Ieee.{of_bits}
 use Rattle.board.specs.Rows as Record

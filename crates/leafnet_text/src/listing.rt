@@ -78,11 +78,7 @@ fn write_nodes(text: &mut String, nodes: &[[i64; 4]]) -> Result<(), AllocError>
     Ok(())
 }
 
-fn write_edges(
-    text: &mut String,
-    ends: &[[u64; 2]],
-    conductances: &[f64],
-) -> Result<(), AllocError>
+fn write_edges(text: &mut String, ends: &[[u64; 2]], conductances: &[f64]) -> Result<(), AllocError>
     requires one_an_edge { length conductances.now ≡ length ends.now }
     requires numbers { All NotNan conductances.now }
     ensures { OnOk result (string_bytes text.new

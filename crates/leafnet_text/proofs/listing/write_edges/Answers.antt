@@ -1,4 +1,4 @@
-use Rattle.std.proofs.Common.{ℕ, List, [], ◌∷◌, ◌++◌, ◌+◌, ◌≡◌, Float, get_or, sym, ap, ap₂, subst, ◌∙◌, length, string_bytes, take, rules, arith, length-append}
+use Rattle.std.proofs.Common.{ℕ, List, [], ◌∷◌, ◌++◌, ◌+◌, ◌≡◌, Float, get_or, sym, ap, subst, ◌∙◌, length, string_bytes, take, rules, length-append}
 use Rattle.std.specs.Float.{NotNan}
 use Rattle.std.specs.List.{flat_map, zip}
 use Rattle.std.proofs.lemmas.List.{flat_map_more}

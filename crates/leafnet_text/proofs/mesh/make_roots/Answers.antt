@@ -1,6 +1,6 @@
 -- What build says and leaves is what the board's roots say and leave.
-use Rattle.std.proofs.Common.{ℕ, List, ℤ, ◌∷◌, [], ◌≡◌, ◌∙◌, length, rules}
-use Rattle.refusals.specs.Said.{Said, accepted, refusal}
+use Rattle.std.proofs.Common.{◌∷◌, [], ◌≡◌, ◌∙◌, length, rules}
+use Rattle.refusals.specs.Said.{accepted, refusal}
 use Rattle.strips.specs.Said.{if_accepted}
 use Rattle.build.specs.Board.{board}
 use Rattle.build.specs.Says.{build_says, build_leaves, filled}

@@ -1,4 +1,3 @@
-use Rattle.std.proofs.Common.{Err, ◌≡◌, rules}
 use Rattle.board.specs.Rows.{rows_of}
 use Rattle.leafnet_text.proofs.Reading.{held}
 use Rattle.leafnet_text.proofs.input.Rows.read.Goals as goal

@@ -5,7 +5,7 @@ use Rattle.coarsest.specs.declared.Engine.TheVariants.{Balancing}
 use Rattle.even.specs.Even.{even_says, even_row}
 use Rattle.leafnet_text.specs.Boards.{given_of}
 use Rattle.leafnet_text.specs.Refining.{refine_all_says, refine_all_row}
-use Rattle.leafnet_text.specs.Growing.{splits_say, split_row, split_head, balance_says, balanced_row}
+use Rattle.leafnet_text.specs.Growing.{splits_say, split_row, balance_says}
 use Rattle.leafnet_text.proofs.Refusing.{prints-refused}
 use Rattle.leafnet_text.proofs.Steps.{roots-refused, split-refused, split-is, balance-refused, grown-text}
 use Rattle.leafnet_text.proofs.mesh.Mesh.of_board.Goals as goal

@@ -1,5 +1,5 @@
 -- The first refusal is printed, or the lines of the leaf order and the net.
-use Rattle.std.proofs.Common.{◌≡◌, ◌∙◌, ◌∷◌, [], Err, arith, rules, sym, length-take-le}
+use Rattle.std.proofs.Common.{◌≡◌, ◌∙◌, Err, arith, rules, sym, length-take-le}
 use Rattle.leafnet_text.specs.declared.stop.Stop.TheVariants.{Refused}
 use Rattle.leafnet_text.specs.Boards.{given_of, polygons_of}
 use Rattle.leafnet_text.proofs.Refusing.{prints-stopped}

@@ -1,13 +1,11 @@
 -- The call's rows are the program's, and its polygons the board's.
-use lib.Ieee.{Float, binary64, of_bits}
-use lib.ListN.{length-replicate}
-use Rattle.std.proofs.Common.{ℕ, List, ℤ, pos, ◌≡◌, ◌∙◌, ◌∷◌, [], length, rules}
-use Rattle.refusals.specs.Said.{accepted, refusal}
+use Rattle.std.proofs.Common.{◌≡◌, ◌∙◌, rules}
+use Rattle.refusals.specs.Said.{refusal}
 use Rattle.network.specs.Says.{polygons, rows, network_says, network_leaves}
 use Rattle.leafnet_text.specs.Rooms.{net_rows}
 use Rattle.leafnet_text.specs.Boards.{given_of, polygons_of}
 use Rattle.leafnet_text.specs.Nets.{net_said}
-use Rattle.leafnet_text.proofs.Nets.{Left, net-left}
+use Rattle.leafnet_text.proofs.Nets.{net-left}
 use Rattle.leafnet_text.proofs.netlist.Net.of_mesh.Goals as goal
 
 pub returns-in_err-counts-clause-says : goal.returns-in_err-counts-clause-says
