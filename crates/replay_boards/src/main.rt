@@ -5,13 +5,13 @@
 //! write `stdout`.
 #![tactic(auto)]
 
+use std::alloc::Global;
 use std::io;
 use std::io::{Read, Write};
 
-fn print<W: Write>(out: &mut W, record: &[u8]) -> io::Result<()> {
-    let mut text = [0u8; printing::TEXT];
-    let n = printing::text(record, &mut text);
-    out.write_all(&text[..n])
+fn print<W: Write>(alloc: Global, out: &mut W, record: &[u8]) -> io::Result<()> {
+    let text = leafnet_text::text_of(alloc, record)?;
+    out.write_all(text.as_bytes())
 }
 
 // The first record and what stands behind it; none where no whole record is left.
@@ -29,7 +29,7 @@ fn main(rt: HostRuntime) -> io::Result<()> {
         let Some((record, rest)) = split_record(left) else {
             break;
         };
-        print(&mut out, record)?;
+        print(rt.alloc(), &mut out, record)?;
         left = rest;
     }
     Ok(())

@@ -1,0 +1,52 @@
+-- What a refusal prints. Assumes nothing.
+use Rattle.std.proofs.Common.{◌<◌, ◌≤◌, ◌≡◌, refl, length, le-leb, sym, ap, subst, ◌∙◌, false, List, ℕ, [], Result, Err}
+use Rattle.refusals.specs.declared.Refusal.{Refusal}
+use borrow.Author.Tests.{lt-leb}
+use Rattle.refusals.specs.Said.{Said, refused, refusal, is_accepted}
+use Rattle.refusals.proofs.Settled.{as-refused}
+use Rattle.leafnet_text.specs.declared.stop.Stop.{Stop}
+use Rattle.leafnet_text.specs.declared.stop.Stop.TheVariants.{Refused, OutOfMemory}
+use Rattle.leafnet_text.specs.Lines.{refusal_line}
+use Rattle.leafnet_text.specs.Rooms.{input_room}
+use Rattle.leafnet_text.specs.Boards.{board_in}
+use Rattle.leafnet_text.specs.Output.{ended, unless_refused, record_text, output_text, Prints, PrintsNext}
+
+-- a refusal prints itself, whatever text there would be
+pub refused-text : (why : Refusal) (said : Said) (text : List ℕ) → refusal why ≡ said → unless_refused said text ≡ unless_refused (refusal why) []
+refused-text why said text e =
+    let r = as-refused why in
+    ap (λ (s : Said). unless_refused s text) (sym e ∙ r.2) ∙ sym (ap (λ (s : Said). unless_refused s []) r.2)
+
+-- on a line of its own
+pub refused-line : (why : Refusal) → unless_refused (refusal why) [] ≡ ended (refusal_line (refusal why))
+refused-line why =
+    let r = as-refused why in
+    ap (λ (s : Said). unless_refused s []) r.2 ∙ sym (ap (λ (s : Said). ended (refusal_line s)) r.2)
+
+-- a refusal is not accepted
+pub not-accepted : (why : Refusal) → is_accepted (refusal why) ≡ false
+not-accepted why = let r = as-refused why in ap is_accepted r.2
+
+-- an answer that is this refusal
+pub prints-refused : {A : Type 0} (r : Result A Refusal) (why : Refusal) (next : A → List ℕ) (text : List ℕ)
+    → r ≡ Err why → text ≡ unless_refused (refusal why) [] → PrintsNext r next text
+prints-refused r why next text e h = subst (λ x. PrintsNext x next text) (sym e) h
+
+pub prints-stopped : {A : Type 0} (r : Result A Stop) (why : Refusal) (next : A → List ℕ) (text : List ℕ)
+    → r ≡ Err (Refused why) → text ≡ unless_refused (refusal why) [] → Prints r next text
+prints-stopped r why next text e h = subst (λ x. Prints x next text) (sym e) h
+
+-- an answer that another step's is passed on as
+pub prints-passed : {A B : Type 0} (stop : Stop) (r : Result B Stop) (made : A → List ℕ) (next : B → List ℕ) (text text' : List ℕ)
+    → r ≡ Err stop → text ≡ text' → Prints {A = A} (Err stop) made text' → Prints r next text
+prints-passed (Refused why) r made next text text' e h p = subst (λ x. Prints x next text) (sym e) (h ∙ p)
+prints-passed (OutOfMemory o) r made next text text' e h p = subst (λ x. Prints x next text) (sym e) tt
+
+-- input that is too long, and input that is read
+pub too_long : (s : List ℕ) → input_room < length s → output_text s ≡ unless_refused (refused 6 0) []
+unfolding output_text
+too_long s h = rw (lt-leb (length s) input_room h) refl
+
+pub short-enough : (s : List ℕ) → length s ≤ input_room → output_text s ≡ record_text (board_in s)
+unfolding output_text
+short-enough s h = rw (le-leb (length s) input_room h) refl

@@ -1,0 +1,17 @@
+-- Of input that is too long no more is read than shows it. Assumes nothing.
+use Rattle.std.proofs.Common.{ℕ, ◌+◌, ◌<◌, ◌≡◌, refl, sym, ap, ◌∙◌, Bool, true, false, List, arith, leb, leb-true, length, take, length-take-le}
+use borrow.Author.Tests.{leb-false}
+use Rattle.std.proofs.lemmas.List.{take_all}
+use Rattle.leafnet_text.specs.Rooms.{input_room}
+use Rattle.leafnet_text.specs.Output.{output_text}
+use Rattle.leafnet_text.proofs.Refusing.{too_long}
+
+pub unread : (s : List ℕ) → output_text (take (input_room + 1) s) ≡ output_text s
+unread s = by (leb (length s) input_room) refl
+  where
+    by : (b : Bool) → leb (length s) input_room ≡ b → output_text (take (input_room + 1) s) ≡ output_text s
+    by true e = ap output_text (take_all (input_room + 1) s (omega (arith, leb-true (length s) input_room e)))
+    by false e =
+        let more : input_room < length s = leb-false (length s) input_room e in
+        let longer : input_room < length (take (input_room + 1) s) = omega (arith, length-take-le (input_room + 1) s (omega arith)) in
+        too_long (take (input_room + 1) s) longer ∙ sym (too_long s more)

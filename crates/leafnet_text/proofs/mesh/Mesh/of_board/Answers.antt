@@ -1,0 +1,60 @@
+-- The first refusal is printed, or the text is the table's.
+use Rattle.std.proofs.Common.{◌≡◌, ◌∙◌, ◌∷◌, [], Err, rules}
+use Rattle.refusals.specs.Said.{accepted, refusal}
+use Rattle.coarsest.specs.declared.Engine.TheVariants.{Balancing}
+use Rattle.even.specs.Even.{even_says, even_row}
+use Rattle.leafnet_text.specs.Boards.{given_of}
+use Rattle.leafnet_text.specs.Refining.{refine_all_says, refine_all_row}
+use Rattle.leafnet_text.specs.Growing.{splits_say, split_row, balance_says}
+use Rattle.leafnet_text.proofs.Refusing.{prints-refused}
+use Rattle.leafnet_text.proofs.Steps.{roots-refused, split-refused, split-is, balance-refused, grown-text}
+use Rattle.leafnet_text.proofs.mesh.Mesh.of_board.Goals as goal
+
+pub returns-in_err-roots : goal.returns-in_err-roots
+returns-in_err-roots c =
+    let x = c.in_err-roots in
+    let same : c.from_residual.result ≡ Err x.field-0.0 = search rules in
+    prints-refused c.from_residual.result x.field-0.0 _ _ same
+    (roots-refused (given_of c.args.board.now) x.field-0.0 x.ensures.says)
+
+pub returns-in_err-refined : goal.returns-in_err-refined
+returns-in_err-refined c =
+    let g = given_of c.args.board.now in
+    let d = c.in_ok-roots in
+    let x = c.in_err-refined in
+    let same : c.from_residual-in_err-refined.result ≡ Err x.field-0.0 = search rules in
+    let split : refusal x.field-0.0 ≡ splits_say g =
+    x.ensures.says ∙ (λ i. refine_all_says (d.ensures.row_after i) (d.ensures.head i) (c.deref.ensures.value i)) in
+    prints-refused c.from_residual-in_err-refined.result x.field-0.0 _ _ same
+    (split-refused g d.roots.count x.field-0.0 d.ensures.says split)
+
+pub returns-in_err-splits : goal.returns-in_err-splits
+returns-in_err-splits c =
+    let g = given_of c.args.board.now in
+    let d = c.in_ok-roots in
+    let r = c.in_ok-refined in
+    let x = c.in_err-splits in
+    let same : c.from_residual-in_err-splits.result ≡ Err x.field-0.0 = search rules in
+    let split : accepted (r.refined.count ∷ r.refined.max_level ∷ []) ≡ splits_say g =
+    r.ensures.says ∙ (λ i. refine_all_says (d.ensures.row_after i) (d.ensures.head i) (c.deref.ensures.value i)) in
+    let row : c.refine_all.new.row ≡ split_row g =
+    r.ensures.row_after ∙ (λ i. refine_all_row (d.ensures.row_after i) (d.ensures.head i) (c.deref.ensures.value i)) in
+    let head = split-is g r.refined split in
+    let even : refusal x.field-0.0 ≡ balance_says g = x.ensures.says ∙ (λ i. even_says Balancing 1 (row i) (head i)) in
+    prints-refused c.from_residual-in_err-splits.result x.field-0.0 _ _ same
+    (balance-refused g d.roots.count r.refined.count r.refined.max_level x.field-0.0 d.ensures.says split even)
+
+pub returns : goal.returns
+returns c =
+    let g = given_of c.args.board.now in
+    let d = c.in_ok-roots in
+    let r = c.in_ok-refined in
+    let x = c.in_ok-splits in
+    let split : accepted (r.refined.count ∷ r.refined.max_level ∷ []) ≡ splits_say g =
+    r.ensures.says ∙ (λ i. refine_all_says (d.ensures.row_after i) (d.ensures.head i) (c.deref.ensures.value i)) in
+    let row : c.refine_all.new.row ≡ split_row g =
+    r.ensures.row_after ∙ (λ i. refine_all_row (d.ensures.row_after i) (d.ensures.head i) (c.deref.ensures.value i)) in
+    let head = split-is g r.refined split in
+    grown-text g d.roots.count r.refined.count r.refined.max_level x.field-0.splits x.field-0.head c.balance.new.row
+    d.ensures.says split (x.ensures.says ∙ (λ i. even_says Balancing 1 (row i) (head i)))
+    (x.ensures.row_after ∙ (λ i. even_row Balancing 1 (row i) (head i)))

@@ -1,0 +1,11 @@
+-- What leafnet prints.
+pub mod Lines
+pub mod Rooms
+pub mod Boards
+pub mod Refining
+pub mod Growing
+pub mod Nets
+pub mod Output
+pub mod Listed
+pub mod Held
+pub mod Worked

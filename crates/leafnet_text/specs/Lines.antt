@@ -1,0 +1,51 @@
+-- The rules' lines of `leafnet`, each without its newline.
+use Rattle.std.specs.Prelude.{ℕ, ◌-◌, List, [], ◌++◌, codes, decimal, false, length, replicate, Float}
+use Rattle.std.specs.Fmt.{signed_decimal, digits}
+use Rattle.std.specs.Float.{binary64}
+use Rattle.std.specs.Float.Ieee.{to_bits}
+use Rattle.refusals.specs.Said.{Said, accepted, refused}
+use Rattle.leafnet_text.specs.declared.lines.Totals.{Totals}
+use Rattle.leafnet_text.specs.declared.lines.Corners.{Corners}
+use Rattle.leafnet_text.specs.declared.lines.Leaf.{Leaf}
+use Rattle.leafnet_text.specs.declared.lines.Node.{Node}
+
+abbrev pub space : List ℕ
+space = codes " "
+
+abbrev pub totals_line : Totals → List ℕ
+totals_line t =
+    codes "cells " ++ (decimal t.cells
+    ++ (codes " leaves " ++ (decimal t.leaves
+    ++ (codes " nodes " ++ (decimal t.nodes
+    ++ (codes " edges " ++ (decimal t.edges
+    ++ (codes " splits " ++ decimal t.splits))))))))
+
+-- x0 y0 x1 y1
+abbrev pub corners_text : Corners → List ℕ
+corners_text c =
+    signed_decimal c.x0 ++ (space ++ (signed_decimal c.y0 ++ (space ++ (signed_decimal c.x1 ++ (space ++ signed_decimal c.y1)))))
+
+-- id polygon level, and the corners
+abbrev pub leaf_line : Leaf → List ℕ
+leaf_line l =
+    codes "leaf " ++ (decimal l.id ++ (space ++ (decimal l.polygon ++ (space ++ (decimal l.level ++ (space ++ corners_text l.corners))))))
+
+-- number layer component x y
+abbrev pub node_line : Node → List ℕ
+node_line n =
+    codes "node " ++ (decimal n.number ++ (space ++ (signed_decimal n.layer ++ (space ++ (signed_decimal n.component
+    ++ (space ++ (signed_decimal n.x ++ (space ++ signed_decimal n.y))))))))
+
+-- 64 bits as 16 lower-case digits in base 16: zeros stand in front of a number of fewer
+abbrev pub hex_16 : ℕ → List ℕ
+hex_16 n = replicate (16 - length (digits 16 false n)) 48 ++ digits 16 false n
+
+-- the two ends, and the conductance's binary64 bits
+abbrev pub edge_line : ℕ → ℕ → Float → List ℕ
+edge_line from to conductance =
+    codes "edge " ++ (decimal from ++ (space ++ (decimal to ++ (space ++ hex_16 (to_bits binary64 conductance)))))
+
+-- number and place of a refusal
+abbrev pub refusal_line : Said → List ℕ
+refusal_line (refused number place) = codes "refused " ++ (decimal number ++ (space ++ decimal place))
+refusal_line (accepted values) = []

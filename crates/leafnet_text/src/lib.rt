@@ -1,0 +1,74 @@
+//! leafnet from a record's bytes to its text, over any reader and any writer.
+#![tactic(auto)]
+
+ghost use Rattle.std.specs.Prelude.{◌≡◌, IfOk, IfSome, OnOk, string_bytes};
+ghost use Rattle.std.specs.Io.KnownBytes.{Appends};
+ghost use Rattle.leafnet_text.specs.Output.{Prints, output_text};
+
+pub mod input;
+pub mod laws;
+pub mod lines;
+pub mod listing;
+pub mod mesh;
+pub mod netlist;
+pub mod rooms;
+pub mod stop;
+
+use input::Board;
+use lines::Refused;
+use mesh::Mesh;
+use refusals::Refusal;
+use rooms::INPUT;
+use std::alloc::{AllocError, Global};
+use std::io;
+use std::io::{Read, Write};
+use stop::Stop;
+
+// The text of a record that nothing refuses.
+fn accepted_text(alloc: Global, record: &[u8]) -> Result<String, Stop>
+    ensures { Prints result (λ text. string_bytes text) (output_text «record».now) }
+{
+    if INPUT < record.len() {
+        return Err(Stop::Refused(Refusal::NoRoom));
+    }
+    let board = Board::read(alloc, record)?;
+    let mesh = Mesh::of_board(&board)?;
+    mesh.text(alloc, &board)
+}
+
+/// All that leafnet prints for a record.
+pub fn text_of(alloc: Global, record: &[u8]) -> Result<String, AllocError>
+    ensures { IfOk result (λ text. string_bytes text ≡ output_text «record».now) }
+{
+    match accepted_text(alloc, record) {
+        Ok(text) => Ok(text),
+        Err(Stop::Refused(why)) => {
+            let refused = Refused(why);
+            format!(in alloc; "{refused}\n")
+        }
+        Err(Stop::OutOfMemory(why)) => Err(why),
+    }
+}
+
+// As much of the input as its text depends on: one byte more than a record may have shows that it is too long.
+fn read_input<R: Read>(alloc: Global, reader: &mut R) -> io::Result<Vec<u8>>
+    ensures { IfOk result (λ input. IfSome (R.remaining reader.old) (λ all. output_text input.items ≡ output_text all)) }
+{
+    let mut input = Vec::new(alloc);
+    reader.take(INPUT as u64 + 1).read_to_end(&mut input)?;
+    Ok(input)
+}
+
+/// Reads a record and writes its text. An error of the reader, of the writer or of the memory is handed on; before the
+/// whole input is read nothing is written.
+pub fn leafnet<R: Read, W: Write>(alloc: Global, reader: &mut R, writer: &mut W) -> io::Result<()>
+    ensures { OnOk result (IfSome (R.remaining reader.old) (λ input.
+        Appends (W.contents writer.old) (W.contents writer.new) (output_text input))) }
+{
+    let input = read_input(alloc, reader)?;
+    let text = text_of(alloc, &input)?;
+    writer.write_all(text.as_bytes())
+}
+
+#[cfg(test)]
+mod tests;

@@ -1,0 +1,71 @@
+//! From a board to its balanced table: roots, the record's splits, balance.
+ghost use Rattle.std.specs.Prelude.{◌≡◌, IfOk, OnOk};
+ghost use Rattle.table.specs.Refine.{refined_said};
+ghost use Rattle.leafnet_text.specs.Boards.{given_of};
+ghost use Rattle.leafnet_text.specs.Refining.{refine_all_says, refine_all_row};
+ghost use Rattle.leafnet_text.specs.Growing.{rooted_said, roots_say, roots_head, roots_row};
+
+use crate::input::Board;
+use crate::rooms::TABLE;
+use build::outlines::Outlines;
+use even::{Evening, balance};
+use refusals::Refusal;
+use table::Head;
+use table::refine::refine;
+
+/// A balanced table, and how many splits balance made.
+#[derive(Clone, Copy)]
+pub struct Mesh {
+    pub row: [i64; TABLE],
+    pub head: Head,
+    pub splits: usize,
+}
+
+// The roots of a board, into a table that has nothing else.
+fn make_roots(board: &Board, row: &mut [i64; TABLE]) -> Result<Head, Refusal>
+    ensures says { rooted_said result ≡ roots_say (given_of board.now) }
+    ensures head { IfOk result (λ head. head ≡ roots_head (given_of board.now)) }
+    ensures row_after { OnOk result (row.new ≡ roots_row (given_of board.now)) }
+{
+    let outlines = Outlines {
+        layers: &board.layers,
+        components: &board.components,
+        sheets: &board.sheets,
+        counts: &board.counts,
+        points: &board.points,
+    };
+    let count = build::build(board.settings, &board.list, &outlines, row)?;
+    Ok(Head {
+        count,
+        max_level: board.settings.max_level,
+    })
+}
+
+// Splits the leaf of each id in order. The first refusal ends it, and what was split before that stays split.
+fn refine_all(row: &mut [i64], head: Head, ids: &[u64]) -> Result<Head, Refusal>
+    ensures says { refined_said result ≡ refine_all_says row.old head ids.now }
+    ensures row_after { row.new ≡ refine_all_row row.old head ids.now }
+{
+    let mut latest = head;
+    for id in ids {
+        latest = refine(row, latest, *id as usize)?;
+    }
+    Ok(latest)
+}
+
+impl Mesh {
+    ghost use Rattle.leafnet_text.specs.Boards.{polygons_of};
+    ghost use Rattle.leafnet_text.specs.Output.{PrintsNext, board_text, table_text};
+
+    /// The mesh of a board.
+    pub fn of_board(board: &Board) -> Result<Mesh, Refusal>
+        ensures { PrintsNext result (λ m. table_text m.row m.head m.splits (polygons_of (given_of board.now)))
+            (board_text (given_of board.now)) }
+    {
+        let mut row = [0i64; TABLE];
+        let roots = make_roots(board, &mut row)?;
+        let refined = refine_all(&mut row, roots, &board.splits)?;
+        let Evening { splits, head } = balance(&mut row, refined)?;
+        Ok(Mesh { row, head, splits })
+    }
+}

@@ -1,4 +1,0 @@
--- Laws that the proofs of the functions cite.
-pub mod Refusing
-pub mod Nets
-pub mod Boards

@@ -1,3 +1,0 @@
--- The text of a record.
-pub mod Output
-pub mod Lent
