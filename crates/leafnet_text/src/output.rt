@@ -12,10 +12,7 @@ fn write_once<W: Write>(writer: &mut W, bytes: &[u8]) -> io::Result<usize>
     ensures bytes { WriteAppends (W.contents writer.old) (W.contents writer.new) result bytes.now }
 {
     match writer.write(bytes) {
-        Ok(0) => Err(Error::new(
-            ErrorKind::WriteZero,
-            "failed to write whole buffer",
-        )),
+        Ok(0) => Err(Error::new(ErrorKind::WriteZero, "failed to write whole buffer")),
         Err(why) if why.kind() == ErrorKind::Interrupted => Ok(0),
         answer => answer,
     }
