@@ -9,3 +9,4 @@ pub mod Output
 pub mod Listed
 pub mod Held
 pub mod Worked
+pub mod Fronts

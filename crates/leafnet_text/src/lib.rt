@@ -4,6 +4,7 @@
 ghost use Rattle.std.specs.Prelude.{◌≡◌, IfOk, IfSome, OnOk, string_bytes};
 ghost use Rattle.std.specs.Io.KnownBytes.{Appends};
 ghost use Rattle.leafnet_text.specs.Output.{Prints, output_text};
+ghost use Rattle.leafnet_text.specs.Fronts.{AppendsFront};
 
 pub mod input;
 pub mod laws;
@@ -11,6 +12,7 @@ pub mod lines;
 pub mod listing;
 pub mod mesh;
 pub mod netlist;
+pub mod output;
 pub mod rooms;
 pub mod stop;
 
@@ -52,22 +54,25 @@ pub fn text_of(alloc: Global, record: &[u8]) -> Result<String, AllocError>
 
 // As much of the input as its text depends on: one byte more than a record may have shows that it is too long.
 fn read_input<R: Read>(alloc: Global, reader: &mut R) -> io::Result<Vec<u8>>
-    ensures { IfOk result (λ input. IfSome (R.remaining reader.old) (λ all. output_text input.items ≡ output_text all)) }
+    ensures { IfOk result (λ input. IfSome (R.remaining reader.old) (λ all.
+        output_text input.items ≡ output_text all)) }
 {
     let mut input = Vec::new(alloc);
     reader.take(INPUT as u64 + 1).read_to_end(&mut input)?;
     Ok(input)
 }
 
-/// Reads a record and writes its text. An error of the reader, of the writer or of the memory is handed on; before the
-/// whole input is read nothing is written.
+/// Reads a record and writes its text. An error of the reader, of the writer or of the memory is handed on; what is
+/// written by then is a front of that text, and nothing before the input is read.
 pub fn leafnet<R: Read, W: Write>(alloc: Global, reader: &mut R, writer: &mut W) -> io::Result<()>
-    ensures { OnOk result (IfSome (R.remaining reader.old) (λ input.
+    ensures text { OnOk result (IfSome (R.remaining reader.old) (λ input.
         Appends (W.contents writer.old) (W.contents writer.new) (output_text input))) }
+    ensures front { IfSome (R.remaining reader.old) (λ input.
+        AppendsFront (W.contents writer.old) (W.contents writer.new) (output_text input)) }
 {
     let input = read_input(alloc, reader)?;
     let text = text_of(alloc, &input)?;
-    writer.write_all(text.as_bytes())
+    output::write_text(writer, text.as_bytes())
 }
 
 #[cfg(test)]

@@ -46,7 +46,8 @@ impl Net {
     /// The net of a mesh.
     pub fn of_mesh(mesh: &Mesh, board: &Board) -> Result<Net, Refusal>
         ensures says { net_said result
-            ≡ network_says mesh.now.row mesh.now.head.count mesh.now.head.max_level (polygons_of (given_of board.now)) net_rows }
+            ≡ network_says mesh.now.row mesh.now.head.count mesh.now.head.max_level
+            (polygons_of (given_of board.now)) net_rows }
         ensures net { IfOk result (IsNet (net_of mesh.now.row mesh.now.head.count (polygons_of (given_of board.now)))) }
     {
         let mut nodes = [0i64; NODE_NUMBERS];
