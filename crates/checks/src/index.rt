@@ -29,6 +29,7 @@ pub struct Key {
 /// The entries of a net, in order.
 #[derive(Clone, Copy)]
 pub struct Index<'a> {
+    /// The net that it is of: an answer is what this net has.
     pub net: SoundNet<'a>,
     pub places: &'a [PlaceEntry],
     pub pairs: &'a [PairEntry],

@@ -1,5 +1,5 @@
 -- The test of a net and the facts of a sound net: each from the other. Assumes nothing.
-use Rattle.std.proofs.Common.{◌≡◌, ℕ, ◌*◌, ◌/◌, ◌%◌, ◌&&◌, T, eqb, ltb, List, length, ℤ, arith, eqb→eq, ltb→lt, lt→ltb}
+use Rattle.std.proofs.Common.{◌≡◌, ℕ, ◌*◌, ◌/◌, ◌%◌, ◌&&◌, T, ◌↔◌, eqb, ltb, List, length, ℤ, arith, eqb→eq, ltb→lt, lt→ltb}
 use lib.Signed.{lt_z}
 use lib.Ieee.Fits.{and_l, and_r, and_i}
 use mir.Facts.{yes_eqb}
@@ -170,5 +170,5 @@ net-sound n s =
     and_i (a && b && c && d && e) f te (all_of r (length n.sheets) (λ i h. cell-sound n.nodes n.corners i (s.cell i h)))
 
 -- the one exactly if the other
-pub exactly : (n : Net) → (T (sound_net n) → IsSoundNet n) × (IsSoundNet n → T (sound_net n))
-exactly n = (net-facts n, net-sound n)
+pub exactly : (n : Net) → IsSound n ↔ IsSoundNet n
+exactly n = (sound-facts n, λ f. holds (net-sound n f))

@@ -2,7 +2,7 @@
 ghost use Rattle.std.specs.Prelude.{◌≡◌, ◌+◌, ◌*◌, ◌^◌, ◌<◌, ◌≤◌, ◌↔◌, pos, nat_abs, ◌-ℤ◌, length, slice_index_or, IsSome, IfSome};
 ghost use Rattle.refusals.specs.Limits.{coordinate};
 ghost use Rattle.sound_net.specs.Nets.{net_in, IsSound, node_count, from_at, to_at};
-ghost use Rattle.sound_net.specs.Facts.{IsGap, IsSoundNode, AreKnown, IsSoundCell, HasSides};
+ghost use Rattle.sound_net.specs.Facts.{IsGap, IsSoundNode, AreKnown, IsSoundCell, HasSides, IsSoundNet};
 
 use crate::{Corners, NetRows};
 
@@ -96,6 +96,7 @@ impl<'a> SoundNet<'a> {
     /// The rows as a net; none where they are not sound.
     pub fn judge(rows: &NetRows<'a>) -> Option<SoundNet<'a>>
         ensures sound { IsSome result ↔ IsSound (net_in rows.now) }
+        ensures facts { IsSome result ↔ IsSoundNet (net_in rows.now) }
         ensures same_rows { IfSome result (λ s. net_in s.rows ≡ net_in rows.now) }
     {
         if rows.is_sound() {
