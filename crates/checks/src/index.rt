@@ -153,7 +153,8 @@ impl Lookup for Index<'_> {
 
     ghost ends = { λ index. index.net.rows.ends.now };
 
-    ghost ready = { λ index. IsPaired (length index.net.rows.conductances.now) index.net.rows.ends.now index.pairs.now };
+    ghost ready = { λ index. IsPaired (length index.net.rows.conductances.now) index.net.rows.ends.now
+        index.pairs.now };
 
     ghost serves = { λ index class. IsPlaced class index.net.rows.nodes.now index.places.now };
 

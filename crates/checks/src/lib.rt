@@ -1,8 +1,8 @@
-//! Whether a net has both halves of every leaf edge with a node at its middle: check_network_conforming of the Rust, and
-//! the same by layer.
+//! Whether a net has both halves of every leaf edge with a node at its middle: check_network_conforming of the Rust,
+//! and the same by layer.
 //!
-//! There is one walk over the leaves (`walk`). It asks for nodes by their place and for edges by their ends, and how these
-//! are found is a `Lookup`: the net as it stands, or, where the caller lends room for it, an `Index` of it.
+//! There is one walk over the leaves (`walk`). It asks for nodes by their place and for edges by their ends, and how
+//! these are found is a `Lookup`: the net as it stands, or, where the caller lends room for it, an `Index` of it.
 #![tactic(auto)]
 
 ghost use Rattle.std.specs.Prelude.{◌≡◌, ◌&&◌, ◌/◌, length};
