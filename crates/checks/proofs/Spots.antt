@@ -64,9 +64,9 @@ pub stands-here : (class : Class) (nodes : List ℤ) (p : Place) (i : ℕ) → N
 unfolding here
 stands-here Any nodes p i near s =
     turn (off (x_at nodes i) == p.x) (off (y_at nodes i) == p.y)
-    ∙ ap₂ (λ (x y : Bool). (x && y) && true) (spot-same (x_at nodes i) p.x s.x near.x) (spot-same (y_at nodes i) p.y s.y near.y)
+    ∙ ap₂ (λ (x y : Bool). (x && y) && true) (spot-same (x_at nodes i) p.x (yes s.x) near.x) (spot-same (y_at nodes i) p.y (yes s.y) near.y)
 stands-here (Of l c) nodes p i near s =
     turn_all (nat_abs (layer_at nodes i) == l) (nat_abs (component_at nodes i) == c) (off (x_at nodes i) == p.x) (off (y_at nodes i) == p.y)
     ∙ ap₂ ◌&&◌
-    (ap₂ ◌&&◌ (spot-same (x_at nodes i) p.x s.x near.x) (spot-same (y_at nodes i) p.y s.y near.y))
-    (ap₂ ◌&&◌ (name-same 16 (layer_at nodes i) l s.layer) (name-same 32 (component_at nodes i) c s.component))
+    (ap₂ ◌&&◌ (spot-same (x_at nodes i) p.x (yes s.x) near.x) (spot-same (y_at nodes i) p.y (yes s.y) near.y))
+    (ap₂ ◌&&◌ (name-same 16 (layer_at nodes i) l (yes s.layer)) (name-same 32 (component_at nodes i) c (yes s.component)))

@@ -29,6 +29,7 @@ pub struct Key {
 /// The entries of a net, in order.
 #[derive(Clone, Copy)]
 pub struct Index<'a> {
+    /// The net that it is of: an answer is what this net has.
     pub net: SoundNet<'a>,
     pub places: &'a [PlaceEntry],
     pub pairs: &'a [PairEntry],
@@ -152,7 +153,8 @@ impl Lookup for Index<'_> {
 
     ghost ends = { λ index. index.net.rows.ends.now };
 
-    ghost ready = { λ index. IsPaired (length index.net.rows.conductances.now) index.net.rows.ends.now index.pairs.now };
+    ghost ready = { λ index. IsPaired (length index.net.rows.conductances.now) index.net.rows.ends.now
+        index.pairs.now };
 
     ghost serves = { λ index class. IsPlaced class index.net.rows.nodes.now index.places.now };
 

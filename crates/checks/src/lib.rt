@@ -1,8 +1,8 @@
-//! Whether a net has both halves of every leaf edge with a node at its middle: check_network_conforming of the Rust, and
-//! the same by layer.
+//! Whether a net has both halves of every leaf edge with a node at its middle: check_network_conforming of the Rust,
+//! and the same by layer.
 //!
-//! There is one walk over the leaves (`walk`). It asks for nodes by their place and for edges by their ends, and how these
-//! are found is a `Lookup`: the net as it stands, or, where the caller lends room for it, an `Index` of it.
+//! There is one walk over the leaves (`walk`). It asks for nodes by their place and for edges by their ends, and how
+//! these are found is a `Lookup`: the net as it stands, or, where the caller lends room for it, an `Index` of it.
 #![tactic(auto)]
 
 ghost use Rattle.std.specs.Prelude.{◌≡◌, ◌&&◌, ◌/◌, length};
@@ -73,4 +73,84 @@ pub fn check_by_layer(
         return Err(Refusal::BadTable);
     }
     Ok(room::find_fault(&net, &table, Scope::ByLayer(*polygons), work))
+}
+
+#[cfg(test)]
+mod tests {
+    use super::*;
+    use cell::Cell;
+
+    const NONE: i64 = Cell::NO_CELL as i64;
+
+    // One leaf of 8 by 8 ticks.
+    const LEAF: [i64; 8] = [0, 0, 8, 8, 0, NONE, NONE, 0];
+
+    const HEAD: Head = Head {
+        count: 1,
+        max_level: 2,
+    };
+
+    // Its corners, and a fifth node at the middle of its south side, of another component; one half is there.
+    const ROWS: NetRows<'static> = NetRows {
+        nodes: &[1, 0, 0, 0, 1, 0, 8, 0, 1, 0, 8, 8, 1, 0, 0, 8, 1, 3, 4, 0],
+        ends: &[4, 0],
+        conductances: &[0.5],
+        corners: &[0, 1, 2, 3],
+        sheets: &[1.0],
+    };
+
+    const POLYGONS: Polygons<'static> = Polygons {
+        layers: &[1],
+        components: &[0],
+    };
+
+    // What is asked for five nodes and an edge.
+    const ROOM: usize = 48;
+
+    #[test]
+    fn a_half_is_missing(rt: HostRuntime) {
+        let hanging = Hanging {
+            node: 4,
+            start: 0,
+            end: 1,
+        };
+        let mut work = [7; ROOM];
+        assert_eq!(rt;
+            check_network_conforming(&LEAF, HEAD, &ROWS, &mut []),
+            Ok(Some(hanging))
+        );
+        assert_eq!(rt;
+            check_network_conforming(&LEAF, HEAD, &ROWS, &mut work),
+            Ok(Some(hanging))
+        );
+        assert_eq!(rt; work, [0; ROOM]);
+    }
+
+    #[test]
+    fn another_component_does_not_count(rt: HostRuntime) {
+        let mut work = [7; ROOM];
+        assert_eq!(rt;
+            check_by_layer(&LEAF, HEAD, &ROWS, &POLYGONS, &mut []),
+            Ok(None)
+        );
+        assert_eq!(rt;
+            check_by_layer(&LEAF, HEAD, &ROWS, &POLYGONS, &mut work),
+            Ok(None)
+        );
+        assert_eq!(rt; work, [0; ROOM]);
+    }
+
+    #[test]
+    fn a_refused_call_leaves_the_room(rt: HostRuntime) {
+        let none = Polygons {
+            layers: &[],
+            components: &[],
+        };
+        let mut work = [7; ROOM];
+        assert_eq!(rt;
+            check_by_layer(&LEAF, HEAD, &ROWS, &none, &mut work),
+            Err(Refusal::BadTable)
+        );
+        assert_eq!(rt; work, [7; ROOM]);
+    }
 }

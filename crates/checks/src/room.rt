@@ -62,8 +62,8 @@ fn find_quickly(net: &SoundNet, table: &Table, scope: Scope, work: &mut [u64]) -
     fault
 }
 
-/// The first fault of the leaves by id, with the help of the room where it is long enough; it is zero then. Internal: the
-/// polygons of the cells stand in the rows.
+/// The first fault of the leaves by id, with the help of the room where it is long enough; it is zero then. Internal:
+/// the polygons of the cells stand in the rows.
 #[tactic(auto, unfolding(crate::specs::Rooms::room_after))]
 pub fn find_fault(net: &SoundNet, table: &Table, scope: Scope, work: &mut [u64]) -> Option<Hanging>
     requires { (i : ℕ) → i < table.now.head.count → Holds scope (cell_at table.now.row.now i).poly }

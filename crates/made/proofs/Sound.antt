@@ -13,7 +13,7 @@ use Rattle.table.proofs.Wellformed.{formed-facts}
 use Rattle.sound_net.specs.Nets.{node_count, unsigned, sound_net}
 use Rattle.sound_net.specs.Facts.{IsSoundNode, IsSoundEdge, IsRectangle, IsSoundCell, IsSoundNet}
 use Rattle.sound_net.specs.declared.rows.Corners.{Corners}
-use Rattle.sound_net.proofs.Tests.{yes, same}
+use Rattle.sound_net.proofs.Tests.{yes, holds, same}
 use Rattle.sound_net.proofs.Sound.{net-sound}
 use Rattle.net.specs.Net.{each, Poly, Node, Edge, Patch, nth, nowhere, pieces, Cornered, Ends, One, network}
 use Rattle.net.proofs.All.{All, all-at}
@@ -81,10 +81,10 @@ node_row ns a w i h =
     let m = all-at NodeIn nowhere ns i a h in
     let l = all-at (Within top) nowhere ns i w h in
     record {
-      layer = rw (layer-at ns i h) (unsigned_is 16 (nth ns i).layer m.0);
-      component = rw (component-at ns i h) (unsigned_is 32 (nth ns i).component m.1);
-      x = rw (x-at ns i h) (yes (on-range (nth ns i).x l.0));
-      y = rw (y-at ns i h) (yes (on-range (nth ns i).y l.1));
+      layer = rw (layer-at ns i h) (holds (unsigned_is 16 (nth ns i).layer m.0));
+      component = rw (component-at ns i h) (holds (unsigned_is 32 (nth ns i).component m.1));
+      x = rw (x-at ns i h) (on-range (nth ns i).x l.0);
+      y = rw (y-at ns i h) (on-range (nth ns i).y l.1);
     }
 
 -- ---- edges
@@ -107,8 +107,8 @@ rectangle-row ns w c k =
     let east = all-at (Within top) nowhere ns c.se w k.se-in in
     let north = all-at (Within top) nowhere ns c.nw w k.nw-in in
     record {
-      wide = rw (x-at ns c.sw k.sw-in, x-at ns c.se k.se-in) (on-less (nth ns c.sw).x (nth ns c.se).x k.wide east.0);
-      high = rw (y-at ns c.sw k.sw-in, y-at ns c.nw k.nw-in) (on-less (nth ns c.sw).y (nth ns c.nw).y k.high north.1);
+      wide = rw (x-at ns c.sw k.sw-in, x-at ns c.se k.se-in) (holds (on-less (nth ns c.sw).x (nth ns c.se).x k.wide east.0));
+      high = rw (y-at ns c.sw k.sw-in, y-at ns c.nw k.nw-in) (holds (on-less (nth ns c.sw).y (nth ns c.nw).y k.high north.1));
       south = y-at ns c.se k.se-in ∙ (ap on (sym k.south) ∙ sym (y-at ns c.sw k.sw-in));
       east = x-at ns c.ne k.ne-in ∙ (ap on (sym k.east) ∙ sym (x-at ns c.se k.se-in));
       north = y-at ns c.ne k.ne-in ∙ (ap on (sym k.north) ∙ sym (y-at ns c.nw k.nw-in));

@@ -1,5 +1,5 @@
 -- The rows of numbers that hold a made net, and the rows of its polygons' layers and components. Definitions only.
-use Rattle.std.specs.Prelude.{List, map, ◌≡◌, ℕ, ◌^◌, ◌<◌, ℤ, Float, get_or, AllPairs}
+use Rattle.std.specs.Prelude.{List, map, ◌≡◌, ℕ, ◌^◌, ◌<◌, ℤ, Float, slice_index_or, AllPairs}
 use Rattle.sound_net.specs.Nets.{Net as Rows, net_of}
 use Rattle.net.specs.Net.{each, Poly, Net, One}
 use Rattle.places.specs.Places.{node_nums, corner_nums, end_nums}
@@ -11,7 +11,7 @@ abbrev pub no_poly : Poly
 no_poly = record { layer = 0; component = 0; sheet = One }
 
 abbrev pub poly_at : List Poly → ℕ → Poly
-poly_at ps k = get_or ps k no_poly
+poly_at ps k = slice_index_or ps k no_poly
 
 abbrev pub layers_of : List Poly → List ℕ
 layers_of ps = map (λ p. p.layer) ps

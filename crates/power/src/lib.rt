@@ -157,3 +157,41 @@ pub fn cell_power(rows: &NetRows, potentials: &[f64], answers: &mut [f64]) -> Re
     fill(&net, potentials, answers);
     Ok(())
 }
+
+#[cfg(test)]
+mod tests {
+    use super::*;
+
+    // A square of 4 ticks.
+    const ROWS: NetRows<'static> = NetRows {
+        nodes: &[1, 0, 0, 0, 1, 0, 4, 0, 1, 0, 4, 4, 1, 0, 0, 4],
+        ends: &[0, 1],
+        conductances: &[0.5],
+        corners: &[0, 1, 2, 3],
+        sheets: &[1.0],
+    };
+
+    #[test]
+    fn one_square(rt: HostRuntime) {
+        let mut answers = [7.0, 7.0];
+        assert_eq!(rt;
+            cell_power(&ROWS, &[0.0, 1.0, 1.0, 0.0], &mut answers),
+            Ok(())
+        );
+        assert_eq!(rt; answers, [1.0, 7.0]);
+    }
+
+    #[test]
+    fn refusals_in_their_order(rt: HostRuntime) {
+        let bad = NetRows {
+            corners: &[0, 1, 2, 2],
+            ..ROWS
+        };
+        assert_eq!(rt; cell_power(&bad, &[], &mut []), Err(Refusal::BadTable));
+        assert_eq!(rt;
+            cell_power(&ROWS, &[0.0], &mut []),
+            Err(Refusal::OutOfRange(0))
+        );
+        assert_eq!(rt; cell_power(&ROWS, &[0.0; 4], &mut []), Err(Refusal::NoRoom));
+    }
+}

@@ -6,6 +6,7 @@ use lib.Ieee.Fits.{and_l, and_r}
 use Rattle.refusals.specs.Limits.{coordinate}
 use Rattle.cell.specs.Ticks.{in_range}
 use Rattle.sound_net.specs.Nets.{Net, corners_at, x_at, y_at}
+use Rattle.sound_net.proofs.Tests.{yes}
 use Rattle.sound_net.specs.Facts.{IsSoundNet, IsGap, HasSides}
 
 of : {z : ℤ} (n : ℕ) → z ≡ pos n → 0 < n → n ≤ coordinate + coordinate → IsGap z
@@ -51,8 +52,8 @@ sides n s c h =
     let se = s.node q.southeast k.known.southeast in
     let nw = s.node q.northwest k.known.northwest in
     record {
-      width = gap (x_at n.nodes q.southwest) (x_at n.nodes q.southeast) sw.x se.x k.box.wide;
-      height = gap (y_at n.nodes q.southwest) (y_at n.nodes q.northwest) sw.y nw.y k.box.high;
+      width = gap (x_at n.nodes q.southwest) (x_at n.nodes q.southeast) (yes sw.x) (yes se.x) (yes k.box.wide);
+      height = gap (y_at n.nodes q.southwest) (y_at n.nodes q.northwest) (yes sw.y) (yes nw.y) (yes k.box.high);
     }
 
 -- such a difference fits 64 bits, signed

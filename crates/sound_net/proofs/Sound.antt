@@ -1,5 +1,5 @@
 -- The test of a net and the facts of a sound net: each from the other. Assumes nothing.
-use Rattle.std.proofs.Common.{◌≡◌, ℕ, ◌*◌, ◌/◌, ◌%◌, ◌&&◌, T, eqb, ltb, List, length, ℤ, arith, eqb→eq, ltb→lt, lt→ltb}
+use Rattle.std.proofs.Common.{◌≡◌, ℕ, ◌*◌, ◌/◌, ◌%◌, ◌&&◌, T, ◌↔◌, eqb, ltb, List, length, ℤ, arith, eqb→eq, ltb→lt, lt→ltb}
 use lib.Signed.{lt_z}
 use lib.Ieee.Fits.{and_l, and_r, and_i}
 use mir.Facts.{yes_eqb}
@@ -7,7 +7,7 @@ use Rattle.cell.specs.Ticks.{in_range}
 use Rattle.sound_net.specs.Nets.{Net, all_below, eq_z, node_count, layer_at, component_at, x_at, y_at, unsigned, from_at, to_at, corners_at, known, sound_node, sound_edge, rectangle, sound_cell, sound_net, IsSound}
 use Rattle.sound_net.specs.declared.rows.Corners.{Corners}
 use Rattle.sound_net.specs.Facts.{IsSoundNode, IsSoundEdge, IsRectangle, AreKnown, IsSoundCell, IsSoundNet}
-use Rattle.sound_net.proofs.Tests.{yes, all-at, all_of, eq_z-true, eq_z-of}
+use Rattle.sound_net.proofs.Tests.{yes, holds, all-at, all_of, eq_z-true, eq_z-of}
 
 pub node-facts : (nodes : List ℤ) (n : ℕ) → T (sound_node nodes n) → IsSoundNode nodes n
 unfolding sound_node
@@ -18,7 +18,7 @@ node-facts nodes n t =
     let y = in_range (y_at nodes n) in
     let abx = and_l (a && b && x) y t in
     let ab = and_l (a && b) x abx in
-    record { layer = and_l a b ab; component = and_r a b ab; x = and_r (a && b) x abx; y = and_r (a && b && x) y t }
+    record { layer = holds (and_l a b ab); component = holds (and_r a b ab); x = holds (and_r (a && b) x abx); y = holds (and_r (a && b && x) y t) }
 
 pub node-sound : (nodes : List ℤ) (n : ℕ) → IsSoundNode nodes n → T (sound_node nodes n)
 unfolding sound_node
@@ -27,7 +27,7 @@ node-sound nodes n s =
     let b = unsigned 32 (component_at nodes n) in
     let x = in_range (x_at nodes n) in
     let y = in_range (y_at nodes n) in
-    and_i (a && b && x) y (and_i (a && b) x (and_i a b s.layer s.component) s.x) s.y
+    and_i (a && b && x) y (and_i (a && b) x (and_i a b (yes s.layer) (yes s.component)) (yes s.x)) (yes s.y)
 
 pub edge-facts : (count : ℕ) (ends : List ℕ) (e : ℕ) → T (sound_edge count ends e) → IsSoundEdge count ends e
 unfolding sound_edge
@@ -57,8 +57,8 @@ rectangle-facts nodes q t =
     let te = and_l (c && d && e) f tf in
     let td = and_l (c && d) e te in
     record {
-      wide = and_l a b tb;
-      high = and_r a b tb;
+      wide = holds (and_l a b tb);
+      high = holds (and_r a b tb);
       south = eq_z-true _ _ (and_l c d td);
       east = eq_z-true _ _ (and_r c d td);
       north = eq_z-true _ _ (and_r (c && d) e te);
@@ -76,7 +76,7 @@ rectangle-sound nodes q s =
     let f = eq_z (x_at nodes q.northwest) (x_at nodes q.southwest) in
     let td = and_i c d (eq_z-of s.south) (eq_z-of s.east) in
     let te = and_i (c && d) e td (eq_z-of s.north) in
-    and_i (a && b) (c && d && e && f) (and_i a b s.wide s.high) (and_i (c && d && e) f te (eq_z-of s.west))
+    and_i (a && b) (c && d && e && f) (and_i a b (yes s.wide) (yes s.high)) (and_i (c && d && e) f te (eq_z-of s.west))
 
 pub known-facts : (n : ℕ) (q : Corners) → T (known n q) → AreKnown n q
 known-facts n q t =
@@ -170,5 +170,5 @@ net-sound n s =
     and_i (a && b && c && d && e) f te (all_of r (length n.sheets) (λ i h. cell-sound n.nodes n.corners i (s.cell i h)))
 
 -- the one exactly if the other
-pub exactly : (n : Net) → (T (sound_net n) → IsSoundNet n) × (IsSoundNet n → T (sound_net n))
-exactly n = (net-facts n, net-sound n)
+pub exactly : (n : Net) → IsSound n ↔ IsSoundNet n
+exactly n = (sound-facts n, λ f. holds (net-sound n f))

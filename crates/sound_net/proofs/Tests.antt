@@ -12,6 +12,13 @@ use Rattle.sound_net.specs.Nets.{all_below, eq_z}
 pub yes : {b : Bool} → b ≡ true → T b
 yes e = subst T (sym e) tt
 
+pub holds : {b : Bool} → T b → b ≡ true
+holds {b} t = by b t
+  where
+    by : (b : Bool) → T b → b ≡ true
+    by true t = refl
+    by false t = absurd t
+
 -- two tests are one where each holds if the other does
 pub same : (a b : Bool) → (T a → T b) → (T b → T a) → a ≡ b
 same true true f g = refl

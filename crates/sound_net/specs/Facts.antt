@@ -1,23 +1,23 @@
 -- What a sound net says of its numbers: the same as `sound_net`, as facts. proofs/Sound.antt shows each from the other.
-use Rattle.std.specs.Prelude.{◌≡◌, ℕ, ◌+◌, ◌*◌, ◌<◌, ◌≤◌, T, List, length, ℤ, pos, ◌-ℤ◌, int_lt, nat_abs}
+use Rattle.std.specs.Prelude.{◌≡◌, ℕ, ◌+◌, ◌*◌, ◌<◌, ◌≤◌, IsTrue, List, length, ℤ, pos, ◌-ℤ◌, int_lt, nat_abs}
 use Rattle.refusals.specs.Limits.{coordinate}
 use Rattle.cell.specs.Ticks.{in_range}
 use Rattle.sound_net.specs.declared.rows.Corners.{Corners}
 use Rattle.sound_net.specs.Nets.{Net, node_count, layer_at, component_at, x_at, y_at, unsigned, from_at, to_at, corners_at}
 
 pub record IsSoundNode (nodes : List ℤ) (n : ℕ) : Type 0 where
-  pub layer : T (unsigned 16 (layer_at nodes n))
-  pub component : T (unsigned 32 (component_at nodes n))
-  pub x : T (in_range (x_at nodes n))
-  pub y : T (in_range (y_at nodes n))
+  pub layer : IsTrue (unsigned 16 (layer_at nodes n))
+  pub component : IsTrue (unsigned 32 (component_at nodes n))
+  pub x : IsTrue (in_range (x_at nodes n))
+  pub y : IsTrue (in_range (y_at nodes n))
 
 pub record IsSoundEdge (count : ℕ) (ends : List ℕ) (e : ℕ) : Type 0 where
   pub from : from_at ends e < count
   pub to : to_at ends e < count
 
 pub record IsRectangle (nodes : List ℤ) (q : Corners) : Type 0 where
-  pub wide : T (int_lt (x_at nodes q.southwest) (x_at nodes q.southeast))
-  pub high : T (int_lt (y_at nodes q.southwest) (y_at nodes q.northwest))
+  pub wide : IsTrue (int_lt (x_at nodes q.southwest) (x_at nodes q.southeast))
+  pub high : IsTrue (int_lt (y_at nodes q.southwest) (y_at nodes q.northwest))
   pub south : y_at nodes q.southeast ≡ y_at nodes q.southwest
   pub east : x_at nodes q.northeast ≡ x_at nodes q.southeast
   pub north : y_at nodes q.northeast ≡ y_at nodes q.northwest

@@ -179,8 +179,8 @@ fn cells_are_sound(nodes: &[i64], corners: &[u64], cells: usize) -> bool
 }
 
 impl NetRows<'_> {
-    /// Whether the rows are a sound net: the rules' refusal 7 of a net is that they are not. `SoundNet::judge` asks it once
-    /// for all.
+    /// Whether the rows are a sound net: the rules' refusal 7 of a net is that they are not. `SoundNet::judge` asks it
+    /// once for all.
     #[tactic(auto, using(crate::proofs::Marks::edge_ends), unfolding(crate::specs::Nets::sound_net))]
     pub fn is_sound(&self) -> bool
         ensures { result ≡ sound_net (net_in self.now) }

@@ -2,7 +2,7 @@
 ghost use Rattle.std.specs.Prelude.{◌≡◌, ◌+◌, ◌*◌, ◌^◌, ◌<◌, ◌≤◌, ◌↔◌, pos, nat_abs, ◌-ℤ◌, length, slice_index_or, IsSome, IfSome};
 ghost use Rattle.refusals.specs.Limits.{coordinate};
 ghost use Rattle.sound_net.specs.Nets.{net_in, IsSound, node_count, from_at, to_at};
-ghost use Rattle.sound_net.specs.Facts.{IsGap, IsSoundNode, AreKnown, IsSoundCell, HasSides};
+ghost use Rattle.sound_net.specs.Facts.{IsGap, IsSoundNode, AreKnown, IsSoundCell, HasSides, IsSoundNet};
 
 use crate::{Corners, NetRows};
 
@@ -96,6 +96,7 @@ impl<'a> SoundNet<'a> {
     /// The rows as a net; none where they are not sound.
     pub fn judge(rows: &NetRows<'a>) -> Option<SoundNet<'a>>
         ensures sound { IsSome result ↔ IsSound (net_in rows.now) }
+        ensures facts { IsSome result ↔ IsSoundNet (net_in rows.now) }
         ensures same_rows { IfSome result (λ s. net_in s.rows ≡ net_in rows.now) }
     {
         if rows.is_sound() {
@@ -150,5 +151,47 @@ impl<'a> SoundNet<'a> {
         ensures height_in_range { result.height ≤ coordinate + coordinate }
     {
         SoundCell::of(self.rows.nodes, self.rows.corners, c)
+    }
+}
+
+#[cfg(test)]
+mod tests {
+    use super::*;
+    use std::test::Fail;
+
+    // A rectangle, 4 ticks wide and 8 high.
+    const NODES: [i64; 16] = [1, 7, -2, 0, 1, 7, 2, 0, 1, 7, 2, 8, 1, 7, -2, 8];
+
+    fn rectangle<'a>(ends: &'a [u64], corners: &'a [u64]) -> NetRows<'a> {
+        NetRows {
+            nodes: &NODES,
+            ends,
+            conductances: &[0.5],
+            corners,
+            sheets: &[1.0],
+        }
+    }
+
+    #[test]
+    fn a_rectangle_is_sound(rt: HostRuntime) -> Result<(), Fail> {
+        let rows = rectangle(&[1, 2], &[0, 1, 2, 3]);
+        let net = SoundNet::judge(&rows).ok_or("sound")?;
+        assert_eq!(rt; net.node_count(), 4);
+        assert_eq!(rt; net.edge_count(), 1);
+        assert_eq!(rt; net.cell_count(), 1);
+        assert_eq!(rt; net.node(2).component, 7);
+        assert_eq!(rt; net.node(2).x, 68719476738);
+        assert_eq!(rt; net.ends(0), (1, 2));
+        assert_eq!(rt; net.cell(0).corners.northwest, 3);
+        assert_eq!(rt; net.cell(0).width, 4);
+        assert_eq!(rt; net.cell(0).height, 8);
+        Ok(())
+    }
+
+    #[test]
+    fn ends_and_corners_are_judged(rt: HostRuntime) {
+        assert!(rt; !rectangle(&[1, 4], &[0, 1, 2, 3]).is_sound());
+        assert!(rt; !rectangle(&[1, 2], &[0, 1, 3, 2]).is_sound());
+        assert!(rt; !rectangle(&[1, 2, 3], &[0, 1, 2, 3]).is_sound());
     }
 }
