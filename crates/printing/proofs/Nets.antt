@@ -8,7 +8,7 @@ use Rattle.refusals.specs.Said.{Said, accepted, refusal}
 use Rattle.rows.specs.Parts.{put}
 use Rattle.net.specs.Net.{Edge, Net, nowhere, nth, each}
 use Rattle.places.specs.Places.{node_nums, end_nums}
-use Rattle.node_rows.proofs.Lists.{items-long, item-at}
+use Rattle.weights.proofs.Lists.{items-long, item-at}
 use Rattle.weights.proofs.Held.{row-begins}
 use Rattle.network.specs.Says.{Polygons, Rows, net_of, filled, counts_said, network_says, network_leaves}
 use Rattle.unweighted.specs.declared.Counts.{Counts}

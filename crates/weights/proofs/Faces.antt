@@ -7,8 +7,8 @@ use lib.Ieee.Positive.{positive, positive_of_value, mul_at}
 use Rattle.refusals.specs.Limits.{coordinate}
 use Rattle.net.specs.Net.{Node, Edge, Patch, Way, nth, lesser_of, flat, apart, face, distance, num, halves, Half, ◌·◌, sheet_of, weight, weighed}
 use Rattle.net.proofs.Faces.{face-low, distance-low}
-use Rattle.node_rows.specs.Rows.{nodes_in, patches_in}
-use Rattle.node_rows.proofs.Lists.{nodes-within}
+use Rattle.weights.specs.Rows.{nodes_in, patches_in}
+use Rattle.weights.proofs.Lists.{nodes-within}
 use Rattle.weights.specs.declared.lines.Axis.{Axis}
 use Rattle.weights.specs.declared.lines.Axis.TheVariants.{Column, Row}
 use Rattle.weights.specs.declared.weigh.Extents.{Extents}

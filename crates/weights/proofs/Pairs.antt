@@ -13,7 +13,7 @@ use Rattle.std.proofs.lemmas.List.Sorted.{All-permutation, Contains-permutation}
 use Rattle.sorted.proofs.Ends.{none_passes, found_passes, first_least}
 use Rattle.rows.proofs.Fill.{length-tab, tab-at}
 use Rattle.net.specs.Net.{Patch, pair_is, is_side, sheet_of}
-use Rattle.node_rows.specs.Rows.{patch_in, patches_in}
+use Rattle.weights.specs.Rows.{patch_in, patches_in}
 use Rattle.weights.specs.Sides.{pair_of, side_pair, side_of, side_entry, Sided, IsFirstCell, FirstCellIs}
 use Rattle.weights.proofs.Order.{num, upto-entries}
 
