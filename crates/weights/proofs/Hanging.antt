@@ -1,27 +1,26 @@
 -- The last node at a place, by a sorted row; and what cells ask for it.
-use Rattle.std.proofs.Common.{◌≡◌, ℕ, zero, suc, ◌+◌, ◌-◌, ◌*◌, ◌/◌, ◌<◌, ◌≤◌, max, Bool, true, false, ◌&&◌, not, nat_eq, eqb, List, [], ◌∷◌, map, length, get_or, set, drop, filter, slice_get, Option, None, Some, MatchOption, refl, sym, ap, ap₂, ◌∙◌, subst, ⊎_elim, arith, length-drop, get_or-drop, ltb-true, lt-ltb, eqb-true, eq-eqb, add-one, zero-add, add-zero, ℤ, Float}
+use Rattle.std.proofs.Common.{◌≡◌, ℕ, zero, suc, ◌+◌, ◌-◌, ◌<◌, ◌≤◌, max, Bool, true, false, ◌&&◌, not, nat_eq, eqb, List, [], ◌∷◌, map, length, get_or, set, drop, filter, slice_get, Option, None, Some, refl, sym, ap, ap₂, ◌∙◌, subst, ⊎_elim, arith, length-drop, get_or-drop, ltb-true, lt-ltb, eqb-true, eq-eqb, add-one, Float}
 use Rattle.std.specs.List.{starts_with}
 use Rattle.std.specs.Option.{ForSome}
 use Rattle.std.specs.Ordering.{is_lt, nat_cmp}
 use Rattle.std.specs.Cmp.Lexicographic.{slice_cmp}
 use Rattle.std.proofs.lemmas.Bool.{true≢false, cases_Bool, ne_eqb}
 use Rattle.std.proofs.lemmas.Bool.Decides.{nat_tests}
-use Rattle.std.proofs.lemmas.List.{get_or-set_same, get_or-set_other, length-map, get_or-map}
+use Rattle.std.proofs.lemmas.List.{get_or-set_same, get_or-set_other, length-map}
 use mathlib.Core.Logic.{by_cases}
 use native.Mathlib.Decide.{ℕ_discrete}
 use Rattle.sorted.proofs.Ends.{none_passes, found_passes, last_greatest}
 use Rattle.rows.specs.Parts.{tab}
-use Rattle.rows.proofs.Fill.{length-tab}
-use Rattle.net.specs.Net.{find, has, Node, Patch, Way, same_place, nth, nowhere, is_last, turned, next_gap, prev_gap, gap, hung, extent, hangs_at, box_of, size_of}
+use Rattle.net.specs.Net.{find, has, Node, Patch, Way, same_place, nth, nowhere, is_last, turned, gap, hung, extent, hangs_at, box_of, size_of}
 use Rattle.net.proofs.Find.{find-hit, find-at-most}
 use Rattle.net.proofs.Keys.{both, both_of, bool-ext}
 use Rattle.net.proofs.Last.{asks, hung-snoc}
-use Rattle.weights.specs.Rows.{node_in, nodes_in, patch_in, patches_in}
+use Rattle.weights.specs.Rows.{patch_in, patches_in}
 use Rattle.weights.specs.declared.lines.Axis.{Axis}
 use Rattle.weights.specs.declared.lines.Axis.TheVariants.{Column, Row}
-use Rattle.weights.specs.Lines.{facing, all_facing, place_of, entry_of, Lined, at, IsLast, LastIs, Gapped, raised, Reaches}
+use Rattle.weights.specs.Lines.{facing, all_facing, place_of, entry_of, Lined, at, IsLast, LastIs, raised, Reaches}
 use Rattle.weights.proofs.Order.{num, upto-entries}
-use Rattle.weights.proofs.Neighbours.{here, long, spot}
+use Rattle.weights.proofs.Neighbours.{here, spot}
 
 -- ---- the last node at a place
 

@@ -1,4 +1,4 @@
-use Rattle.std.proofs.Common.{subst, sym, List, ℕ, length, ◌≤◌, arith}
+use Rattle.std.proofs.Common.{subst, sym, arith}
 use Rattle.weights.specs.declared.lines.Axis.TheVariants.{Column, Row}
 use Rattle.weights.specs.declared.extents.Way.TheVariants.{Right}
 use Rattle.weights.specs.Ways.{GapsAcross}

@@ -1,4 +1,4 @@
-use Rattle.std.proofs.Common.{◌≡◌, ◌<◌, ◌≤◌, ℕ, length, arith}
+use Rattle.std.proofs.Common.{◌<◌, ◌≤◌, length, arith}
 use Rattle.net.specs.Net.{next_gap}
 use Rattle.weights.specs.Lines.{all_facing}
 use Rattle.weights.specs.Ways.{axis_across}
