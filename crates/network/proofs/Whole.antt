@@ -20,7 +20,7 @@ use Rattle.leafrows.proofs.Laws as Leaf
 use Rattle.unweighted.specs.Netted as Bare
 use Rattle.unweighted.specs.Netted.{Counted}
 use Rattle.unweighted.proofs.Low as Low
-use Rattle.node_rows.proofs.Lists.{items-long}
+use Rattle.weights.proofs.Lists.{items-long}
 use Rattle.weights.specs.Weigh.{weight_in, NetRows}
 use Rattle.weights.proofs.Held.{Held, Fitting, row-begins, held_rows, held-written}
 use Rattle.refusals.specs.Said.{accepted}

@@ -3,3 +3,4 @@ pub mod Keys
 pub mod Order
 pub mod Beginning
 pub mod Ends
+pub mod Below

@@ -6,16 +6,38 @@ ghost use Rattle.std.specs.List.{starts_with};
 ghost use Rattle.std.specs.List.Sorted.{IsPartitionedBy, IsPartitionPoint};
 ghost use Rattle.std.specs.Cmp.Lexicographic.{slice_cmp};
 
+// Whether an entry is below a key. No branch hangs on their numbers, so that the processor has nothing to guess at in a
+// search.
+#[inline(always)]
+fn is_below<const N: usize>(entry: &[u64; N], key: &[u64]) -> bool
+    requires few_columns { N < 16 }
+    requires key_fits { length key.now ≤ N }
+    ensures { result ≡ is_lt (slice_cmp nat_cmp entry.now key.now) }
+{
+    let mut below = false;
+    let mut equal = true;
+    for c in 0..key.len() {
+        below = below | (equal & (entry[c] < key[c]));
+        equal = equal & (entry[c] == key[c]);
+    }
+    below
+}
+
 // How many entries are below a key, which stand in front.
+#[inline(always)]
 fn count_below<const N: usize>(row: &[[u64; N]], key: &[u64]) -> usize
-    requires { IsSorted (slice_cmp nat_cmp) row.now }
+    requires few_columns { N < 16 }
+    requires key_fits { length key.now ≤ N }
+    requires sorted { IsSorted (slice_cmp nat_cmp) row.now }
     ensures parted { IsPartitionPoint (λ e. is_lt (slice_cmp nat_cmp e key.now) ≡ true) (λ e. is_lt (slice_cmp nat_cmp e key.now) ≡ false) row.now result }
     ensures bound { result ≤ length row.now }
 {
     row.partition_point(
         |e| -> bool
+            requires few_columns { N < 16 }
+            requires key_fits { length key.now ≤ N }
             ensures { result ≡ is_lt (slice_cmp nat_cmp e.now key.entry.now) }
-        { e.as_slice().cmp(&key).is_lt() },
+        { is_below(e, key) },
     )
 }
 
@@ -33,8 +55,10 @@ fn count_beginning<const N: usize>(row: &[[u64; N]], key: &[u64]) -> usize
 }
 
 /// The first entry that begins with a key.
+#[inline(always)]
 pub fn first<'a, const N: usize>(row: &'a [[u64; N]], key: &[u64]) -> Option<&'a [u64; N]>
     requires few_columns { N < 16 }
+    requires key_fits { length key.now ≤ N }
     requires sorted { IsSorted (slice_cmp nat_cmp) row.now }
     ensures { option_copied result ≡ slice_get (filter (λ e. starts_with nat_eq e key.now) row.now) 0 }
 {
@@ -50,8 +74,10 @@ pub fn first<'a, const N: usize>(row: &'a [[u64; N]], key: &[u64]) -> Option<&'a
 }
 
 /// The entries that begin with a key: a run of the row, handed back and not copied.
+#[inline]
 pub fn run<'a, const N: usize>(row: &'a [[u64; N]], key: &[u64]) -> &'a [[u64; N]]
     requires few_columns { N < 16 }
+    requires key_fits { length key.now ≤ N }
     requires sorted { IsSorted (slice_cmp nat_cmp) row.now }
     ensures { result.now ≡ filter (λ e. starts_with nat_eq e key.now) row.now }
 {

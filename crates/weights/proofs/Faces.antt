@@ -1,5 +1,5 @@
 -- Faces, distances and the formula of a weight.
-use Rattle.std.proofs.Common.{◌≡◌, refl, sym, ap, ap₂, ◌∙◌, Bool, true, false, List, ℕ, zero, suc, ◌+◌, ◌*◌, ◌^◌, ◌<◌, min, arith, le_of_lt, mul-one, zero-lt-suc, T, eqb, cond, length, get_or, Option, None, Some, ℤ, Float}
+use Rattle.std.proofs.Common.{◌≡◌, refl, sym, ap, ◌∙◌, Bool, true, false, List, ℕ, zero, suc, ◌+◌, ◌*◌, ◌^◌, ◌<◌, min, arith, le_of_lt, mul-one, zero-lt-suc, T, cond, length, get_or, Option, ℤ, Float}
 use lib.Ieee.{binary64, of_int, of_bits, mul, round}
 use lib.Ieee.Back.{round_whole}
 use lib.Ieee.Exact.{HasValue}
@@ -7,9 +7,8 @@ use lib.Ieee.Positive.{positive, positive_of_value, mul_at}
 use Rattle.refusals.specs.Limits.{coordinate}
 use Rattle.net.specs.Net.{Node, Edge, Patch, Way, nth, lesser_of, flat, apart, face, distance, num, halves, Half, ◌·◌, sheet_of, weight, weighed}
 use Rattle.net.proofs.Faces.{face-low, distance-low}
-use Rattle.node_rows.specs.Rows.{nodes_in, patches_in}
-use Rattle.node_rows.proofs.Lists.{nodes-within}
-use Rattle.weights.specs.declared.lines.Axis.{Axis}
+use Rattle.weights.specs.Rows.{nodes_in}
+use Rattle.weights.proofs.Lists.{nodes-within}
 use Rattle.weights.specs.declared.lines.Axis.TheVariants.{Column, Row}
 use Rattle.weights.specs.declared.weigh.Extents.{Extents}
 use Rattle.weights.specs.Weigh.{edge_of}

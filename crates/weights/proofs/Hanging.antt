@@ -1,28 +1,26 @@
 -- The last node at a place, by a sorted row; and what cells ask for it.
-use Rattle.std.proofs.Common.{◌≡◌, ℕ, zero, suc, ◌+◌, ◌-◌, ◌*◌, ◌/◌, ◌<◌, ◌≤◌, max, Bool, true, false, ◌&&◌, not, nat_eq, eqb, List, [], ◌∷◌, map, length, get_or, set, drop, filter, slice_get, Option, None, Some, MatchOption, refl, sym, ap, ap₂, ◌∙◌, subst, ⊎_elim, arith, length-drop, get_or-drop, ltb-true, lt-ltb, eqb-true, eq-eqb, add-one, zero-add, add-zero, ℤ, Float}
+use Rattle.std.proofs.Common.{◌≡◌, ℕ, zero, suc, ◌+◌, ◌-◌, ◌<◌, ◌≤◌, max, Bool, true, false, ◌&&◌, not, nat_eq, eqb, List, [], ◌∷◌, map, length, get_or, set, drop, filter, slice_get, Option, None, Some, refl, sym, ap, ap₂, ◌∙◌, subst, ⊎_elim, arith, length-drop, get_or-drop, ltb-true, lt-ltb, eqb-true, eq-eqb, add-one, Float}
 use Rattle.std.specs.List.{starts_with}
 use Rattle.std.specs.Option.{ForSome}
 use Rattle.std.specs.Ordering.{is_lt, nat_cmp}
 use Rattle.std.specs.Cmp.Lexicographic.{slice_cmp}
 use Rattle.std.proofs.lemmas.Bool.{true≢false, cases_Bool, ne_eqb}
 use Rattle.std.proofs.lemmas.Bool.Decides.{nat_tests}
-use Rattle.std.proofs.lemmas.List.{get_or-set_same, get_or-set_other, length-map, get_or-map}
+use Rattle.std.proofs.lemmas.List.{get_or-set_same, get_or-set_other, length-map}
 use mathlib.Core.Logic.{by_cases}
 use native.Mathlib.Decide.{ℕ_discrete}
-use Rattle.cell.specs.Boxes.{mid}
 use Rattle.sorted.proofs.Ends.{none_passes, found_passes, last_greatest}
 use Rattle.rows.specs.Parts.{tab}
-use Rattle.rows.proofs.Fill.{length-tab}
-use Rattle.net.specs.Net.{find, has, Node, Patch, Way, same_place, nth, nowhere, is_last, turned, next_gap, prev_gap, gap, hung, extent, hangs_at, box_of, size_of}
+use Rattle.net.specs.Net.{find, has, Node, Patch, Way, same_place, nth, nowhere, is_last, turned, gap, hung, extent, hangs_at, box_of, size_of}
 use Rattle.net.proofs.Find.{find-hit, find-at-most}
 use Rattle.net.proofs.Keys.{both, both_of, bool-ext}
 use Rattle.net.proofs.Last.{asks, hung-snoc}
-use Rattle.node_rows.specs.Rows.{node_in, nodes_in, patch_in, patches_in}
+use Rattle.weights.specs.Rows.{patch_in, patches_in}
 use Rattle.weights.specs.declared.lines.Axis.{Axis}
 use Rattle.weights.specs.declared.lines.Axis.TheVariants.{Column, Row}
-use Rattle.weights.specs.Lines.{facing, all_facing, way_forth, way_back, place_of, entry_of, Lined, at, IsLast, LastIs, Gapped, raised, Reaches}
+use Rattle.weights.specs.Lines.{facing, all_facing, place_of, entry_of, Lined, at, IsLast, LastIs, raised, Reaches}
 use Rattle.weights.proofs.Order.{num, upto-entries}
-use Rattle.weights.proofs.Neighbours.{here, long, spot}
+use Rattle.weights.proofs.Neighbours.{here, spot}
 
 -- ---- the last node at a place
 
@@ -226,64 +224,3 @@ raised_none w ns corners sheets xs g i h = g i h ∙ (let z : gap w ns i ≡ max
 pub raised_all : (w : Way) (ns : List Node) (cs : List Patch) (xs : List ℕ) → Raised w ns cs xs → Reaches w ns cs xs
 unfolding extent
 raised_all w ns cs xs R i h = R i h
-
-pub gap_forth : (axis : Axis) (ns : List Node) (i : ℕ) → next_gap (all_facing axis ns) i ≡ gap (way_forth axis) ns i
-unfolding gap
-gap_forth Column ns i = refl
-gap_forth Row ns i = refl
-
-pub gap_back : (axis : Axis) (ns : List Node) (i : ℕ) → prev_gap (all_facing axis ns) i ≡ gap (way_back axis) ns i
-unfolding gap
-gap_back Column ns i = refl
-gap_back Row ns i = refl
-
--- ---- the middles of a cell's sides across an axis
-
-module _ (axis : Axis) (ns : List Node) (c : Patch) where
-  abbrev sw : Node
-  sw = facing axis (nth ns c.sw)
-
-  abbrev ne : Node
-  ne = facing axis (nth ns c.ne)
-
-  near-place : place_of (facing axis (hangs_at (way_forth axis) ns c)) ≡ (facing axis (nth ns c.sw)).layer ∷ mid (facing axis (nth ns c.sw)).x (facing axis (nth ns c.ne)).x ∷ (facing axis (nth ns c.sw)).y ∷ []
-  near-place = go axis
-    where
-      go : (axis : Axis) → place_of (facing axis (hangs_at (way_forth axis) ns c)) ≡ (facing axis (nth ns c.sw)).layer ∷ mid (facing axis (nth ns c.sw)).x (facing axis (nth ns c.ne)).x ∷ (facing axis (nth ns c.sw)).y ∷ []
-      go Column = refl
-      go Row = refl
-
-  far-place : place_of (facing axis (hangs_at (way_back axis) ns c)) ≡ (facing axis (nth ns c.sw)).layer ∷ mid (facing axis (nth ns c.sw)).x (facing axis (nth ns c.ne)).x ∷ (facing axis (nth ns c.ne)).y ∷ []
-  far-place = go axis
-    where
-      go : (axis : Axis) → place_of (facing axis (hangs_at (way_back axis) ns c)) ≡ (facing axis (nth ns c.sw)).layer ∷ mid (facing axis (nth ns c.sw)).x (facing axis (nth ns c.ne)).x ∷ (facing axis (nth ns c.ne)).y ∷ []
-      go Column = refl
-      go Row = refl
-
-  near-size : (facing axis (nth ns c.ne)).y - (facing axis (nth ns c.sw)).y ≡ size_of (way_forth axis) (box_of ns c)
-  near-size = go axis
-    where
-      go : (axis : Axis) → (facing axis (nth ns c.ne)).y - (facing axis (nth ns c.sw)).y ≡ size_of (way_forth axis) (box_of ns c)
-      go Column = refl
-      go Row = refl
-
-  far-size : (facing axis (nth ns c.ne)).y - (facing axis (nth ns c.sw)).y ≡ size_of (way_back axis) (box_of ns c)
-  far-size = go axis
-    where
-      go : (axis : Axis) → (facing axis (nth ns c.ne)).y - (facing axis (nth ns c.sw)).y ≡ size_of (way_back axis) (box_of ns c)
-      go Column = refl
-      go Row = refl
-
-  -- the places of the corners, as the code has them
-  module _ (p q : List ℕ) (P : p ≡ place_of (facing axis (nth ns c.sw))) (Q : q ≡ place_of (facing axis (nth ns c.ne))) where
-    pub near-is : num p 0 ∷ (num p 1 + num q 1) / 2 ∷ num p 2 ∷ [] ≡ place_of (facing axis (hangs_at (way_forth axis) ns c))
-    near-is = (λ t. num (P t) 0 ∷ (num (P t) 1 + num (Q t) 1) / 2 ∷ num (P t) 2 ∷ []) ∙ sym near-place
-
-    pub far-is : num p 0 ∷ (num p 1 + num q 1) / 2 ∷ num q 2 ∷ [] ≡ place_of (facing axis (hangs_at (way_back axis) ns c))
-    far-is = (λ t. num (P t) 0 ∷ (num (P t) 1 + num (Q t) 1) / 2 ∷ num (Q t) 2 ∷ []) ∙ sym far-place
-
-    pub near-size-is : num q 2 - num p 2 ≡ size_of (way_forth axis) (box_of ns c)
-    near-size-is = (λ t. num (Q t) 2 - num (P t) 2) ∙ near-size
-
-    pub far-size-is : num q 2 - num p 2 ≡ size_of (way_back axis) (box_of ns c)
-    far-size-is = (λ t. num (Q t) 2 - num (P t) 2) ∙ far-size

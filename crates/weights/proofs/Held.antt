@@ -10,8 +10,8 @@ use Rattle.net.specs.Net.{each, Node, Patch, Edge, Cornered, Ends, nth, nowhere,
 use Rattle.net.proofs.All.{All, all-at}
 use Rattle.net.proofs.Faces.{Within}
 use Rattle.places.specs.Places.{node_nums, corner_nums, end_nums}
-use Rattle.node_rows.specs.Rows.{node_in, nodes_in}
-use Rattle.node_rows.proofs.Lists.{node_at, item-at, items-fit, nodes-are, patches-are, edges_are, weights-are}
+use Rattle.weights.specs.Rows.{node_in, nodes_in}
+use Rattle.weights.proofs.Lists.{node_at, item-at, items-fit, nodes-are, patches-are, edges_are, weights-are}
 use Rattle.weights.specs.Weigh.{weight_in, NetRows}
 
 -- the rows begin with the nodes, cells and edges

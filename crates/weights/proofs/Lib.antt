@@ -8,3 +8,7 @@ pub mod Pairs
 pub mod Faces
 pub mod Held
 pub mod Nets
+pub mod Offsets
+pub mod Lists
+pub mod Middles
+pub mod Gaps

@@ -1,18 +1,18 @@
 -- The lists of a net's rows, as the code reads them.
-use Rattle.std.proofs.Common.{◌≡◌, ℕ, ◌+◌, ◌-◌, ◌*◌, ◌/◌, ◌<◌, Bool, true, false, eqb, List, [], ◌∷◌, length, get_or, Option, refl, sym, ap, ap₂, ◌∙◌, subst, eq-eqb, add-zero}
+use Rattle.std.proofs.Common.{◌≡◌, ℕ, ◌*◌, ◌<◌, eqb, List, [], ◌∷◌, length, get_or, refl, sym, ap, ◌∙◌, eq-eqb, add-zero}
 use Rattle.std.proofs.lemmas.Bool.{ne_eqb}
 use Rattle.rows.proofs.Fill.{length-tab}
-use Rattle.net.specs.Net.{Node, Patch, nth, apart, hangs_at, box_of, size_of}
-use Rattle.node_rows.specs.Rows.{node_in, nodes_in, patch_in}
-use Rattle.node_rows.proofs.Lists.{node_at}
+use Rattle.net.specs.Net.{Node, nth, apart}
+use Rattle.weights.specs.Rows.{node_in, nodes_in, patch_in}
+use Rattle.weights.proofs.Lists.{node_at}
 use Rattle.weights.specs.declared.bare.BareNet.{BareNet}
 use Rattle.weights.specs.declared.lines.Axis.{Axis}
 use Rattle.weights.specs.declared.lines.Axis.TheVariants.{Column, Row}
-use Rattle.weights.specs.Lines.{facing, place_of, entry_of, way_forth, way_back, LastIs}
+use Rattle.weights.specs.Lines.{facing, place_of, entry_of}
 use Rattle.weights.specs.Sides.{corner_of}
-use Rattle.weights.specs.Bare.{nodes_of, faced, across_of, distance_of}
+use Rattle.weights.specs.Bare.{nodes_of, faced, cell_in, across_of, distance_of}
 use Rattle.weights.proofs.Order.{num}
-use Rattle.weights.proofs.Hanging.{facing-length, facing_at, near-is, far-is, near-size-is, far-size-is}
+use Rattle.weights.proofs.Hanging.{facing-length, facing_at}
 
 module _ (net : BareNet) where
   pub nodes-long : length (nodes_of net) ≡ net.node_count
@@ -47,30 +47,12 @@ module _ (net : BareNet) where
     pub distance-is : (axis : Axis) → p ≡ place_of (facing axis (node_in net.nodes.now a)) → q ≡ place_of (facing axis (node_in net.nodes.now b)) → apart (num p 1) (num q 1) ≡ distance_of (nodes_of net) axis a b
     distance-is axis P Q = λ t. apart (num (placed axis a from P t) 1) (num (placed axis b to Q t) 1)
 
-  -- two corners of a cell as `corner` and `place` return them, and the middles of its sides
-  module _ (axis : Axis) (v : ℕ) {i j : ℕ} (i-is : i ≡ corner_of net.corners.now v 0) (j-is : j ≡ corner_of net.corners.now v 2) (i-in : i < net.node_count) (j-in : j < net.node_count)
-      {p q : List ℕ} (P : p ≡ place_of (facing axis (node_in net.nodes.now i))) (Q : q ≡ place_of (facing axis (node_in net.nodes.now j))) where
-    abbrev c : Patch
-    c = patch_in net.corners.now net.sheets.now v
-
-    sw-is : p ≡ place_of (facing axis (nth (nodes_of net) (patch_in net.corners.now net.sheets.now v).sw))
+  -- corners of a cell as `corner` and `place` return them
+  module _ (axis : Axis) (v : ℕ) {i : ℕ} (i-in : i < net.node_count) {p : List ℕ} (P : p ≡ place_of (facing axis (node_in net.nodes.now i))) where
+    pub sw-is : i ≡ corner_of net.corners.now v 0 → p ≡ place_of (facing axis (nth (nodes_of net) (cell_in net v).sw))
     unfolding patch_in
-    sw-is = placed axis i i-in P ∙ ap (λ (k : ℕ). place_of (facing axis (nth (nodes_of net) k))) (i-is ∙ ap (λ (z : ℕ). get_or net.corners.now z 0) (add-zero (4 * v)))
+    sw-is e = placed axis i i-in P ∙ ap (λ (k : ℕ). place_of (facing axis (nth (nodes_of net) k))) (e ∙ ap (λ (z : ℕ). get_or net.corners.now z 0) (add-zero (4 * v)))
 
-    ne-is : q ≡ place_of (facing axis (nth (nodes_of net) (patch_in net.corners.now net.sheets.now v).ne))
+    pub ne-is : i ≡ corner_of net.corners.now v 2 → p ≡ place_of (facing axis (nth (nodes_of net) (cell_in net v).ne))
     unfolding patch_in
-    ne-is = placed axis j j-in Q ∙ ap (λ (k : ℕ). place_of (facing axis (nth (nodes_of net) k))) j-is
-
-    pub near-last : (o : Option ℕ) → LastIs (faced net axis) (num p 0 ∷ (num p 1 + num q 1) / 2 ∷ num p 2 ∷ []) o
-        → LastIs (faced net axis) (place_of (facing axis (hangs_at (way_forth axis) (nodes_of net) (patch_in net.corners.now net.sheets.now v)))) o
-    near-last o L = subst (λ (k : List ℕ). LastIs (faced net axis) k o) (near-is axis (nodes_of net) (patch_in net.corners.now net.sheets.now v) p q sw-is ne-is) L
-
-    pub far-last : (o : Option ℕ) → LastIs (faced net axis) (num p 0 ∷ (num p 1 + num q 1) / 2 ∷ num q 2 ∷ []) o
-        → LastIs (faced net axis) (place_of (facing axis (hangs_at (way_back axis) (nodes_of net) (patch_in net.corners.now net.sheets.now v)))) o
-    far-last o L = subst (λ (k : List ℕ). LastIs (faced net axis) k o) (far-is axis (nodes_of net) (patch_in net.corners.now net.sheets.now v) p q sw-is ne-is) L
-
-    pub near-size : {s : ℕ} → s ≡ num q 2 - num p 2 → s ≡ size_of (way_forth axis) (box_of (nodes_of net) (patch_in net.corners.now net.sheets.now v))
-    near-size e = e ∙ near-size-is axis (nodes_of net) (patch_in net.corners.now net.sheets.now v) p q sw-is ne-is
-
-    pub far-size : {s : ℕ} → s ≡ num q 2 - num p 2 → s ≡ size_of (way_back axis) (box_of (nodes_of net) (patch_in net.corners.now net.sheets.now v))
-    far-size e = e ∙ far-size-is axis (nodes_of net) (patch_in net.corners.now net.sheets.now v) p q sw-is ne-is
+    ne-is e = placed axis i i-in P ∙ ap (λ (k : ℕ). place_of (facing axis (nth (nodes_of net) k))) e

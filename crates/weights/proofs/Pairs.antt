@@ -1,10 +1,10 @@
 -- The sides of cells by a sorted row: the first cell that has a pair of nodes, and so its sheet resistance.
-use Rattle.std.proofs.Common.{◌≡◌, ℕ, zero, suc, ◌+◌, ◌*◌, ◌/◌, ◌%◌, ◌<◌, ◌≤◌, min, max, Bool, true, false, ◌&&◌, ◌||◌, nat_eq, eqb, List, [], ◌∷◌, map, length, get_or, slice_get, filter, Option, None, Some, refl, sym, ap, ap₂, ◌∙◌, subst, ⊎_elim, arith, All, Contains, zero-add, add-zero, Float}
+use Rattle.std.proofs.Common.{◌≡◌, ℕ, zero, suc, ◌+◌, ◌*◌, ◌<◌, min, max, Bool, true, false, ◌||◌, nat_eq, List, [], ◌∷◌, map, length, get_or, slice_get, filter, Option, None, Some, refl, sym, ap, ap₂, ◌∙◌, subst, ⊎_elim, arith, Contains, zero-add, add-zero, Float}
 use Rattle.std.specs.List.{range_with_len, starts_with}
 use Rattle.std.specs.Ordering.{is_lt, nat_cmp}
 use Rattle.std.specs.Cmp.Lexicographic.{slice_cmp}
 use Rattle.std.specs.Float.{nan}
-use Rattle.std.proofs.lemmas.Bool.{true≢false, cases_Bool, cases_lt}
+use Rattle.std.proofs.lemmas.Bool.{true≢false, cases_Bool}
 use Rattle.std.proofs.lemmas.Bool.Decides.{nat_tests}
 use Rattle.std.proofs.lemmas.List.{get_or_default}
 use Rattle.std.proofs.lemmas.List.FromFn.{length-map-range_with_len, get_or-map-range_with_len}
@@ -13,7 +13,7 @@ use Rattle.std.proofs.lemmas.List.Sorted.{All-permutation, Contains-permutation}
 use Rattle.sorted.proofs.Ends.{none_passes, found_passes, first_least}
 use Rattle.rows.proofs.Fill.{length-tab, tab-at}
 use Rattle.net.specs.Net.{Patch, pair_is, is_side, sheet_of}
-use Rattle.node_rows.specs.Rows.{patch_in, patches_in}
+use Rattle.weights.specs.Rows.{patch_in, patches_in}
 use Rattle.weights.specs.Sides.{pair_of, side_pair, side_of, side_entry, Sided, IsFirstCell, FirstCellIs}
 use Rattle.weights.proofs.Order.{num, upto-entries}
 

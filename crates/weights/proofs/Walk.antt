@@ -1,11 +1,11 @@
 -- The walk along a row of entries in order that writes each node's gaps.
-use Rattle.std.proofs.Common.{◌≡◌, ℕ, zero, suc, ◌+◌, ◌<◌, ◌≤◌, ◌≢◌, List, [], length, set, get_or, refl, sym, ap, ◌∙◌, subst, ⊎_elim, add-one, arith}
+use Rattle.std.proofs.Common.{◌≡◌, ℕ, zero, suc, ◌+◌, ◌<◌, ◌≤◌, List, length, set, get_or, refl, sym, ◌∙◌, subst, ⊎_elim, add-one, arith}
 use Rattle.std.proofs.lemmas.Bool.{cases_lt}
 use Rattle.std.proofs.lemmas.List.{get_or-set_same, get_or-set_other}
 use Rattle.net.specs.Net.{Node, next_gap, prev_gap}
 use Rattle.weights.specs.Lines.{at, Lined, Gapped, rise_of}
 use Rattle.weights.proofs.Order.{num}
-use Rattle.weights.proofs.Neighbours.{here, spot, apart, next_is, prev_zero, prev_is}
+use Rattle.weights.proofs.Neighbours.{spot, apart, next_is, prev_zero, prev_is}
 
 abbrev pub fall_of : List (List ℕ) → ℕ → ℕ
 fall_of row zero = 0

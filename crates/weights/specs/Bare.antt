@@ -2,7 +2,7 @@
 use Rattle.std.specs.Prelude.{List, ℕ, ◌+◌, ◌<◌, min, ◌==◌, if◌then◌else◌, length, slice_index}
 use Rattle.net.specs.Net.{Node, Patch, nth, apart}
 use Rattle.net.specs.Net.Way.{up, down, right, left}
-use Rattle.node_rows.specs.Rows.{nodes_in, patches_in}
+use Rattle.weights.specs.Rows.{nodes_in, patch_in, patches_in}
 use Rattle.weights.specs.declared.bare.BareNet.{BareNet}
 use Rattle.weights.specs.declared.lines.Axis.{Axis}
 use Rattle.weights.specs.declared.lines.Axis.TheVariants.{Column, Row}
@@ -15,6 +15,9 @@ nodes_of net = nodes_in net.nodes.now net.node_count
 -- along the lines of an axis
 abbrev pub faced : BareNet → Axis → List Node
 faced net axis = all_facing axis (nodes_of net)
+
+abbrev pub cell_in : BareNet → ℕ → Patch
+cell_in net v = patch_in net.corners.now net.sheets.now v
 
 abbrev pub cells_of : BareNet → List Patch
 cells_of net = patches_in net.corners.now net.sheets.now net.cell_count

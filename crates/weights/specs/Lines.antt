@@ -4,7 +4,6 @@ use Rattle.std.specs.List.{range_with_len}
 use Rattle.std.specs.Ordering.{nat_cmp}
 use Rattle.std.specs.Cmp.Lexicographic.{slice_cmp}
 use Rattle.net.specs.Net.{Node, Patch, Way, nth, turned, next_gap, prev_gap, extent}
-use Rattle.net.specs.Net.Way.{up, down, right, left}
 use Rattle.weights.specs.declared.lines.Axis.{Axis}
 use Rattle.weights.specs.declared.lines.Axis.TheVariants.{Column, Row}
 
@@ -16,15 +15,6 @@ facing Row m = turned m
 abbrev pub all_facing : Axis → List Node → List Node
 all_facing Column ns = ns
 all_facing Row ns = map turned ns
-
--- the ways forth and back along the lines of an axis
-abbrev pub way_forth : Axis → Way
-way_forth Column = up
-way_forth Row = right
-
-abbrev pub way_back : Axis → Way
-way_back Column = down
-way_back Row = left
 
 -- ---- entries
 

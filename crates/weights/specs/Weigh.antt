@@ -1,7 +1,7 @@
 -- The weight of an edge, by the rows of a net. Definitions only.
 use Rattle.std.specs.Prelude.{List, ℕ, ◌+◌, ◌*◌, ◌<◌, ◌≤◌, length, slice_index, ℤ, Float}
 use Rattle.net.specs.Net.{Edge, weighed}
-use Rattle.node_rows.specs.Rows.{nodes_in, patches_in, edge_in, Noded, Cornering}
+use Rattle.weights.specs.Rows.{nodes_in, patches_in, edge_in, Noded, Cornering}
 
 -- edge j of the row, of the conductance g
 unfoldable pub edge_of : List ℕ → ℕ → Float → Edge

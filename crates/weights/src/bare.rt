@@ -1,11 +1,12 @@
 //! A net before its weights.
 ghost use Rattle.std.specs.Prelude.{◌≡◌, ◌+◌, ◌*◌, ◌^◌, ◌<◌, slice_index};
-ghost use Rattle.node_rows.specs.Rows.{node_in};
+ghost use Rattle.weights.specs.Rows.{node_in};
 ghost use Rattle.weights.specs.Lines.{facing, place_of};
 ghost use Rattle.weights.specs.Sides.{corner_of};
 ghost use Rattle.weights.specs.Weigh.{NetRows};
 
 use crate::lines::Axis;
+use crate::nodes;
 
 /// Lent rows that begin with the nodes, cells and edges of a net, and how many of each it has.
 #[derive(Clone, Copy)]
@@ -27,9 +28,9 @@ impl BareNet<'_> {
         ensures value { result ≡ place_of (facing axis (node_in self.now.nodes.now node)) }
         ensures line_narrow { slice_index result 1 < 2 ^ 38 }
     {
-        let layer = node_rows::layer_at(self.nodes, node);
-        let x = node_rows::x_at(self.nodes, node);
-        let y = node_rows::y_at(self.nodes, node);
+        let layer = nodes::layer_at(self.nodes, node);
+        let x = nodes::x_at(self.nodes, node);
+        let y = nodes::y_at(self.nodes, node);
         match axis {
             Axis::Column => [layer, x, y],
             Axis::Row => [layer, y, x],

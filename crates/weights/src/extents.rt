@@ -1,9 +1,10 @@
 //! How far each node reaches along an axis: half the gap to its neighbour, or as far as a cell that it hangs on asks.
 ghost use Rattle.std.specs.Prelude.{◌≡◌, ◌<◌, ◌≤◌, List, length, slice_index, All};
 ghost use Rattle.std.specs.Option.{ForSome};
-ghost use Rattle.net.specs.Net.{Node};
-ghost use Rattle.weights.specs.Lines.{Lined, Gapped, Reaches, rise_of, raised, way_forth, way_back};
-ghost use Rattle.weights.specs.Bare.{faced, nodes_of, cells_of};
+ghost use Rattle.net.specs.Net.{Node, box_of, size_of, hangs_at};
+ghost use Rattle.weights.specs.Lines.{Lined, Gapped, LastIs, Reaches, rise_of, raised, place_of};
+ghost use Rattle.weights.specs.Ways.{way_of, axis_of, side_at, GapsAcross, GapsAlong};
+ghost use Rattle.weights.specs.Bare.{nodes_of, cells_of, cell_in};
 
 use crate::bare::BareNet;
 use crate::lines::{Axis, Entry, last_at};
@@ -20,8 +21,8 @@ fn rise_at(row: &[Entry], k: usize) -> u64
     }
 }
 
-// The gaps from each node to the next one of its line and to the one before.
-fn write_gaps(row: &[Entry], forth: &mut [u64], back: &mut [u64])
+/// The gaps from each node to the next one of its line and to the one before, as whole half ticks.
+pub fn write_gaps(row: &[Entry], forth: &mut [u64], back: &mut [u64])
     requires forth_there { All (λ e. slice_index e 3 < length forth.old) row.now }
     requires back_there { All (λ e. slice_index e 3 < length back.old) row.now }
     ensures { (ns : List Node) → Lined ns row.now → Gapped ns forth.new back.new }
@@ -47,34 +48,96 @@ fn raise(extents: &mut [u64], node: Option<usize>, size: u64)
     }
 }
 
-// What the cells ask for the nodes at the middles of their sides across an axis. Nothing says that a cell's corners stand in
-// order: where they do not, its size is 0.
-fn raise_hanging(net: &BareNet, axis: Axis, row: &[Entry], forth: &mut [u64], back: &mut [u64])
-    requires lined { Lined (faced net.now axis) row.now }
-    requires gapped { Gapped (faced net.now axis) forth.old back.old }
-    requires forth_room { net.now.node_count ≤ length forth.old }
-    requires back_room { net.now.node_count ≤ length back.old }
-    ensures forth { Reaches (way_forth axis) (nodes_of net.now) (cells_of net.now) forth.new }
-    ensures back { Reaches (way_back axis) (nodes_of net.now) (cells_of net.now) back.new }
-{
-    for cell in 0..net.cell_count {
-        let [layer, from, near] = net.place(axis, net.corner(cell, 0));
-        let [_, to, far] = net.place(axis, net.corner(cell, 2));
-        let middle = (from + to) / 2;
-        let size = far.saturating_sub(near);
-        raise(forth, last_at(row, layer, middle, near), size);
-        raise(back, last_at(row, layer, middle, far), size);
+/// A way from a node: up and down its column, right and left on its row.
+#[derive(Clone, Copy)]
+pub enum Way {
+    Up,
+    Down,
+    Right,
+    Left,
+}
+
+impl Way {
+    // The axis along which it goes.
+    fn axis(self) -> Axis
+        ensures { result ≡ axis_of self }
+    {
+        match self {
+            Way::Up | Way::Down => Axis::Column,
+            Way::Right | Way::Left => Axis::Row,
+        }
+    }
+
+    // The corner at which the side begins from which a cell lies that way.
+    fn start(self) -> usize
+        ensures { result < 4 }
+    {
+        match self {
+            Way::Up | Way::Right => 0,
+            Way::Left => 1,
+            Way::Down => 3,
+        }
+    }
+
+    // How far along its axis that side is, of a cell that reaches from near to far.
+    fn side(self, near: u64, far: u64) -> u64
+        ensures { result ≡ side_at self near far }
+    {
+        match self {
+            Way::Up | Way::Right => near,
+            Way::Down | Way::Left => far,
+        }
     }
 }
 
-/// The extents of the nodes along an axis, as whole half ticks.
-pub fn write_extents(net: &BareNet, axis: Axis, row: &[Entry], forth: &mut [u64], back: &mut [u64])
-    requires lined { Lined (faced net.now axis) row.now }
-    requires forth_room { net.now.node_count ≤ length forth.old }
-    requires back_room { net.now.node_count ≤ length back.old }
-    ensures forth { Reaches (way_forth axis) (nodes_of net.now) (cells_of net.now) forth.new }
-    ensures back { Reaches (way_back axis) (nodes_of net.now) (cells_of net.now) back.new }
+// How large a cell is that way. Nothing says that its corners stand in order: where they do not, its size is 0.
+fn size(net: &BareNet, way: Way, cell: usize) -> u64
+    requires { cell < net.now.cell_count }
+    ensures { result ≡ size_of (way_of way) (box_of (nodes_of net.now) (cell_in net.now cell)) }
 {
-    write_gaps(row, forth, back);
-    raise_hanging(net, axis, row, forth, back);
+    let axis = way.axis();
+    let [_, _, near] = net.place(axis, net.corner(cell, 0));
+    let [_, _, far] = net.place(axis, net.corner(cell, 2));
+    far.saturating_sub(near)
+}
+
+// The node that hangs on a cell at the middle of its side from which it lies that way. The gaps are those across the way:
+// mostly they tell that nothing stands between the ends of the side.
+fn hanging(net: &BareNet, way: Way, row: &[Entry], gaps: &[u64], cell: usize) -> Option<usize>
+    requires cell_there { cell < net.now.cell_count }
+    requires lined { Lined (nodes_of net.now) row.now }
+    requires gaps_there { net.now.node_count ≤ length gaps.now }
+    requires gapped { GapsAcross (nodes_of net.now) way gaps.now }
+    ensures { LastIs (nodes_of net.now) (place_of (hangs_at (way_of way) (nodes_of net.now) (cell_in net.now cell))) result }
+{
+    let axis = way.axis();
+    let [layer, from, near] = net.place(axis, net.corner(cell, 0));
+    let [_, to, far] = net.place(axis, net.corner(cell, 2));
+    let side = way.side(near, far);
+    let start = net.corner(cell, way.start());
+    let [plane, line, along] = net.place(axis, start);
+    let long = to.saturating_sub(from);
+    if plane == layer && line == from && along == side && 2 <= long && long <= gaps[start] {
+        return None;
+    }
+    let middle = (from + to) / 2;
+    match axis {
+        Axis::Column => last_at(row, layer, middle, side),
+        Axis::Row => last_at(row, layer, side, middle),
+    }
+}
+
+/// What the cells ask for the nodes at the middles of their sides. The nodes stand in order along columns.
+pub fn raise_hanging(net: &BareNet, way: Way, row: &[Entry], gaps: &[u64], extents: &mut [u64])
+    requires lined { Lined (nodes_of net.now) row.now }
+    requires gaps_there { net.now.node_count ≤ length gaps.now }
+    requires gapped { GapsAcross (nodes_of net.now) way gaps.now }
+    requires room { net.now.node_count ≤ length extents.old }
+    requires own_gaps { GapsAlong (nodes_of net.now) way extents.old }
+    ensures { Reaches (way_of way) (nodes_of net.now) (cells_of net.now) extents.new }
+{
+    for cell in 0..net.cell_count {
+        let node = hanging(net, way, row, gaps, cell);
+        raise(extents, node, size(net, way, cell));
+    }
 }

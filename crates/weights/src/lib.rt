@@ -8,15 +8,17 @@ ghost use Rattle.weights.specs.Weigh.{weight_in};
 pub mod bare;
 pub mod extents;
 pub mod lines;
+mod nodes;
 pub mod sides;
 pub mod weigh;
 
 use bare::BareNet;
+use extents::Way;
 use lines::Axis;
 use weigh::Extents;
 
 // The weights. Here the work room is drawn, for l cells and so at most 4 * l nodes: a key for each, an entry for each
-// twice, and its extents. It does not grow with the edges.
+// twice, its extents, and its gaps up. It does not grow with the edges.
 fn write_weights(net: &BareNet, work: &mut [u64], conductances: &mut [f64])
     requires work_room { 64 * net.now.cell_count ≤ length work.old }
     requires conductance_room { net.now.edge_count ≤ length conductances.old }
@@ -30,17 +32,10 @@ fn write_weights(net: &BareNet, work: &mut [u64], conductances: &mut [f64])
     let (down, rest) = rest.split_at_mut(most);
     let (right, rest) = rest.split_at_mut(most);
     let (left, rest) = rest.split_at_mut(most);
+    let (gaps, rest) = rest.split_at_mut(most);
     let (entries, _) = rest.as_chunks_mut::<4>();
     let (row, rest) = entries.split_at_mut(most);
     let (scratch, _) = rest.split_at_mut(most);
-    lines::sort_nodes(
-        net,
-        Axis::Column,
-        &mut row[..n],
-        &mut keys[..n],
-        &mut scratch[..n],
-    );
-    extents::write_extents(net, Axis::Column, &row[..n], up, down);
     lines::sort_nodes(
         net,
         Axis::Row,
@@ -48,7 +43,20 @@ fn write_weights(net: &BareNet, work: &mut [u64], conductances: &mut [f64])
         &mut keys[..n],
         &mut scratch[..n],
     );
-    extents::write_extents(net, Axis::Row, &row[..n], right, left);
+    extents::write_gaps(&row[..n], right, left);
+    lines::sort_nodes(
+        net,
+        Axis::Column,
+        &mut row[..n],
+        &mut keys[..n],
+        &mut scratch[..n],
+    );
+    extents::write_gaps(&row[..n], up, down);
+    gaps.copy_from_slice(up);
+    extents::raise_hanging(net, Way::Up, &row[..n], right, up);
+    extents::raise_hanging(net, Way::Down, &row[..n], right, down);
+    extents::raise_hanging(net, Way::Right, &row[..n], gaps, right);
+    extents::raise_hanging(net, Way::Left, &row[..n], gaps, left);
     sides::sort_sides(net, row, keys, scratch);
     let extents = Extents {
         up,

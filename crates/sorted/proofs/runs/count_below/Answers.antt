@@ -7,4 +7,4 @@ pub returns-clause-parted : goal.returns-clause-parted
 returns-clause-parted g c =
     let row = c.args.row.now in
     let key = c.args.key.now in
-    IsPartitionPoint-from_clause (less row c.requires key) row _ c.partition_point.ensures.partitioned (less-parted row c.requires key) (λ a r f' k. search rules)
+    IsPartitionPoint-from_clause (less row c.requires.sorted key) row _ c.partition_point.ensures.partitioned (less-parted row c.requires.sorted key) (λ a r f' k. search rules)

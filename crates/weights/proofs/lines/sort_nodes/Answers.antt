@@ -1,4 +1,4 @@
-use Rattle.std.proofs.Common.{subst, sym, List, ℕ, arith, IsPermutation}
+use Rattle.std.proofs.Common.{subst, List, ℕ, arith, IsPermutation}
 use Rattle.weights.specs.Lines.{entry_of}
 use Rattle.weights.specs.Bare.{faced}
 use Rattle.weights.proofs.Entries.{filled_more, filled_all}

@@ -1,4 +1,4 @@
-use Rattle.std.proofs.Common.{◌≡◌, ◌-◌, ℕ, max, min, arith, ◌∙◌}
+use Rattle.std.proofs.Common.{◌≡◌, ℕ, arith, ◌∙◌}
 use Rattle.std.specs.Int.{abs_diff}
 use Rattle.net.specs.Net.{apart}
 use Rattle.weights.proofs.Nets.{distance-is}

@@ -1,4 +1,4 @@
-use Rattle.std.proofs.Common.{◌≡◌, ◌+◌, ◌*◌, ◌<◌, ◌∙◌, ap, sym, ℕ, length, get_or, add-zero, arith, None, Some, Float}
+use Rattle.std.proofs.Common.{◌≡◌, ◌+◌, ◌*◌, ◌<◌, ◌∙◌, ap, ℕ, length, get_or, add-zero, arith, None, Some}
 use Rattle.std.specs.Float.{nan}
 use Rattle.weights.specs.declared.bare.BareNet.{BareNet}
 use Rattle.weights.specs.Bare.{nodes_of, cells_of}

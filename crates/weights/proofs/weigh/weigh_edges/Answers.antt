@@ -2,7 +2,7 @@ use Rattle.std.proofs.Common.{ap, ◌∙◌, arith, Float}
 use Rattle.std.specs.Float.{nan}
 use Rattle.rows.proofs.Fill.{fill_begins, fill-above, front-turn, fill-ends}
 use Rattle.net.specs.Net.{weighed}
-use Rattle.node_rows.specs.Rows.{edge_in}
+use Rattle.weights.specs.Rows.{edge_in}
 use Rattle.weights.specs.Weigh.{edge_of, weight_in}
 use Rattle.weights.specs.Bare.{nodes_of, cells_of}
 use Rattle.weights.proofs.weigh.weigh_edges.Goals as goal

@@ -1,11 +1,8 @@
-// Nodes out of a lent row: four numbers a node, layer, component, x and y. Coordinates are handed out as a cell holds
-// them.
-#![tactic(auto)]
-
+//! Nodes out of a lent row: four numbers a node, layer, component, x and y. Coordinates are handed out as a cell holds
+//! them.
 ghost use Rattle.std.specs.Prelude.{◌≡◌, ◌+◌, ◌*◌, ◌^◌, ◌<◌, ◌≤◌, length};
-ghost use Rattle.node_rows.specs.Rows.{node_in};
+ghost use Rattle.weights.specs.Rows.{node_in};
 
-// Internal, all three: the node stands in the row.
 #[tactic(auto, using(table::proofs::Numbers::counted_max), unfolding(crate::specs::Rows::node_in))]
 pub fn layer_at(nodes: &[i64], i: usize) -> u64
     requires { 4 * i + 4 ≤ length nodes.now }
@@ -14,18 +11,20 @@ pub fn layer_at(nodes: &[i64], i: usize) -> u64
     nodes[4 * i].max(0) as u64
 }
 
-#[tactic(auto, using(crate::proofs::Nodes::off_small), unfolding(crate::specs::Rows::node_in))]
+#[tactic(auto, using(crate::proofs::Offsets::off_small), unfolding(crate::specs::Rows::node_in))]
 pub fn x_at(nodes: &[i64], i: usize) -> u64
     requires { 4 * i + 4 ≤ length nodes.now }
-    ensures { (result ≡ (node_in nodes.now i).x) × (result < 2 ^ 38) }
+    ensures value { result ≡ (node_in nodes.now i).x }
+    ensures narrow { result < 2 ^ 38 }
 {
     cell::ticks::offset(nodes[4 * i + 2])
 }
 
-#[tactic(auto, using(crate::proofs::Nodes::off_small), unfolding(crate::specs::Rows::node_in))]
+#[tactic(auto, using(crate::proofs::Offsets::off_small), unfolding(crate::specs::Rows::node_in))]
 pub fn y_at(nodes: &[i64], i: usize) -> u64
     requires { 4 * i + 4 ≤ length nodes.now }
-    ensures { (result ≡ (node_in nodes.now i).y) × (result < 2 ^ 38) }
+    ensures value { result ≡ (node_in nodes.now i).y }
+    ensures narrow { result < 2 ^ 38 }
 {
     cell::ticks::offset(nodes[4 * i + 3])
 }

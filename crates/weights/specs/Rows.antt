@@ -1,13 +1,11 @@
--- The rows of a net as the weights read them: nodes, cells and edges out of lent rows, and the four extents of each node in the work room.
--- Definitions only.
-use Rattle.std.specs.Prelude.{◌≡◌, List, ℕ, zero, suc, ◌+◌, ◌*◌, ◌^◌, ◌<◌, ◌≤◌, length, get_or, ℤ, pos, Float}
+-- The rows of a net as the weights read them: nodes, cells and edges out of lent rows. Definitions only.
+use Rattle.std.specs.Prelude.{List, ℕ, ◌+◌, ◌*◌, ◌^◌, ◌<◌, ◌≤◌, length, get_or, ℤ, pos, Float}
 use Rattle.std.specs.Float.{nan}
 use Rattle.refusals.specs.Limits.{max_slots}
 use Rattle.cell.specs.Ticks.{off}
 use Rattle.table.specs.Slots.{counted}
 use Rattle.rows.specs.Parts.{tab}
-use Rattle.net.specs.Net.{Node, Patch, Edge, Way, gap, extent}
-use Rattle.net.specs.Net.Way.{up, down, right, left}
+use Rattle.net.specs.Net.{Node, Patch, Edge}
 
 -- node i of the row: four numbers a node, layer, component, x and y in the caller's ticks
 unfoldable pub node_in : List ℤ → ℕ → Node
@@ -50,24 +48,3 @@ pub record Noded (row : List ℤ) (n l : ℕ) : Type 0 where
 pub record Cornering (corners : List ℕ) (n l : ℕ) : Type 0 where
   pub long : 4 * l ≤ length corners
   pub low : (j : ℕ) → j < 4 * l → get_or corners j 0 < n
-
--- ---- the extents: 44 * l on in the work room four parts of 4 * l numbers each, up, down, right, left
-
-abbrev pub way_of : ℕ → Way
-way_of zero = up
-way_of (suc zero) = down
-way_of (suc (suc zero)) = right
-way_of (suc (suc (suc q))) = left
-
-abbrev pub extent_at : List ℕ → ℕ → ℕ → ℕ → ℕ
-extent_at w l q i = get_or w (44 * l + 4 * l * q + i) 0
-
--- the gaps alone
-pub record Gapped (row : List ℤ) (w : List ℕ) (n l : ℕ) : Type 0 where
-  pub long : 64 * l ≤ length w
-  pub at : (q i : ℕ) → q < 4 → i < n → extent_at w l q i ≡ gap (way_of q) (nodes_in row n) i
-
--- and what cells ask for nodes at the middle of their sides
-pub record Extended (row : List ℤ) (cs : List Patch) (w : List ℕ) (n l : ℕ) : Type 0 where
-  pub long : 64 * l ≤ length w
-  pub at : (q i : ℕ) → q < 4 → i < n → extent_at w l q i ≡ extent (way_of q) (nodes_in row n) cs i

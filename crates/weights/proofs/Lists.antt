@@ -13,7 +13,7 @@ use Rattle.net.specs.Net.{each, Node, Patch, Edge, nth, nowhere, weighed}
 use Rattle.net.proofs.All.{All, all-at, all_nil, all_one, all_append}
 use Rattle.net.proofs.Faces.{Within}
 use Rattle.places.specs.Places.{node_nums, corner_nums}
-use Rattle.node_rows.specs.Rows.{node_in, nodes_in, patch_in, patches_in, edge_in}
+use Rattle.weights.specs.Rows.{node_in, nodes_in, patch_in, patches_in, edge_in}
 
 -- a node out of the list
 pub node_at : (row : List ℤ) (n i : ℕ) → i < n → nth (nodes_in row n) i ≡ node_in row i
