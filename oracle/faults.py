@@ -90,7 +90,7 @@ FAULTS = [
     ("r_sheet below 2^-40", BOARDS, LIMITS, "0x3d70_0000_0000_0000", "0x3d6f_ffff_ffff_ffff"),
     ("1,024 points too many", BOARDS, CHECK, "0, RING_POINTS as u64)", "0, RING_POINTS as u64 - 1)"),
     ("1,025 points", BOARDS, CHECK, "0, RING_POINTS as u64)", "0, RING_POINTS as u64 + 1)"),
-    ("too little room for 1,021 points", BOARDS, "mesh/src/lib.rt", "POINTS: usize = 1024;", "POINTS: usize = 1020;"),
+    ("too little room for 1,021 points", BOARDS, "leafnet_text/src/rooms.rt", "POINTS: usize = 1024;", "POINTS: usize = 1020;"),
     ("63 layer entries", BOARDS, LIMITS, "LAYERS: usize = 64;", "LAYERS: usize = 63;"),
     ("65 layer entries", BOARDS, CHECK, "0, LAYERS as u64)", "0, LAYERS as u64 + 1)"),
     ("cap 257", BOARDS, CHECK, "1, CAP)", "1, CAP + 1)"),
