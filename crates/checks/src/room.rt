@@ -27,6 +27,7 @@ const A_PAIR: usize = 2;
 
 // Whether the room is long enough for the quick walk, and the nodes are few enough.
 #[tactic(auto, unfolding(crate::specs::Rooms::roomy))]
+#[inline(always)]
 fn has_room(net: &SoundNet, work: &[u64]) -> bool
     ensures { result
         ≡ roomy (node_count net.now.rows.nodes.now) (length net.now.rows.conductances.now) (length work.now) }
@@ -36,6 +37,7 @@ fn has_room(net: &SoundNet, work: &[u64]) -> bool
 }
 
 // The first fault, by the net in order. Internal: there is room.
+#[inline(never)]
 fn find_quickly(net: &SoundNet, table: &Table, scope: Scope, work: &mut [u64]) -> Option<Hanging>
     requires few_nodes { node_count net.now.rows.nodes.now ≤ max_nodes }
     requires room { 9 * node_count net.now.rows.nodes.now + 3 * length net.now.rows.conductances.now
@@ -65,6 +67,7 @@ fn find_quickly(net: &SoundNet, table: &Table, scope: Scope, work: &mut [u64]) -
 /// The first fault of the leaves by id, with the help of the room where it is long enough; it is zero then. Internal:
 /// the polygons of the cells stand in the rows.
 #[tactic(auto, unfolding(crate::specs::Rooms::room_after))]
+#[inline(always)]
 pub fn find_fault(net: &SoundNet, table: &Table, scope: Scope, work: &mut [u64]) -> Option<Hanging>
     requires { (i : ℕ) → i < table.now.head.count → Holds scope (cell_at table.now.row.now i).poly }
     ensures fault { result

@@ -62,6 +62,7 @@ impl Slope {
 
 // The values of cell c. Internal: the cell is one of the net, with a potential for each node.
 #[tactic(auto, unfolding(crate::specs::Powers::values_at))]
+#[inline(always)]
 fn cell_values(net: &SoundNet, potentials: &[f64], c: usize) -> Values
     requires inside { c < length net.now.rows.sheets.now }
     requires a_potential_each { length potentials.now ≡ node_count net.now.rows.nodes.now }
@@ -106,6 +107,7 @@ fn sheets_in_range(sheets: &[f64]) -> bool
 // Puts the power of each cell in its answer, two cells a turn: both are loaded before either is divided, so that the
 // divisions go together. Internal: there is a potential for each node, and room for the answers.
 #[tactic(auto, unfolding(crate::specs::Powers::listed))]
+#[inline(always)]
 fn fill(net: &SoundNet, potentials: &[f64], answers: &mut [f64])
     requires a_potential_each { length potentials.now ≡ node_count net.now.rows.nodes.now }
     requires room { length net.now.rows.sheets.now ≤ length answers.old }
@@ -131,6 +133,7 @@ fn fill(net: &SoundNet, potentials: &[f64], answers: &mut [f64])
 
 // Whether each value is one that the rules allow, and there is a potential for each node.
 #[tactic(auto, unfolding(crate::specs::Powers::in_ranges))]
+#[inline(always)]
 fn in_ranges(net: &SoundNet, potentials: &[f64]) -> bool
     ensures { result ≡ in_ranges (net_in net.now.rows) potentials.now }
 {
@@ -141,6 +144,7 @@ fn in_ranges(net: &SoundNet, potentials: &[f64]) -> bool
 
 /// The rules' cell_power: refusal 7 for a bad net, 3 for a value out of range, 6 for fewer answers than cells.
 #[tactic(auto, unfolding(crate::specs::Powers::power_says, crate::specs::Powers::power_row))]
+#[inline(always)]
 pub fn cell_power(rows: &NetRows, potentials: &[f64], answers: &mut [f64]) -> Result<(), Refusal>
     ensures answer { power_said result ≡ power_says (net_in rows.now) potentials.now answers.old }
     ensures row { answers.new ≡ power_row (net_in rows.now) potentials.now answers.old }

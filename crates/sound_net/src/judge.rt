@@ -110,6 +110,7 @@ fn differ(nodes: &[i64], i: usize, j: usize) -> i64
 
 impl Corners {
     /// The corners of a cell. Internal: the cell stands in the row.
+    #[inline(always)]
     pub fn of(corners: &[u64], c: usize) -> Corners
         requires { c * 4 + 4 ≤ length corners.now }
         ensures { result ≡ corners_at corners.now c }
@@ -182,6 +183,7 @@ impl NetRows<'_> {
     /// Whether the rows are a sound net: the rules' refusal 7 of a net is that they are not. `SoundNet::judge` asks it
     /// once for all.
     #[tactic(auto, using(crate::proofs::Marks::edge_ends), unfolding(crate::specs::Nets::sound_net))]
+    #[inline(always)]
     pub fn is_sound(&self) -> bool
         ensures { result ≡ sound_net (net_in self.now) }
     {

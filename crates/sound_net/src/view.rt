@@ -31,6 +31,7 @@ pub struct SoundCell {
 }
 
 // The ticks from one number of the row to a larger one. Internal: both are coordinates in range.
+#[inline(always)]
 fn gap(nodes: &[i64], i: usize, j: usize) -> u64
     requires from_there { i < length nodes.now }
     requires to_there { j < length nodes.now }
@@ -44,6 +45,7 @@ impl SoundNode {
     ghost use Rattle.sound_net.specs.Cells.{sound_node_at};
 
     // Node n. Internal: it is sound.
+    #[inline(always)]
     fn of(nodes: &[i64], n: usize) -> SoundNode
         requires there { n * 4 + 4 ≤ length nodes.now }
         requires sound { IsSoundNode nodes.now n }
@@ -63,6 +65,7 @@ impl SoundCell {
     ghost use Rattle.sound_net.specs.Cells.{sound_cell_at};
 
     // Cell c. Internal: it is sound.
+    #[inline(always)]
     fn of(nodes: &[i64], corners: &[u64], c: usize) -> SoundCell
         requires there { c * 4 + 4 ≤ length corners.now }
         requires sound { IsSoundCell nodes.now corners.now c }
@@ -82,6 +85,7 @@ impl SoundCell {
 }
 
 // The two nodes of edge e. Internal: it stands in the row.
+#[inline(always)]
 fn ends_of(ends: &[u64], e: usize) -> (usize, usize)
     requires { e * 2 + 2 ≤ length ends.now }
     ensures { result ≡ (from_at ends.now e, to_at ends.now e) }
@@ -94,6 +98,7 @@ impl<'a> SoundNet<'a> {
     ghost use Rattle.sound_net.specs.Cells.{sound_node_at, sound_cell_at};
 
     /// The rows as a net; none where they are not sound.
+    #[inline(always)]
     pub fn judge(rows: &NetRows<'a>) -> Option<SoundNet<'a>>
         ensures sound { IsSome result ↔ IsSound (net_in rows.now) }
         ensures facts { IsSome result ↔ IsSoundNet (net_in rows.now) }
@@ -106,6 +111,7 @@ impl<'a> SoundNet<'a> {
         }
     }
 
+    #[inline(always)]
     pub fn node_count(&self) -> usize
         ensures count { result ≡ node_count self.now.rows.nodes.now }
         ensures few { result < 2 ^ 60 }
@@ -113,6 +119,7 @@ impl<'a> SoundNet<'a> {
         self.rows.nodes.len() / 4
     }
 
+    #[inline(always)]
     pub fn edge_count(&self) -> usize
         ensures count { result ≡ length self.now.rows.conductances.now }
         ensures few { result < 2 ^ 60 }
@@ -120,12 +127,14 @@ impl<'a> SoundNet<'a> {
         self.rows.conductances.len()
     }
 
+    #[inline(always)]
     pub fn cell_count(&self) -> usize
         ensures { result ≡ length self.now.rows.sheets.now }
     {
         self.rows.sheets.len()
     }
 
+    #[inline(always)]
     pub fn node(&self, n: usize) -> SoundNode
         requires { n < node_count self.now.rows.nodes.now }
         ensures { result ≡ sound_node_at self.now.rows.nodes.now n }
@@ -134,6 +143,7 @@ impl<'a> SoundNet<'a> {
     }
 
     /// The two nodes of an edge.
+    #[inline(always)]
     pub fn ends(&self, e: usize) -> (usize, usize)
         requires { e < length self.now.rows.conductances.now }
         ensures ends { result ≡ (from_at self.now.rows.ends.now e, to_at self.now.rows.ends.now e) }
@@ -143,6 +153,7 @@ impl<'a> SoundNet<'a> {
         ends_of(self.rows.ends, e)
     }
 
+    #[inline(always)]
     pub fn cell(&self, c: usize) -> SoundCell
         requires { c < length self.now.rows.sheets.now }
         ensures value { result ≡ sound_cell_at self.now.rows.nodes.now self.now.rows.corners.now c }
