@@ -14,7 +14,9 @@ use Rattle.record.specs.declared.board.Version.{Version}
 use Rattle.record.specs.declared.board.Version.TheVariants.{One}
 use Rattle.record.specs.Board.{Board, Settings, version_of, limits_of, as_default, default_level, level, settings, layer_list, polygon_list, split_list, body, board}
 use Rattle.record.specs.Rows.{Rows}
-use Rattle.record.specs.Reading.{has_room}
+use Rattle.record.specs.declared.board.Read.{Read}
+use Rattle.record.specs.Reading.{counts_of, summary_of, checked, has_room, reading}
+use Rattle.record.proofs.Boards.{found, reading_done}
 use Rattle.record.proofs.Rounds.{known}
 
 past_past : (j k : ℕ) (c : Cursor) → past k (past j c) ≡ past (j + k) c
@@ -118,3 +120,26 @@ room_of rows n h =
 
 pub ok_with : {A : Type 0} (r : Result A Refusal) (P : A → Type 0) {x : A} → r ≡ Ok x → P x → IsOkAnd r P
 ok_with {A} r P e h = subst (λ (y : Result A Refusal). IsOkAnd y P) (sym e) h
+
+-- ---- a record that was judged, and its room
+
+pub record IsJudged (bytes : List ℕ) (rows : Rows) (s : Read) : Type 0 where
+  pub board : Board
+  pub summary : s ≡ summary_of board
+  pub reads : reading bytes rows ≡ Ok board
+  pub long : 16 ≤ length bytes
+  pub lists : Lists (past 16 (start bytes)) board
+  pub room : Room rows (counts_of board)
+
+pub judged : (bytes : List ℕ) (rows : Rows) (s : Read) → Ok s ≡ checked (board bytes) → has_room rows s.counts ≡ true → IsJudged bytes rows s
+judged bytes rows s h enough =
+    let b = found (board bytes) s h in
+    let there = lists_of bytes b.0 b.1 in
+    record {
+      board = b.0;
+      summary = b.2;
+      reads = reading_done bytes rows s b.0 h enough b.1;
+      long = there.1;
+      lists = there.0;
+      room = room_of rows (counts_of b.0) (ap (λ (x : Read). has_room rows x.counts) (sym b.2) ∙ enough);
+    }
