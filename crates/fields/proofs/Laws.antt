@@ -3,7 +3,7 @@ use Rattle.std.proofs.Common.{◌≡◌, ℕ, zero, suc, ◌+◌, ◌^◌, ◌<�
 use Rattle.std.specs.List.{flat_map}
 use Rattle.std.specs.Int.{Width, w8, w16, w32, w64, byte_len, from_be_bytes, to_be_bytes, cast_signed, cast_unsigned}
 use mir.Facts.{Fits-of_z}
-use Rattle.std.proofs.lemmas.Bool.{cases_lt, leb-true, le-leb, le-ltb, lt-ltb, ltb-true}
+use Rattle.std.proofs.lemmas.Bool.{cases_lt, leb-true, le-leb, le-ltb, lt-ltb, ltb-true, ltb-false}
 use Rattle.std.proofs.lemmas.List.{take_at, drop_at, length-append, get_or-drop, get_or-take, get_or_past}
 use Rattle.std.proofs.lemmas.Nat.{from_be_bytes-to_be_bytes_2, from_be_bytes-to_be_bytes_4, from_be_bytes-to_be_bytes_8}
 use Rattle.refusals.specs.declared.Refusal.{Refusal}
@@ -92,7 +92,7 @@ number_again w wide n at rest lt =
     rw (long, take_at (to_be_bytes w n) rest (byte_len w) len, drop_at (to_be_bytes w n) rest (byte_len w) len, wide.again n lt, len) refl
 
 -- which bytes a number was read from
-number_from : (w : Width) (old : Cursor) {n : ℕ} {new : Cursor} → number w old ≡ Ok (n, new)
+pub number_from : (w : Width) (old : Cursor) {n : ℕ} {new : Cursor} → number w old ≡ Ok (n, new)
     → (n ≡ from_be_bytes w (take (byte_len w) old.rest)) × (new ≡ past (byte_len w) old)
 number_from w old e =
     let b = bind_ok (bytes_of (byte_len w) old) (λ bytes. Ok (from_be_bytes w bytes.0, bytes.1)) e in
@@ -247,3 +247,53 @@ ranged_within w low high old {n} {new} e =
     let f = each (leb low b.0.0) (leb b.0.0 high) t.0 in
     let is : b.0.0 ≡ n = ap (λ (x : ℕ × Cursor). x.0) (ok_is t.1) in
     subst (λ (m : ℕ). (low ≤ m) × (m ≤ high)) is (leb-true low b.0.0 f.0, leb-true b.0.0 high f.1)
+
+-- ---- what a field that was read is made of
+
+pub number_room : (w : Width) (old : Cursor) {x : ℕ × Cursor} → number w old ≡ Ok x → byte_len w ≤ length old.rest
+number_room w old {x} e =
+    let b = bind_ok (bytes_of (byte_len w) old) (λ bytes. Ok (from_be_bytes w bytes.0, bytes.1)) e in
+    room (ltb (length old.rest) (byte_len w)) refl b.1
+  where
+    room : (b : Bool) {y : List ℕ × Cursor} → ltb (length old.rest) (byte_len w) ≡ b → cond b (Err (WrongLength old.at)) (done (take (byte_len w) old.rest, past (byte_len w) old)) ≡ Ok y → byte_len w ≤ length old.rest
+    room true e h = absurd cc
+    room false e h = ltb-false _ _ e
+
+pub tested_parts : {A : Type 0} (test : A → Bool) (a : Codec A) (old : Cursor) {x : A × Cursor} → (tested test a).reading old ≡ Ok x → (a.reading old ≡ Ok x) × (test x.0 ≡ true)
+tested_parts test a old {x} e =
+    let b = bind_ok (a.reading old) (λ x. require (test x.0) (OutOfRange old.at) (Ok x)) e in
+    let t = require_ok (test b.0.0) (OutOfRange old.at) (Ok b.0) b.2 in
+    (b.1 ∙ t.1, ap (λ y. test y.0) (sym (ok_is {x = b.0} {y = x} t.1)) ∙ t.0)
+
+pub signed_parts : (test : ℤ → Bool) (old : Cursor) {x : ℤ × Cursor} → (signed test).reading old ≡ Ok x → signed_number old ≡ Ok x
+signed_parts test old {x} e =
+    let b = bind_ok (signed_number old) (λ x. require (test x.0) (OutOfRange old.at) (Ok x)) e in
+    b.1 ∙ (require_ok (test b.0.0) (OutOfRange old.at) (Ok b.0) b.2).1
+
+pub pair_parts : {A B : Type 0} (a : Codec A) (b : Codec B) (old : Cursor) {x : (A × B) × Cursor} → (pair a b).reading old ≡ Ok x
+    → (c : Cursor) × (a.reading old ≡ Ok (x.0.0, c)) × (b.reading c ≡ Ok (x.0.1, x.1))
+pair_parts {A} {B} a b old {x} e =
+    let p = bind_ok (a.reading old) (λ x. b.reading x.1 >>= λ y. Ok ((x.0, y.0), y.1)) e in
+    let q = bind_ok (b.reading p.0.1) (λ y. Ok ((p.0.0, y.0), y.1)) p.2 in
+    let made : (A × B) × Cursor = ((p.0.0, q.0.0), q.0.1) in
+    let is : made ≡ x = ok_is q.2 in
+    (p.0.1, p.1 ∙ ap (λ (z : (A × B) × Cursor). Ok (z.0.0, p.0.1)) is, q.1 ∙ ap (λ (z : (A × B) × Cursor). Ok (z.0.1, z.1)) is)
+
+pub named_parts : {A B : Type 0} (make : A → B) (parts : B → A) (a : Codec A) → ((x : A) → parts (make x) ≡ x) → (old : Cursor) {y : B × Cursor} → (named make parts a).reading old ≡ Ok y
+    → a.reading old ≡ Ok (parts y.0, y.1)
+named_parts {A} {B} make parts a there old {y} e =
+    let p = bind_ok (a.reading old) (λ x. Ok (make x.0, x.1)) e in
+    let made : B × Cursor = (make p.0.0, p.0.1) in
+    let is : made ≡ y = ok_is p.2 in
+    let back : done (p.0.0, p.0.1) ≡ done (parts (make p.0.0), p.0.1) = ap (λ (x : A). done (x, p.0.1)) (sym (there p.0.0)) in
+    p.1 ∙ back ∙ ap (λ (z : B × Cursor). Ok (parts z.0, z.1)) is
+
+pub chained_parts : {A S : Type 0} (item : S → Codec A) (leaves : A → S) (w : Width) (most : ℕ) (seen : S) (old : Cursor) {x : List A × Cursor} → (chained w most item leaves seen).reading old ≡ Ok x
+    → (n : ℕ) × (c : Cursor) × (number w old ≡ Ok (n, c)) × (many item leaves seen n c ≡ Ok x)
+chained_parts item leaves w most seen old e =
+    let p = bind_ok ((ranged w 0 most).reading old) (λ n. many item leaves seen n.0 n.1) e in
+    (p.0.0, p.0.1, (tested_parts (λ n. leb 0 n && leb n most) (any w) old p.1).0, p.2)
+
+-- a field is read in one way
+pub same_read : {A : Type 0} (r : Result (A × Cursor) Refusal) {x y : A × Cursor} → r ≡ Ok x → r ≡ Ok y → x ≡ y
+same_read r e f = ok_is (sym e ∙ f)

@@ -1,9 +1,10 @@
 -- Items one after the other, as a loop reads them.
-use Rattle.std.proofs.Common.{◌≡◌, ℕ, suc, length, ◌-◌, ◌+◌, ◌≤◌, ◌<◌, List, [], ◌∷◌, ◌++◌, Result, Ok, Err, refl, sym, ◌∙◌, append_assoc, arith, length-append}
+use Rattle.std.proofs.Common.{◌≡◌, ℕ, suc, length, ◌-◌, ◌+◌, ◌≤◌, ◌<◌, List, [], ◌∷◌, ◌++◌, Result, Ok, Err, refl, sym, ap, ◌∙◌, append_assoc, arith, length-append}
 use Rattle.std.proofs.lemmas.List.{append-nil}
 use Rattle.refusals.specs.declared.Refusal.{Refusal}
 use Rattle.fields.specs.Cursor.{Cursor, ◌>>=◌}
 use Rattle.fields.specs.Codec.{Codec, many}
+use Rattle.fields.proofs.Laws.{ok_is}
 
 -- what was read before, and what is still read
 abbrev pub with_front : {A : Type 0} → List A → Result (List A × Cursor) Refusal → Result (List A × Cursor) Refusal
@@ -48,3 +49,26 @@ module _ {A S : Type 0} (item : S → Codec A) (leaves : A → S) (seen : S) (n 
         let k : n - i ≡ 0 = omega arith in
         let one : with_front front (many item leaves state (n - i) c) ≡ Ok (front, c) = rw (k, append-nil front) refl in
         sym so_far.still ∙ one
+
+    -- where all of them are read, so is the next
+    pub reads_on : {all : List A × Cursor} → i < n → many item leaves seen n old ≡ Ok all → (x : A × Cursor) × ((item state).reading c ≡ Ok x)
+    reads_on {all} lt whole = by ((item state).reading c) refl
+      where
+        refused : (d : Refusal) (all : List A × Cursor) → Err d ≡ Ok all → ⊥
+        refused d all h = cc
+
+        by : (r : Result (A × Cursor) Refusal) → (item state).reading c ≡ r → (x : A × Cursor) × ((item state).reading c ≡ Ok x)
+        by (Ok x) e = (x, e)
+        by (Err d) e = absurd (refused d all (sym (stops d lt e) ∙ whole))
+
+    -- and it stands among them
+    pub among : {all : List A × Cursor} {x : A} {next : Cursor} → i < n → many item leaves seen n old ≡ Ok all → (item state).reading c ≡ Ok (x, next) → (rest : List A) × (all.0 ≡ front ++ x ∷ rest)
+    unfolding many
+    among {all} {x} {next} lt whole h = by (many item leaves (leaves x) (n - (i + 1)) next) (sym one ∙ so_far.still ∙ whole)
+      where
+        one : with_front front (many item leaves state (n - i) c) ≡ with_front (front ++ x ∷ []) (many item leaves (leaves x) (n - (i + 1)) next)
+        one = let k : n - i ≡ suc (n - (i + 1)) = omega arith in rw (k, h) (regroup front x (many item leaves (leaves x) (n - (i + 1)) next))
+
+        by : (r : Result (List A × Cursor) Refusal) → with_front (front ++ x ∷ []) r ≡ Ok all → (rest : List A) × (all.0 ≡ front ++ x ∷ rest)
+        by (Ok ys) e = (ys.0, ap (λ (z : List A × Cursor). z.0) (sym (ok_is e)) ∙ append_assoc front (x ∷ []) ys.0)
+        by (Err d) e = absurd cc

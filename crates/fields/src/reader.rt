@@ -1,8 +1,8 @@
 //! A reader that carries the lent bytes and its offset. Each call takes it apart and calls the offset reader.
 
-ghost use Rattle.std.specs.Prelude.{◌≡◌, length, OnErr};
+ghost use Rattle.std.specs.Prelude.{◌≡◌, ◌≤◌, length, OnErr};
 ghost use Rattle.std.specs.Int.{w8, w16, w32, w64};
-ghost use Rattle.fields.specs.Cursor.{start, Reads, bytes_of, number, signed_number};
+ghost use Rattle.fields.specs.Cursor.{start, past, Reads, bytes_of, number, signed_number};
 ghost use Rattle.fields.specs.Codec.{ranged};
 
 use crate::offset::field_at;
@@ -116,6 +116,61 @@ impl<'a> Reader<'a> {
         ensures refused_stays { OnErr result (self.new ≡ self.old) }
     {
         Ok(self.read_u64()?.cast_signed())
+    }
+
+    /// Goes on past n bytes. Internal: they are there.
+    #[inline]
+    pub fn skip(&mut self, n: usize)
+        requires { n ≤ length self.old.rest }
+        ensures { self.new ≡ past n self.old }
+    {
+        self.at += n;
+    }
+
+    // The next N bytes, which are there: nothing is asked.
+    #[inline]
+    fn known<const N: usize>(&mut self) -> [u8; N]
+        requires { N ≤ length self.old.rest }
+        ensures { bytes_of N self.old ≡ Ok (result, self.new) }
+    {
+        let end = self.at + N;
+        let mut field = [0; N];
+        field.copy_from_slice(&self.bytes[self.at..end]);
+        self.at = end;
+        field
+    }
+
+    /// A number that is there, as one is that was read before. So are the next three.
+    #[inline]
+    pub fn known_u16(&mut self) -> u16
+        requires { 2 ≤ length self.old.rest }
+        ensures { number w16 self.old ≡ Ok (result, self.new) }
+    {
+        u16::from_be_bytes(self.known::<2>())
+    }
+
+    #[inline]
+    pub fn known_u32(&mut self) -> u32
+        requires { 4 ≤ length self.old.rest }
+        ensures { number w32 self.old ≡ Ok (result, self.new) }
+    {
+        u32::from_be_bytes(self.known::<4>())
+    }
+
+    #[inline]
+    pub fn known_u64(&mut self) -> u64
+        requires { 8 ≤ length self.old.rest }
+        ensures { number w64 self.old ≡ Ok (result, self.new) }
+    {
+        u64::from_be_bytes(self.known::<8>())
+    }
+
+    #[inline]
+    pub fn known_i64(&mut self) -> i64
+        requires { 8 ≤ length self.old.rest }
+        ensures { signed_number self.old ≡ Ok (result, self.new) }
+    {
+        self.known_u64().cast_signed()
     }
 
     /// A number from `low` to `high`. It is judged before the reader moves.

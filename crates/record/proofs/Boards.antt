@@ -28,7 +28,7 @@ checked_err (Err d) e h = cc
 checked_ok : (b : Board) (s : Read) → Ok s ≡ checked (Ok b) → s ≡ summary_of b
 checked_ok b s h = cc
 
-found : (r : Result Board Refusal) (s : Read) → Ok s ≡ checked r → (b : Board) × (r ≡ Ok b) × (s ≡ summary_of b)
+pub found : (r : Result Board Refusal) (s : Read) → Ok s ≡ checked r → (b : Board) × (r ≡ Ok b) × (s ≡ summary_of b)
 found (Ok b) s h = (b, refl, checked_ok b s h)
 found (Err d) s h = absurd cc
 

@@ -7,3 +7,5 @@ pub mod Turns
 pub mod Records
 pub mod Rounds
 pub mod Back
+pub mod Copying
+pub mod Lists

@@ -213,7 +213,7 @@ record_again b fits =
     ap (λ (r : List ℕ). (body (limits_of One)).reading (record { at = 5; rest = r })) (sym (append-nil text)) ∙ (body_lawful (limits_of One) (roomy One)).again b 5 [] fits in
     rw (first, second, whole, third) refl
 
-known : (byte : ℕ) (v : Version) → version_of byte ≡ Ok v → v ≡ One
+pub known : (byte : ℕ) (v : Version) → version_of byte ≡ Ok v → v ≡ One
 known byte One e = refl
 
 pub record_found : (bytes : List ℕ) (b : Board) → IsBytes bytes → board bytes ≡ Ok b → is_in_range b ≡ true

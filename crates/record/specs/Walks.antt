@@ -1,5 +1,5 @@
 -- What the walk over a record answers and stores: what reading comes to. All of this is internal.
-use Rattle.std.specs.Prelude.{◌≡◌, ℕ, List, [], ◌∷◌, map, length, Result, Ok, Err, ℤ, Float}
+use Rattle.std.specs.Prelude.{◌≡◌, ◌≤◌, ℕ, List, [], ◌∷◌, map, length, Result, Ok, Err, ℤ, Float}
 use Rattle.std.proofs.lemmas.List.Edits.{sets}
 use Rattle.refusals.specs.declared.Refusal.{Refusal}
 use Rattle.fields.specs.Cursor.{Cursor}
@@ -49,3 +49,22 @@ StoresBoard (Err e) rows left after reading = reading ≡ Err e
 abbrev pub Answers : Result Read Refusal → Rows → Rows → Result Board Refusal → Type 0
 Answers (Ok r) rows left reading = (b : Board) × (reading ≡ Ok b) × (r ≡ summary_of b) × (left ≡ filled rows b)
 Answers (Err e) rows left reading = reading ≡ Err e
+
+-- ---- the lists of a sound record, copied
+
+-- a list was read, and its items stored from this place on
+abbrev pub Copies : {A B : Type 0} → (A → B) → List B → ℕ → List B → Cursor → Result (List A × Cursor) Refusal → Type 0
+Copies {A} view row first left after reading = (xs : List A) × (reading ≡ Ok (xs, after)) × (left ≡ sets row first (map view xs))
+
+-- a list that is read to a row has room there
+abbrev pub HasRoom : {A B : Type 0} → List B → List A × Cursor → Type 0
+HasRoom row x = length x.0 ≤ length row
+
+-- and polygons, in three rows
+pub record HasPolygonRoom (heads : List (List ℕ)) (sheets : List Float) (points : List (List ℤ)) (x : List Polygon × Cursor) : Type 0 where
+  pub each_head : length x.0 ≤ length heads
+  pub each_sheet : length x.0 ≤ length sheets
+  pub each_point : length (rings x.0) ≤ length points
+
+abbrev pub CopiesPolygons : (List Polygon → Type 0) → Cursor → Result (List Polygon × Cursor) Refusal → Type 0
+CopiesPolygons stored after reading = (ps : List Polygon) × (reading ≡ Ok (ps, after)) × stored ps

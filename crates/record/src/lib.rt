@@ -7,6 +7,7 @@
 #![tactic(auto)]
 
 pub mod board;
+pub mod copy;
 pub mod laws;
 pub mod parts;
 pub mod put;

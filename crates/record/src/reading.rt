@@ -6,9 +6,14 @@ ghost use Rattle.record.specs.Lent.{rows_to_fill, rows_left};
 ghost use Rattle.record.specs.Reading.{checked, read_said, says, read_says, read_leaves};
 
 use crate::board::Read;
+use crate::copy::{copy_layers, copy_polygons, copy_splits};
 use crate::rows::BoardRowsMut;
 use crate::walk::walk;
+use fields::reader::Reader;
 use refusals::Refusal;
+
+/// Where the lists of a record begin: behind the version, the length and the settings.
+const LISTS: usize = 16;
 
 /// A record judged whole, with nothing kept: its settings and what rows it takes, or its first refusal.
 pub fn check(bytes: &[u8]) -> Result<Read, Refusal>
@@ -38,7 +43,8 @@ pub fn read(bytes: &[u8], rows: BoardRowsMut<'_>) -> Result<Read, Refusal>
         points,
         splits,
     } = rows;
-    let counts = check(bytes)?.counts;
+    let read = check(bytes)?;
+    let counts = read.counts;
     let has_room = (counts.layers <= layers.len())
         & ((counts.polygons <= polygons.len())
             & ((counts.polygons <= sheets.len())
@@ -46,13 +52,10 @@ pub fn read(bytes: &[u8], rows: BoardRowsMut<'_>) -> Result<Read, Refusal>
     if !has_room {
         return Err(Refusal::NoRoom);
     }
-    let rows = BoardRowsMut {
-        layers,
-        polygons,
-        sheets,
-        points,
-        splits,
-    };
-    let read = walk(bytes, rows)?;
+    let mut reader = Reader::new(bytes);
+    reader.skip(LISTS);
+    copy_layers(&mut reader, layers);
+    copy_polygons(&mut reader, polygons, sheets, points);
+    copy_splits(&mut reader, splits);
     Ok(read)
 }
