@@ -6,7 +6,7 @@ ghost use Rattle.weights.specs.Lines.{Lined, Gapped, LastIs, Reaches, rise_of, r
 ghost use Rattle.weights.specs.Ways.{way_of, axis_of, side_at, GapsAcross, GapsAlong};
 ghost use Rattle.weights.specs.Bare.{nodes_of, cells_of, cell_in};
 
-use crate::bare::BareNet;
+use crate::bare_net::BareNet;
 use crate::lines::{Axis, Entry, last_at};
 
 // From the k-th entry to the next one of its line; 0 at the line's end.

@@ -5,14 +5,14 @@ ghost use Rattle.std.specs.Prelude.{◌≡◌, ◌*◌, ◌≤◌, length, repli
 ghost use Rattle.rows.specs.Parts.{put, tab};
 ghost use Rattle.weights.specs.Weigh.{weight_in};
 
-pub mod bare;
+pub mod bare_net;
 pub mod extents;
 pub mod lines;
 mod nodes;
 pub mod sides;
 pub mod weigh;
 
-use bare::BareNet;
+use bare_net::BareNet;
 use extents::Way;
 use lines::Axis;
 use weigh::Extents;

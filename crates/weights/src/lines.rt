@@ -6,7 +6,7 @@ ghost use Rattle.net.specs.Net.{Node};
 ghost use Rattle.weights.specs.Lines.{Lined, LastIs};
 ghost use Rattle.weights.specs.Bare.{faced};
 
-use crate::bare::BareNet;
+use crate::bare_net::BareNet;
 
 /// Which lines nodes are neighbours on: columns run up, rows run right.
 #[derive(Clone, Copy)]

@@ -4,7 +4,7 @@ ghost use Rattle.std.specs.Ordering.{nat_cmp};
 ghost use Rattle.std.specs.Cmp.Lexicographic.{slice_cmp};
 ghost use Rattle.weights.specs.Sides.{Sided, FirstCellIs};
 
-use crate::bare::BareNet;
+use crate::bare_net::BareNet;
 use crate::lines::Entry;
 
 /// The sides of the cells in order.
