@@ -1,5 +1,5 @@
 -- Where the lists of a sound record stand: behind its first 16 bytes, one after the other.
-use Rattle.std.proofs.Common.{◌≡◌, ℕ, ◌+◌, ◌≤◌, Bool, true, false, cond, eqb, leb, ◌&&◌, List, length, drop, Result, Ok, Err, refl, sym, ap, subst, ◌∙◌, add_assoc, arith, leb-true, length-drop}
+use Rattle.std.proofs.Common.{◌≡◌, ℕ, ◌+◌, ◌≤◌, Bool, true, false, cond, eqb, leb, List, length, drop, Result, Ok, refl, sym, ap, subst, ◌∙◌, add_assoc, arith, leb-true, length-drop}
 use Rattle.std.proofs.lemmas.List.{drop-drop}
 use Rattle.std.specs.Prelude.{IsOkAnd}
 use Rattle.std.specs.Int.{w8, w16, w32, w64}
@@ -7,7 +7,7 @@ use Rattle.refusals.specs.declared.Refusal.{Refusal}
 use Rattle.refusals.specs.declared.Refusal.TheVariants.{WrongLength, OutOfRange}
 use Rattle.fields.specs.Cursor.{Cursor, start, past, require, number}
 use Rattle.fields.specs.Codec.{any, ranged, pair}
-use Rattle.fields.proofs.Laws.{bind_ok, require_ok, ok_is, each, number_from, number_room, tested_parts, pair_parts, named_parts, same_read}
+use Rattle.fields.proofs.Laws.{bind_ok, require_ok, ok_is, each, number_from, number_room, tested_parts, pair_parts, named_parts}
 use Rattle.record.specs.declared.board.Counts.{Counts}
 use Rattle.record.specs.declared.board.Limits.{Limits}
 use Rattle.record.specs.declared.board.Version.{Version}

@@ -76,30 +76,6 @@ pub struct Point {
     pub y: i64,
 }
 
-impl Entry {
-    ghost use Rattle.record.specs.Rows.{entry_row};
-
-    /// As a row of numbers: layer, cell.
-    #[inline]
-    pub fn row(self) -> [u64; 2]
-        ensures { result ≡ entry_row self }
-    {
-        [u64::from(self.layer), self.cell]
-    }
-}
-
-impl Point {
-    ghost use Rattle.record.specs.Rows.{point_row};
-
-    /// As a row of numbers: x, y.
-    #[inline]
-    pub fn row(self) -> [i64; 2]
-        ensures { result ≡ point_row self }
-    {
-        [self.x, self.y]
-    }
-}
-
 /// How many rows a board takes: layer entries, polygons, points of all polygons, splits.
 #[derive(Clone, Copy, Debug, PartialEq, Eq)]
 pub struct Counts {

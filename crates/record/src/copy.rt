@@ -1,9 +1,8 @@
-//! The lists of a record that was judged, copied to rows that have room for them: each field is read where it stands, and
-//! nothing is asked of it again. All of this is internal.
+//! The lists of a record that was judged, copied to rows that have room for them: each field is read where it stands,
+//! and nothing is asked of it again. All of this is internal.
 
-ghost use Rattle.std.specs.Prelude.{◌≡◌, ◌+◌, ◌≤◌, length, IsOk, IsOkAnd, IsTrue};
-ghost use Rattle.std.specs.Int.{w32};
-ghost use Rattle.fields.specs.Codec.{any, times};
+ghost use Rattle.std.specs.Prelude.{◌≡◌, ◌+◌, ◌≤◌, length, IsOk, IsOkAnd};
+ghost use Rattle.fields.specs.Codec.{times};
 ghost use Rattle.record.specs.declared.board.Version.TheVariants.{One};
 ghost use Rattle.record.specs.Board.{point, limits_of, layer_list, polygon_list, split_list};
 ghost use Rattle.record.specs.Rows.{entry_row, point_row};
@@ -11,6 +10,7 @@ ghost use Rattle.record.specs.Walks.{Copies, HasRoom, HasPolygonRoom, PolygonsSt
 
 use fields::reader::Reader;
 
+/// The layer list.
 pub fn copy_layers(reader: &mut Reader<'_>, row: &mut [[u64; 2]])
     requires { IsOkAnd ((layer_list (limits_of One)).reading reader.old) (HasRoom row.old) }
     ensures { Copies entry_row row.old 0 row.new reader.new ((layer_list (limits_of One)).reading reader.old) }
@@ -62,6 +62,7 @@ pub fn copy_polygons(
     }
 }
 
+/// The splits.
 pub fn copy_splits(reader: &mut Reader<'_>, row: &mut [u64])
     requires { IsOkAnd (split_list.reading reader.old) (HasRoom row.old) }
     ensures { Copies (λ id. id) row.old 0 row.new reader.new (split_list.reading reader.old) }

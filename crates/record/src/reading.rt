@@ -20,14 +20,7 @@ pub fn check(bytes: &[u8]) -> Result<Read, Refusal>
     ensures answer { result ≡ checked (board bytes.now) }
     ensures number_and_place { read_said result ≡ says (board bytes.now) }
 {
-    let nothing = BoardRowsMut {
-        layers: &mut [],
-        polygons: &mut [],
-        sheets: &mut [],
-        points: &mut [],
-        splits: &mut [],
-    };
-    walk(bytes, nothing)
+    walk(bytes)
 }
 
 /// A record read to lent rows: all of it, or nothing. The whole record is judged first, then the room, and then it is

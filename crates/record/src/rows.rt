@@ -1,6 +1,6 @@
 //! The rows that hold a board. They travel together.
 
-ghost use Rattle.std.specs.Prelude.{◌≡◌, slice_set};
+ghost use Rattle.std.specs.Prelude.{◌≡◌};
 ghost use Rattle.record.specs.Writing.{add_up};
 
 use refusals::limits::{LAYERS, POLYGONS, RING_POINTS};
@@ -60,15 +60,4 @@ fn add_up(polygons: &[[u64; 3]], points: usize) -> bool
         left -= count;
     }
     left == 0
-}
-
-/// Stores an item if the row has a place for it.
-#[inline]
-#[tactic(auto, using(std::proofs::lemmas::List::set_past))]
-pub fn store<T: Copy>(row: &mut [T], i: usize, item: T)
-    ensures { row.new ≡ slice_set row.old i item }
-{
-    if i < row.len() {
-        row[i] = item;
-    }
 }

@@ -1,6 +1,4 @@
-use Rattle.std.proofs.Common.{◌≡◌, ◌∷◌, [], ◌++◌, Some, None, ℕ, length, arith, Option}
-use Rattle.std.specs.Int.{w16}
-use Rattle.fields.specs.Cursor.{number}
+use Rattle.std.proofs.Common.{◌∷◌, [], ◌++◌, Some, None, arith}
 use Rattle.fields.proofs.Laws.{many_length}
 use Rattle.fields.proofs.Loop.{goes_on, is_done, reads_on}
 use Rattle.record.specs.declared.board.Version.TheVariants.{One}

@@ -1,4 +1,4 @@
-use Rattle.std.proofs.Common.{◌≡◌, ◌≤◌, ◌+◌, ◌∷◌, [], ◌++◌, ℕ, length, map, sym, ap, ◌∙◌, is_ok, arith}
+use Rattle.std.proofs.Common.{◌≡◌, ◌∷◌, [], ◌++◌, length, map, sym, ap, ◌∙◌, is_ok, arith}
 use Rattle.std.proofs.lemmas.List.Edits.{sets}
 use Rattle.fields.proofs.Laws.{many_length}
 use Rattle.fields.proofs.Loop.{goes_on, is_done}

@@ -1,5 +1,5 @@
 -- the polygons so far, and where they stand
-use Rattle.std.proofs.Common.{◌≡◌, ◌≤◌, ◌*◌, ℕ, List, length}
+use Rattle.std.proofs.Common.{◌≡◌, ◌≤◌, ◌*◌, List, length}
 use Rattle.fields.proofs.Loop.{IsAt}
 use Rattle.record.specs.declared.board.Version.TheVariants.{One}
 use Rattle.record.specs.Board.{Polygon, limits_of, polygon}

@@ -1,5 +1,5 @@
 -- the points so far, and where they stand
-use Rattle.std.proofs.Common.{◌≡◌, ℕ, List, map}
+use Rattle.std.proofs.Common.{◌≡◌, List, map}
 use Rattle.std.proofs.lemmas.List.Edits.{sets}
 use Rattle.fields.proofs.Loop.{IsAt}
 use Rattle.record.specs.Board.{Point, point}

@@ -3,11 +3,9 @@ use Rattle.std.proofs.Common.{◌≡◌, ◌≤◌, ◌*◌, List, length}
 use Rattle.fields.proofs.Loop.{IsAt}
 use Rattle.record.specs.Board.{Polygon, polygon}
 use Rattle.record.specs.Rows.{rings}
-use Rattle.record.specs.Walks.{PolygonsStored}
 use Rattle.record.proofs.walk.read_polygons.Given as goal
 
-abbrev pub invariant-loop-i : goal.invariant-loop-i
-invariant-loop-i l =
-    (front : List Polygon) × IsAt (λ (_ : Unit {0}). polygon l.limits) (λ _. tt) tt l.count l.initial.reader l.i front tt l.reader
-    × PolygonsStored l.initial.heads l.heads l.initial.sheets l.sheets l.initial.points l.points front
-    × (l.first ≡ length (rings front)) × (l.first ≤ 65536 * l.i)
+abbrev pub invariant-loop : goal.invariant-loop
+invariant-loop l =
+    (front : List Polygon) × IsAt (λ (_ : Unit {0}). polygon l.limits) (λ _. tt) tt l.count l.initial.reader l.counter front tt l.reader
+    × (l.points ≡ length (rings front)) × (l.points ≤ 65536 * l.counter)

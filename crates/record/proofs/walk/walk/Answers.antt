@@ -10,5 +10,4 @@ returns c =
           (rw c.new-reader.ensures at c.in_ok-read_u8.ensures.read) (sym c.in_ok-version.ensures) c.in_ok-read_u32.ensures.read (c.if-branch-left.false ∙ c.left.ensures)
           (rw c.limits-limits.ensures at b.1) (sym c.left-2.ensures ∙ c.if-left-ne0.false),
       b.2,
-      b.3,
     )
