@@ -3,9 +3,9 @@ use Rattle.std.specs.Prelude.{List, ℕ, ◌+◌, ◌<◌, min, ◌==◌, if◌t
 use Rattle.net.specs.Net.{Node, Patch, nth, apart}
 use Rattle.net.specs.Net.Way.{up, down, right, left}
 use Rattle.weights.specs.Rows.{nodes_in, patch_in, patches_in}
-use Rattle.weights.specs.declared.bare.BareNet.{BareNet}
-use Rattle.weights.specs.declared.lines.Axis.{Axis}
-use Rattle.weights.specs.declared.lines.Axis.TheVariants.{Column, Row}
+use Rattle.weights.specs.declared.lent.BareNet.{BareNet}
+use Rattle.weights.specs.declared.axes.Axis.{Axis}
+use Rattle.weights.specs.declared.axes.Axis.TheVariants.{Column, Row}
 use Rattle.weights.specs.declared.weigh.Extents.{Extents}
 use Rattle.weights.specs.Lines.{facing, all_facing, Reaches}
 

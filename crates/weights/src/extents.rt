@@ -6,8 +6,8 @@ ghost use Rattle.weights.specs.Lines.{Lined, Gapped, LastIs, Reaches, rise_of, r
 ghost use Rattle.weights.specs.Ways.{way_of, axis_of, side_at, GapsAcross, GapsAlong};
 ghost use Rattle.weights.specs.Bare.{nodes_of, cells_of, cell_in};
 
-use crate::bare::BareNet;
-use crate::lines::{Axis, Entry, last_at};
+use crate::axes::{Axis, Entry, last_at};
+use crate::lent::BareNet;
 
 // From the k-th entry to the next one of its line; 0 at the line's end.
 fn rise_at(row: &[Entry], k: usize) -> u64

@@ -5,16 +5,16 @@ ghost use Rattle.std.specs.Prelude.{◌≡◌, ◌*◌, ◌≤◌, length, repli
 ghost use Rattle.rows.specs.Parts.{put, tab};
 ghost use Rattle.weights.specs.Weigh.{weight_in};
 
-pub mod bare;
+pub mod axes;
 pub mod extents;
-pub mod lines;
+pub mod lent;
 mod nodes;
 pub mod sides;
 pub mod weigh;
 
-use bare::BareNet;
+use axes::Axis;
 use extents::Way;
-use lines::Axis;
+use lent::BareNet;
 use weigh::Extents;
 
 // The weights. Here the work room is drawn, for l cells and so at most 4 * l nodes: a key for each, an entry for each
@@ -36,7 +36,7 @@ fn write_weights(net: &BareNet, work: &mut [u64], conductances: &mut [f64])
     let (entries, _) = rest.as_chunks_mut::<4>();
     let (row, rest) = entries.split_at_mut(most);
     let (scratch, _) = rest.split_at_mut(most);
-    lines::sort_nodes(
+    axes::sort_nodes(
         net,
         Axis::Row,
         &mut row[..n],
@@ -44,7 +44,7 @@ fn write_weights(net: &BareNet, work: &mut [u64], conductances: &mut [f64])
         &mut scratch[..n],
     );
     extents::write_gaps(&row[..n], right, left);
-    lines::sort_nodes(
+    axes::sort_nodes(
         net,
         Axis::Column,
         &mut row[..n],

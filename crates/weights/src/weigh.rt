@@ -6,8 +6,8 @@ ghost use Rattle.weights.specs.Sides.{Sided};
 ghost use Rattle.weights.specs.Weigh.{edge_of, weight_in};
 ghost use Rattle.weights.specs.Bare.{nodes_of, cells_of, across_of, face_of, distance_of, HasExtents, Extended};
 
-use crate::bare::BareNet;
-use crate::lines::{Axis, Entry};
+use crate::axes::{Axis, Entry};
+use crate::lent::BareNet;
 use crate::sides::first_cell;
 
 /// How far each node reaches, in half ticks.
