@@ -7,8 +7,8 @@ ghost use Rattle.std.specs.List.Sorted.{IsPartitionedBy, IsPartitionPoint};
 ghost use Rattle.std.specs.Cmp.Lexicographic.{slice_cmp};
 ghost use Rattle.sorted.specs.Upto.{is_upto};
 
-// Whether an entry is below a key, and whether it begins with it. No branch hangs on their numbers, so that the processor
-// has nothing to guess at in a search.
+// Whether an entry is below a key, and whether it begins with it. No branch hangs on their numbers, so that the
+// processor has nothing to guess at in a search.
 #[inline(always)]
 fn compared<const N: usize>(entry: &[u64; N], key: &[u64]) -> (bool, bool)
     requires few_columns { N < 16 }
@@ -51,7 +51,8 @@ fn count_below<const N: usize>(row: &[[u64; N]], key: &[u64]) -> usize
     requires few_columns { N < 16 }
     requires key_fits { length key.now ≤ N }
     requires sorted { IsSorted (slice_cmp nat_cmp) row.now }
-    ensures parted { IsPartitionPoint (λ e. is_lt (slice_cmp nat_cmp e key.now) ≡ true) (λ e. is_lt (slice_cmp nat_cmp e key.now) ≡ false) row.now result }
+    ensures parted { IsPartitionPoint (λ e. is_lt (slice_cmp nat_cmp e key.now) ≡ true)
+        (λ e. is_lt (slice_cmp nat_cmp e key.now) ≡ false) row.now result }
     ensures bound { result ≤ length row.now }
 {
     row.partition_point(
@@ -84,7 +85,8 @@ fn count_upto<const N: usize>(row: &[[u64; N]], key: &[u64]) -> usize
 // How many entries in front begin with a key.
 fn count_beginning<const N: usize>(row: &[[u64; N]], key: &[u64]) -> usize
     requires { IsPartitionedBy (λ e. starts_with nat_eq e key.now) row.now }
-    ensures parted { IsPartitionPoint (λ e. starts_with nat_eq e key.now ≡ true) (λ e. starts_with nat_eq e key.now ≡ false) row.now result }
+    ensures parted { IsPartitionPoint (λ e. starts_with nat_eq e key.now ≡ true)
+        (λ e. starts_with nat_eq e key.now ≡ false) row.now result }
     ensures bound { result ≤ length row.now }
 {
     row.partition_point(
@@ -119,7 +121,8 @@ pub fn last<'a, const N: usize>(row: &'a [[u64; N]], key: &[u64]) -> Option<&'a 
     requires few_columns { N < 16 }
     requires key_fits { length key.now ≤ N }
     requires sorted { IsSorted (slice_cmp nat_cmp) row.now }
-    ensures { let run = filter (λ e. starts_with nat_eq e key.now) row.now in option_copied result ≡ slice_get run (length run - 1) }
+    ensures { let run = filter (λ e. starts_with nat_eq e key.now) row.now in
+        option_copied result ≡ slice_get run (length run - 1) }
 {
     let front = &row[..count_upto(row, key)];
     let Some(entry) = front.last() else {

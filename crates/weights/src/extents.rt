@@ -101,14 +101,15 @@ fn size(net: &BareNet, way: Way, cell: usize) -> u64
     far.saturating_sub(near)
 }
 
-// The node that hangs on a cell at the middle of its side from which it lies that way. The gaps are those across the way:
-// mostly they tell that nothing stands between the ends of the side.
+// The node that hangs on a cell at the middle of its side from which it lies that way. The gaps are those across the
+// way: mostly they tell that nothing stands between the ends of the side.
 fn hanging(net: &BareNet, way: Way, row: &[Entry], gaps: &[u64], cell: usize) -> Option<usize>
     requires cell_there { cell < net.now.cell_count }
     requires lined { Lined (nodes_of net.now) row.now }
     requires gaps_there { net.now.node_count ≤ length gaps.now }
     requires gapped { GapsAcross (nodes_of net.now) way gaps.now }
-    ensures { LastIs (nodes_of net.now) (place_of (hangs_at (way_of way) (nodes_of net.now) (cell_in net.now cell))) result }
+    ensures { LastIs (nodes_of net.now)
+        (place_of (hangs_at (way_of way) (nodes_of net.now) (cell_in net.now cell))) result }
 {
     let axis = way.axis();
     let [layer, from, near] = net.place(axis, net.corner(cell, 0));

@@ -2,8 +2,7 @@
 #![tactic(auto)]
 
 ghost use Rattle.std.specs.Prelude.{◌≡◌, ◌*◌, ◌≤◌, length, replicate};
-ghost use Rattle.rows.specs.Parts.{put, tab};
-ghost use Rattle.weights.specs.Weigh.{weight_in};
+ghost use Rattle.weights.specs.Bare.{weighed_row};
 
 pub mod axes;
 pub mod extents;
@@ -22,8 +21,7 @@ use weigh::Extents;
 fn write_weights(net: &BareNet, work: &mut [u64], conductances: &mut [f64])
     requires work_room { 64 * net.now.cell_count ≤ length work.old }
     requires conductance_room { net.now.edge_count ≤ length conductances.old }
-    ensures { conductances.new ≡ put conductances.old 0 (tab (weight_in net.now.nodes.now net.now.node_count
-        net.now.corners.now net.now.sheets.now net.now.cell_count net.now.ends.now conductances.old) net.now.edge_count) }
+    ensures { conductances.new ≡ weighed_row net.now conductances.old }
 {
     let n = net.node_count;
     let most = 4 * net.cell_count;
@@ -71,8 +69,7 @@ fn write_weights(net: &BareNet, work: &mut [u64], conductances: &mut [f64])
 pub fn apply_weights(net: &BareNet, work: &mut [u64], conductances: &mut [f64])
     requires work_room { 64 * net.now.cell_count ≤ length work.old }
     requires conductance_room { net.now.edge_count ≤ length conductances.old }
-    ensures conductances { conductances.new ≡ put conductances.old 0 (tab (weight_in net.now.nodes.now net.now.node_count
-        net.now.corners.now net.now.sheets.now net.now.cell_count net.now.ends.now conductances.old) net.now.edge_count) }
+    ensures conductances { conductances.new ≡ weighed_row net.now conductances.old }
     ensures work_cleared { work.new ≡ replicate (length work.old) 0 }
 {
     write_weights(net, work, conductances);
