@@ -15,7 +15,7 @@ pub mod laws;
 use refusals::{Refusal, limits};
 use table::Head;
 use unweighted::Counts;
-use weights::bare_net::BareNet;
+use weights::lent::BareNet;
 
 // The net into the rows. Internal: all is judged, and there are l leaves.
 fn fill(

@@ -1,6 +1,7 @@
 -- Two rows of numbers, column by column.
-use Rattle.std.proofs.Common.{◌≡◌, ℕ, suc, ◌+◌, ◌<◌, ◌≤◌, Bool, true, false, ◌&&◌, ◌||◌, eqb, ltb, List, [], ◌∷◌, length, get_or, drop, refl, sym, ap, ap₂, ◌∙◌, arith, add-one}
+use Rattle.std.proofs.Common.{◌≡◌, ℕ, nat_eq, suc, ◌+◌, ◌<◌, ◌≤◌, Bool, true, false, ◌&&◌, ◌||◌, eqb, ltb, List, [], ◌∷◌, length, get_or, drop, refl, sym, ap, ap₂, ◌∙◌, arith, add-one}
 use Rattle.std.specs.Ordering.{is_lt, nat_cmp}
+use Rattle.std.specs.List.{starts_with}
 use Rattle.std.specs.Cmp.Lexicographic.{slice_cmp}
 use Rattle.std.proofs.Math.Seq.{drop-cons}
 use Rattle.std.proofs.lemmas.List.{drop_all}
@@ -36,3 +37,27 @@ module _ (entry key : List ℕ) (c : ℕ) (b q : Bool) (I : is_lt (slice_cmp nat
       nothing true q = refl
       nothing false true = refl
       nothing false false = refl
+
+first_begin : (x y : ℕ) (e k : List ℕ) → starts_with nat_eq (x ∷ e) (y ∷ k) ≡ (eqb x y && starts_with nat_eq e k)
+first_begin x y e k = grind (arith, nat_tests)
+
+apart : (q s r : Bool) → (q && (s && r)) ≡ ((q && s) && r)
+apart true s r = refl
+apart false s r = refl
+
+module _ (entry key : List ℕ) (c : ℕ) (q : Bool) (I : starts_with nat_eq entry key ≡ (q && starts_with nat_eq (drop c entry) (drop c key))) where
+  pub begin_more : c < length entry → c < length key → starts_with nat_eq entry key ≡ ((q && eqb (get_or entry c 0) (get_or key c 0)) && starts_with nat_eq (drop (c + 1) entry) (drop (c + 1) key))
+  begin_more h g =
+      I
+      ∙ (ap (λ (t : Bool). q && t)
+      ((λ t. starts_with nat_eq (drop-cons entry c 0 h t) (drop-cons key c 0 g t))
+      ∙ (first_begin (get_or entry c 0) (get_or key c 0) (drop (suc c) entry) (drop (suc c) key)
+      ∙ ap (λ (n : ℕ). eqb (get_or entry c 0) (get_or key c 0) && starts_with nat_eq (drop n entry) (drop n key)) (sym (add-one c))))
+      ∙ apart q (eqb (get_or entry c 0) (get_or key c 0)) (starts_with nat_eq (drop (c + 1) entry) (drop (c + 1) key)))
+
+  pub begin_end : length key ≤ c → q ≡ starts_with nat_eq entry key
+  begin_end h = sym (I ∙ (ap (λ (k : List ℕ). q && starts_with nat_eq (drop c entry) k) (drop_all c key h) ∙ whole q))
+    where
+      whole : (q : Bool) → (q && true) ≡ q
+      whole true = refl
+      whole false = refl

@@ -1,18 +1,20 @@
 //! Sorted rows, each in place of a map from keys to entries.
-ghost use Rattle.std.specs.Prelude.{◌≡◌, ◌<◌, ◌≤◌, true, false, length, nat_eq, filter, slice_get, IsSorted};
+ghost use Rattle.std.specs.Prelude.{◌≡◌, ◌-◌, ◌<◌, ◌≤◌, true, false, length, nat_eq, filter, slice_get, IsSorted};
 ghost use Rattle.std.specs.Ordering.{is_lt, nat_cmp};
 ghost use Rattle.std.specs.Option.{option_copied};
 ghost use Rattle.std.specs.List.{starts_with};
 ghost use Rattle.std.specs.List.Sorted.{IsPartitionedBy, IsPartitionPoint};
 ghost use Rattle.std.specs.Cmp.Lexicographic.{slice_cmp};
+ghost use Rattle.sorted.specs.Upto.{is_upto};
 
-// Whether an entry is below a key. No branch hangs on their numbers, so that the processor has nothing to guess at in a
-// search.
+// Whether an entry is below a key, and whether it begins with it. No branch hangs on their numbers, so that the
+// processor has nothing to guess at in a search.
 #[inline(always)]
-fn is_below<const N: usize>(entry: &[u64; N], key: &[u64]) -> bool
+fn compared<const N: usize>(entry: &[u64; N], key: &[u64]) -> (bool, bool)
     requires few_columns { N < 16 }
     requires key_fits { length key.now ≤ N }
-    ensures { result ≡ is_lt (slice_cmp nat_cmp entry.now key.now) }
+    ensures below { result.0 ≡ is_lt (slice_cmp nat_cmp entry.now key.now) }
+    ensures begins { result.1 ≡ starts_with nat_eq entry.now key.now }
 {
     let mut below = false;
     let mut equal = true;
@@ -20,7 +22,27 @@ fn is_below<const N: usize>(entry: &[u64; N], key: &[u64]) -> bool
         below = below | (equal & (entry[c] < key[c]));
         equal = equal & (entry[c] == key[c]);
     }
+    (below, equal)
+}
+
+#[inline(always)]
+fn is_below<const N: usize>(entry: &[u64; N], key: &[u64]) -> bool
+    requires few_columns { N < 16 }
+    requires key_fits { length key.now ≤ N }
+    ensures { result ≡ is_lt (slice_cmp nat_cmp entry.now key.now) }
+{
+    let (below, _) = compared(entry, key);
     below
+}
+
+#[inline(always)]
+fn is_upto<const N: usize>(entry: &[u64; N], key: &[u64]) -> bool
+    requires few_columns { N < 16 }
+    requires key_fits { length key.now ≤ N }
+    ensures { result ≡ is_upto key.now entry.now }
+{
+    let (below, begins) = compared(entry, key);
+    below | begins
 }
 
 // How many entries are below a key, which stand in front.
@@ -29,7 +51,8 @@ fn count_below<const N: usize>(row: &[[u64; N]], key: &[u64]) -> usize
     requires few_columns { N < 16 }
     requires key_fits { length key.now ≤ N }
     requires sorted { IsSorted (slice_cmp nat_cmp) row.now }
-    ensures parted { IsPartitionPoint (λ e. is_lt (slice_cmp nat_cmp e key.now) ≡ true) (λ e. is_lt (slice_cmp nat_cmp e key.now) ≡ false) row.now result }
+    ensures parted { IsPartitionPoint (λ e. is_lt (slice_cmp nat_cmp e key.now) ≡ true)
+        (λ e. is_lt (slice_cmp nat_cmp e key.now) ≡ false) row.now result }
     ensures bound { result ≤ length row.now }
 {
     row.partition_point(
@@ -41,10 +64,29 @@ fn count_below<const N: usize>(row: &[[u64; N]], key: &[u64]) -> usize
     )
 }
 
+// How many entries are below a key or begin with it, which stand in front.
+#[inline(always)]
+fn count_upto<const N: usize>(row: &[[u64; N]], key: &[u64]) -> usize
+    requires few_columns { N < 16 }
+    requires key_fits { length key.now ≤ N }
+    requires sorted { IsSorted (slice_cmp nat_cmp) row.now }
+    ensures parted { IsPartitionPoint (λ e. is_upto key.now e ≡ true) (λ e. is_upto key.now e ≡ false) row.now result }
+    ensures bound { result ≤ length row.now }
+{
+    row.partition_point(
+        |e| -> bool
+            requires few_columns { N < 16 }
+            requires key_fits { length key.now ≤ N }
+            ensures { result ≡ is_upto key.entry.now e.now }
+        { is_upto(e, key) },
+    )
+}
+
 // How many entries in front begin with a key.
 fn count_beginning<const N: usize>(row: &[[u64; N]], key: &[u64]) -> usize
     requires { IsPartitionedBy (λ e. starts_with nat_eq e key.now) row.now }
-    ensures parted { IsPartitionPoint (λ e. starts_with nat_eq e key.now ≡ true) (λ e. starts_with nat_eq e key.now ≡ false) row.now result }
+    ensures parted { IsPartitionPoint (λ e. starts_with nat_eq e key.now ≡ true)
+        (λ e. starts_with nat_eq e key.now ≡ false) row.now result }
     ensures bound { result ≤ length row.now }
 {
     row.partition_point(
@@ -64,6 +106,26 @@ pub fn first<'a, const N: usize>(row: &'a [[u64; N]], key: &[u64]) -> Option<&'a
 {
     let rest = &row[count_below(row, key)..];
     let Some(entry) = rest.first() else {
+        return None;
+    };
+    if entry.starts_with(key) {
+        Some(entry)
+    } else {
+        None
+    }
+}
+
+/// The last entry that begins with a key.
+#[inline(always)]
+pub fn last<'a, const N: usize>(row: &'a [[u64; N]], key: &[u64]) -> Option<&'a [u64; N]>
+    requires few_columns { N < 16 }
+    requires key_fits { length key.now ≤ N }
+    requires sorted { IsSorted (slice_cmp nat_cmp) row.now }
+    ensures { let run = filter (λ e. starts_with nat_eq e key.now) row.now in
+        option_copied result ≡ slice_get run (length run - 1) }
+{
+    let front = &row[..count_upto(row, key)];
+    let Some(entry) = front.last() else {
         return None;
     };
     if entry.starts_with(key) {

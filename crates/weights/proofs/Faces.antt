@@ -9,7 +9,7 @@ use Rattle.net.specs.Net.{Node, Edge, Patch, Way, nth, lesser_of, flat, apart, f
 use Rattle.net.proofs.Faces.{face-low, distance-low}
 use Rattle.weights.specs.Rows.{nodes_in}
 use Rattle.weights.proofs.Lists.{nodes-within}
-use Rattle.weights.specs.declared.lines.Axis.TheVariants.{Column, Row}
+use Rattle.weights.specs.declared.axes.Axis.TheVariants.{Column, Row}
 use Rattle.weights.specs.declared.weigh.Extents.{Extents}
 use Rattle.weights.specs.Weigh.{edge_of}
 use Rattle.weights.specs.Bare.{across_of, face_of, distance_of, Extended}

@@ -1,9 +1,9 @@
 -- What the drawing of the work room needs: entries at the front of a row, and gaps by ways.
 use Rattle.std.proofs.Common.{◌≡◌, ℕ, ◌<◌, ◌≤◌, List, [], ◌∷◌, ◌++◌, length, take, refl, sym, ap, subst, ◌∙◌, arith, All}
 use Rattle.net.specs.Net.{Node, gap}
-use Rattle.weights.specs.declared.bare_net.BareNet.{BareNet}
-use Rattle.weights.specs.declared.lines.Axis.{Axis}
-use Rattle.weights.specs.declared.lines.Axis.TheVariants.{Column, Row}
+use Rattle.weights.specs.declared.lent.BareNet.{BareNet}
+use Rattle.weights.specs.declared.axes.Axis.{Axis}
+use Rattle.weights.specs.declared.axes.Axis.TheVariants.{Column, Row}
 use Rattle.weights.specs.declared.extents.Way.TheVariants.{Up, Down, Right, Left}
 use Rattle.weights.specs.Lines.{all_facing, Lined, Gapped}
 use Rattle.weights.specs.Ways.{GapsAlong, GapsAcross}

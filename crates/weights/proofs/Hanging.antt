@@ -16,8 +16,8 @@ use Rattle.net.proofs.Find.{find-hit, find-at-most}
 use Rattle.net.proofs.Keys.{both, both_of, bool-ext}
 use Rattle.net.proofs.Last.{asks, hung-snoc}
 use Rattle.weights.specs.Rows.{patch_in, patches_in}
-use Rattle.weights.specs.declared.lines.Axis.{Axis}
-use Rattle.weights.specs.declared.lines.Axis.TheVariants.{Column, Row}
+use Rattle.weights.specs.declared.axes.Axis.{Axis}
+use Rattle.weights.specs.declared.axes.Axis.TheVariants.{Column, Row}
 use Rattle.weights.specs.Lines.{facing, all_facing, place_of, entry_of, Lined, at, IsLast, LastIs, raised, Reaches}
 use Rattle.weights.proofs.Order.{num, upto-entries}
 use Rattle.weights.proofs.Neighbours.{here, spot}

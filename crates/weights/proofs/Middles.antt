@@ -4,8 +4,8 @@ use Rattle.std.proofs.lemmas.Bool.{cases_Bool}
 use Rattle.cell.specs.Boxes.{mid}
 use Rattle.net.specs.Net.{Node, Patch, nth, after, lesser, or_zero, least, next_gap, hangs_at, box_of, size_of}
 use Rattle.net.proofs.Keys.{both_of, left-of}
-use Rattle.weights.specs.declared.lines.Axis.{Axis}
-use Rattle.weights.specs.declared.lines.Axis.TheVariants.{Column, Row}
+use Rattle.weights.specs.declared.axes.Axis.{Axis}
+use Rattle.weights.specs.declared.axes.Axis.TheVariants.{Column, Row}
 use Rattle.weights.specs.declared.extents.Way.{Way}
 use Rattle.weights.specs.declared.extents.Way.TheVariants.{Up, Down, Right, Left}
 use Rattle.weights.specs.Lines.{facing, all_facing, place_of, LastIs}

@@ -5,9 +5,9 @@ use Rattle.rows.proofs.Fill.{length-tab}
 use Rattle.net.specs.Net.{Node, nth, apart}
 use Rattle.weights.specs.Rows.{node_in, nodes_in, patch_in}
 use Rattle.weights.proofs.Lists.{node_at}
-use Rattle.weights.specs.declared.bare_net.BareNet.{BareNet}
-use Rattle.weights.specs.declared.lines.Axis.{Axis}
-use Rattle.weights.specs.declared.lines.Axis.TheVariants.{Column, Row}
+use Rattle.weights.specs.declared.lent.BareNet.{BareNet}
+use Rattle.weights.specs.declared.axes.Axis.{Axis}
+use Rattle.weights.specs.declared.axes.Axis.TheVariants.{Column, Row}
 use Rattle.weights.specs.Lines.{facing, place_of, entry_of}
 use Rattle.weights.specs.Sides.{corner_of}
 use Rattle.weights.specs.Bare.{nodes_of, faced, cell_in, across_of, distance_of}

@@ -1,12 +1,14 @@
 -- The lists that the rows of a net hold. Definitions only.
-use Rattle.std.specs.Prelude.{List, ℕ, ◌+◌, ◌<◌, min, ◌==◌, if◌then◌else◌, length, slice_index}
+use Rattle.std.specs.Prelude.{List, ℕ, ◌+◌, ◌<◌, min, ◌==◌, if◌then◌else◌, length, slice_index, Float}
+use Rattle.rows.specs.Parts.{put, tab}
 use Rattle.net.specs.Net.{Node, Patch, nth, apart}
 use Rattle.net.specs.Net.Way.{up, down, right, left}
 use Rattle.weights.specs.Rows.{nodes_in, patch_in, patches_in}
-use Rattle.weights.specs.declared.bare_net.BareNet.{BareNet}
-use Rattle.weights.specs.declared.lines.Axis.{Axis}
-use Rattle.weights.specs.declared.lines.Axis.TheVariants.{Column, Row}
+use Rattle.weights.specs.declared.lent.BareNet.{BareNet}
+use Rattle.weights.specs.declared.axes.Axis.{Axis}
+use Rattle.weights.specs.declared.axes.Axis.TheVariants.{Column, Row}
 use Rattle.weights.specs.declared.weigh.Extents.{Extents}
+use Rattle.weights.specs.Weigh.{weight_in}
 use Rattle.weights.specs.Lines.{facing, all_facing, Reaches}
 
 abbrev pub nodes_of : BareNet → List Node
@@ -48,3 +50,7 @@ face_of e Row a b = min (slice_index e.right.now a) (slice_index e.right.now b) 
 
 abbrev pub distance_of : List Node → Axis → ℕ → ℕ → ℕ
 distance_of ns axis a b = apart (facing axis (nth ns a)).x (facing axis (nth ns b)).x
+
+-- a row of conductances once the edges are weighed
+abbrev pub weighed_row : BareNet → List Float → List Float
+weighed_row net gs = put gs 0 (tab (weight_in net.nodes.now net.node_count net.corners.now net.sheets.now net.cell_count net.ends.now gs) net.edge_count)

@@ -2,8 +2,8 @@
 use Rattle.std.specs.Prelude.{◌≡◌, ℕ, ◌<◌, List, length, slice_index}
 use Rattle.net.specs.Net.{Node, Way as NetWay, next_gap, gap}
 use Rattle.net.specs.Net.Way.{up, down, right, left}
-use Rattle.weights.specs.declared.lines.Axis.{Axis}
-use Rattle.weights.specs.declared.lines.Axis.TheVariants.{Column, Row}
+use Rattle.weights.specs.declared.axes.Axis.{Axis}
+use Rattle.weights.specs.declared.axes.Axis.TheVariants.{Column, Row}
 use Rattle.weights.specs.declared.extents.Way.{Way}
 use Rattle.weights.specs.declared.extents.Way.TheVariants.{Up, Down, Right, Left}
 use Rattle.weights.specs.Lines.{all_facing}

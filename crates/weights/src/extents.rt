@@ -6,8 +6,8 @@ ghost use Rattle.weights.specs.Lines.{Lined, Gapped, LastIs, Reaches, rise_of, r
 ghost use Rattle.weights.specs.Ways.{way_of, axis_of, side_at, GapsAcross, GapsAlong};
 ghost use Rattle.weights.specs.Bare.{nodes_of, cells_of, cell_in};
 
-use crate::bare_net::BareNet;
-use crate::lines::{Axis, Entry, last_at};
+use crate::axes::{Axis, Entry, last_at};
+use crate::lent::BareNet;
 
 // From the k-th entry to the next one of its line; 0 at the line's end.
 fn rise_at(row: &[Entry], k: usize) -> u64
@@ -101,14 +101,15 @@ fn size(net: &BareNet, way: Way, cell: usize) -> u64
     far.saturating_sub(near)
 }
 
-// The node that hangs on a cell at the middle of its side from which it lies that way. The gaps are those across the way:
-// mostly they tell that nothing stands between the ends of the side.
+// The node that hangs on a cell at the middle of its side from which it lies that way. The gaps are those across the
+// way: mostly they tell that nothing stands between the ends of the side.
 fn hanging(net: &BareNet, way: Way, row: &[Entry], gaps: &[u64], cell: usize) -> Option<usize>
     requires cell_there { cell < net.now.cell_count }
     requires lined { Lined (nodes_of net.now) row.now }
     requires gaps_there { net.now.node_count ≤ length gaps.now }
     requires gapped { GapsAcross (nodes_of net.now) way gaps.now }
-    ensures { LastIs (nodes_of net.now) (place_of (hangs_at (way_of way) (nodes_of net.now) (cell_in net.now cell))) result }
+    ensures { LastIs (nodes_of net.now)
+        (place_of (hangs_at (way_of way) (nodes_of net.now) (cell_in net.now cell))) result }
 {
     let axis = way.axis();
     let [layer, from, near] = net.place(axis, net.corner(cell, 0));

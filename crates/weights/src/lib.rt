@@ -2,19 +2,18 @@
 #![tactic(auto)]
 
 ghost use Rattle.std.specs.Prelude.{◌≡◌, ◌*◌, ◌≤◌, length, replicate};
-ghost use Rattle.rows.specs.Parts.{put, tab};
-ghost use Rattle.weights.specs.Weigh.{weight_in};
+ghost use Rattle.weights.specs.Bare.{weighed_row};
 
-pub mod bare_net;
+pub mod axes;
 pub mod extents;
-pub mod lines;
+pub mod lent;
 mod nodes;
 pub mod sides;
 pub mod weigh;
 
-use bare_net::BareNet;
+use axes::Axis;
 use extents::Way;
-use lines::Axis;
+use lent::BareNet;
 use weigh::Extents;
 
 // The weights. Here the work room is drawn, for l cells and so at most 4 * l nodes: a key for each, an entry for each
@@ -22,8 +21,7 @@ use weigh::Extents;
 fn write_weights(net: &BareNet, work: &mut [u64], conductances: &mut [f64])
     requires work_room { 64 * net.now.cell_count ≤ length work.old }
     requires conductance_room { net.now.edge_count ≤ length conductances.old }
-    ensures { conductances.new ≡ put conductances.old 0 (tab (weight_in net.now.nodes.now net.now.node_count
-        net.now.corners.now net.now.sheets.now net.now.cell_count net.now.ends.now conductances.old) net.now.edge_count) }
+    ensures { conductances.new ≡ weighed_row net.now conductances.old }
 {
     let n = net.node_count;
     let most = 4 * net.cell_count;
@@ -36,7 +34,7 @@ fn write_weights(net: &BareNet, work: &mut [u64], conductances: &mut [f64])
     let (entries, _) = rest.as_chunks_mut::<4>();
     let (row, rest) = entries.split_at_mut(most);
     let (scratch, _) = rest.split_at_mut(most);
-    lines::sort_nodes(
+    axes::sort_nodes(
         net,
         Axis::Row,
         &mut row[..n],
@@ -44,7 +42,7 @@ fn write_weights(net: &BareNet, work: &mut [u64], conductances: &mut [f64])
         &mut scratch[..n],
     );
     extents::write_gaps(&row[..n], right, left);
-    lines::sort_nodes(
+    axes::sort_nodes(
         net,
         Axis::Column,
         &mut row[..n],
@@ -71,8 +69,7 @@ fn write_weights(net: &BareNet, work: &mut [u64], conductances: &mut [f64])
 pub fn apply_weights(net: &BareNet, work: &mut [u64], conductances: &mut [f64])
     requires work_room { 64 * net.now.cell_count ≤ length work.old }
     requires conductance_room { net.now.edge_count ≤ length conductances.old }
-    ensures conductances { conductances.new ≡ put conductances.old 0 (tab (weight_in net.now.nodes.now net.now.node_count
-        net.now.corners.now net.now.sheets.now net.now.cell_count net.now.ends.now conductances.old) net.now.edge_count) }
+    ensures conductances { conductances.new ≡ weighed_row net.now conductances.old }
     ensures work_cleared { work.new ≡ replicate (length work.old) 0 }
 {
     write_weights(net, work, conductances);

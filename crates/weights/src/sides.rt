@@ -4,8 +4,8 @@ ghost use Rattle.std.specs.Ordering.{nat_cmp};
 ghost use Rattle.std.specs.Cmp.Lexicographic.{slice_cmp};
 ghost use Rattle.weights.specs.Sides.{Sided, FirstCellIs};
 
-use crate::bare_net::BareNet;
-use crate::lines::Entry;
+use crate::axes::Entry;
+use crate::lent::BareNet;
 
 /// The sides of the cells in order.
 pub fn sort_sides(net: &BareNet, row: &mut [Entry], keys: &mut [u64], scratch: &mut [Entry])

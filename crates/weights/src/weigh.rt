@@ -1,13 +1,12 @@
 //! The weight of each edge that is a side of a cell: its face over the sheet resistance times its length.
 ghost use Rattle.std.specs.Prelude.{◌≡◌, ◌+◌, ◌^◌, ◌<◌, ◌≤◌, min, length, slice_index, Some};
-ghost use Rattle.rows.specs.Parts.{put, tab};
 ghost use Rattle.net.specs.Net.{weight, weighed};
 ghost use Rattle.weights.specs.Sides.{Sided};
-ghost use Rattle.weights.specs.Weigh.{edge_of, weight_in};
-ghost use Rattle.weights.specs.Bare.{nodes_of, cells_of, across_of, face_of, distance_of, HasExtents, Extended};
+ghost use Rattle.weights.specs.Weigh.{edge_of};
+ghost use Rattle.weights.specs.Bare.{nodes_of, cells_of, across_of, face_of, distance_of, weighed_row, HasExtents, Extended};
 
-use crate::bare_net::BareNet;
-use crate::lines::{Axis, Entry};
+use crate::axes::{Axis, Entry};
+use crate::lent::BareNet;
 use crate::sides::first_cell;
 
 /// How far each node reaches, in half ticks.
@@ -103,8 +102,7 @@ pub fn weigh_edges(net: &BareNet, extents: &Extents, sides: &[Entry], conductanc
     requires sided { Sided net.now.corners.now net.now.cell_count sides.now }
     requires extended { Extended (nodes_of net.now) (cells_of net.now) extents.now }
     requires room { net.now.edge_count ≤ length conductances.old }
-    ensures { conductances.new ≡ put conductances.old 0 (tab (weight_in net.now.nodes.now net.now.node_count
-        net.now.corners.now net.now.sheets.now net.now.cell_count net.now.ends.now conductances.old) net.now.edge_count) }
+    ensures { conductances.new ≡ weighed_row net.now conductances.old }
 {
     for j in 0..net.edge_count {
         conductances[j] = weigh_edge(net, extents, sides, j, conductances[j]);

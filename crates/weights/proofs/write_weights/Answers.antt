@@ -1,5 +1,5 @@
 use Rattle.std.proofs.Common.{subst, sym, arith}
-use Rattle.weights.specs.declared.lines.Axis.TheVariants.{Column, Row}
+use Rattle.weights.specs.declared.axes.Axis.TheVariants.{Column, Row}
 use Rattle.weights.specs.declared.extents.Way.TheVariants.{Right}
 use Rattle.weights.specs.Ways.{GapsAcross}
 use Rattle.weights.specs.Bare.{nodes_of, faced}

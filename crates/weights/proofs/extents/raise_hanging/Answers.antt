@@ -1,6 +1,6 @@
 use Rattle.std.proofs.Common.{◌≡◌, ◌+◌, sym, subst, ℕ, arith}
 use Rattle.weights.specs.Rows.{patches_in}
-use Rattle.weights.specs.declared.lines.Axis.TheVariants.{Column}
+use Rattle.weights.specs.declared.axes.Axis.TheVariants.{Column}
 use Rattle.weights.specs.Ways.{way_of}
 use Rattle.weights.specs.Bare.{nodes_of}
 use Rattle.weights.proofs.Hanging.{Raised, raised_none, raised_more, raised_all, last-room}

@@ -1,6 +1,6 @@
 use Rattle.std.proofs.Common.{◌≡◌, ◌+◌, ◌*◌, ◌<◌, ◌∙◌, ap, ℕ, length, get_or, add-zero, arith, None, Some}
 use Rattle.std.specs.Float.{nan}
-use Rattle.weights.specs.declared.bare_net.BareNet.{BareNet}
+use Rattle.weights.specs.declared.lent.BareNet.{BareNet}
 use Rattle.weights.specs.Bare.{nodes_of, cells_of}
 use Rattle.weights.proofs.Nets.{nodes-long}
 use Rattle.weights.proofs.Faces.{face-small, distance-small, weighed-is}

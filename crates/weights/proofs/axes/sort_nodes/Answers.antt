@@ -3,7 +3,7 @@ use Rattle.weights.specs.Lines.{entry_of}
 use Rattle.weights.specs.Bare.{faced}
 use Rattle.weights.proofs.Entries.{filled_more, filled_all}
 use Rattle.weights.proofs.Nets.{faced-long, entry-is}
-use Rattle.weights.proofs.lines.sort_nodes.Goals as goal
+use Rattle.weights.proofs.axes.sort_nodes.Goals as goal
 
 pub loop-i-preserved : goal.loop-i-preserved
 loop-i-preserved c =

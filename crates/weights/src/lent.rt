@@ -5,7 +5,7 @@ ghost use Rattle.weights.specs.Lines.{facing, place_of};
 ghost use Rattle.weights.specs.Sides.{corner_of};
 ghost use Rattle.weights.specs.Weigh.{NetRows};
 
-use crate::lines::Axis;
+use crate::axes::Axis;
 use crate::nodes;
 
 /// Lent rows that begin with the nodes, cells and edges of a net, and how many of each it has.

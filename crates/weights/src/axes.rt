@@ -6,7 +6,7 @@ ghost use Rattle.net.specs.Net.{Node};
 ghost use Rattle.weights.specs.Lines.{Lined, LastIs};
 ghost use Rattle.weights.specs.Bare.{faced};
 
-use crate::bare_net::BareNet;
+use crate::lent::BareNet;
 
 /// Which lines nodes are neighbours on: columns run up, rows run right.
 #[derive(Clone, Copy)]
@@ -44,7 +44,7 @@ pub fn last_at(row: &[Entry], layer: u64, line: u64, along: u64) -> Option<usize
     requires { IsSorted (slice_cmp nat_cmp) row.now }
     ensures { (ns : List Node) → Lined ns row.now → LastIs ns (layer ∷ line ∷ along ∷ []) result }
 {
-    let Some(&[.., number]) = sorted::runs::run(row, &[layer, line, along]).last() else {
+    let Some(&[.., number]) = sorted::runs::last(row, &[layer, line, along]) else {
         return None;
     };
     Some(number as usize)
