@@ -5,8 +5,8 @@ use Rattle.refusals.specs.declared.Refusal.{Refusal}
 use Rattle.refusals.specs.Said.{Said, accepted, refused, said}
 use Rattle.cell.specs.Ticks.{metres_of}
 use Rattle.floats.specs.Fractions.{in_sheet, in_potential}
-use Rattle.sound_net.specs.Nets.{Net, all_below, node_count, sound_net}
-use Rattle.sound_net.specs.Cells.{sound_cell_at}
+use Rattle.sound_net.specs.Nets.{Net, all_below, node_count, corners_at, sound_net}
+use Rattle.sound_net.specs.Cells.{width_at, height_at}
 use Rattle.power.specs.declared.Values.{Values}
 use Rattle.power.specs.declared.Slope.{Slope}
 use Rattle.power.specs.Formulas.{slope_of, power_of}
@@ -17,14 +17,14 @@ value_at row i = slice_index_or row i nan
 -- what the slopes of cell c are worked out from: potentials at SW, SE, NE, NW, and the sides in ticks
 unfoldable pub values_at : Net → List Float → ℕ → Values
 values_at net potentials c =
-    let cell = sound_cell_at net.nodes net.corners c in
+    let q = corners_at net.corners c in
     record {
-      u0 = value_at potentials cell.corners.southwest;
-      u1 = value_at potentials cell.corners.southeast;
-      u2 = value_at potentials cell.corners.northeast;
-      u3 = value_at potentials cell.corners.northwest;
-      width = cell.width;
-      height = cell.height;
+      u0 = value_at potentials q.southwest;
+      u1 = value_at potentials q.southeast;
+      u2 = value_at potentials q.northeast;
+      u3 = value_at potentials q.northwest;
+      width = width_at net.nodes net.corners c;
+      height = height_at net.nodes net.corners c;
     }
 
 -- slopes and extents of cell c

@@ -70,15 +70,14 @@ fn cell_values(net: &SoundNet, potentials: &[f64], c: usize) -> Values
     ensures width_in_range { result.width < 2 ^ 53 }
     ensures height_in_range { result.height < 2 ^ 53 }
 {
-    let cell = net.cell(c);
-    let at = cell.corners;
+    let at = net.corners(c);
     Values {
         u0: potentials[at.southwest],
         u1: potentials[at.southeast],
         u2: potentials[at.northeast],
         u3: potentials[at.northwest],
-        width: cell.width,
-        height: cell.height,
+        width: net.width(c),
+        height: net.height(c),
     }
 }
 

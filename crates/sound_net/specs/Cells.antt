@@ -2,7 +2,6 @@
 use Rattle.std.specs.Prelude.{ℕ, List, ℤ, ◌-ℤ◌, nat_abs}
 use Rattle.cell.specs.Ticks.{off}
 use Rattle.sound_net.specs.declared.view.SoundNode.{SoundNode}
-use Rattle.sound_net.specs.declared.view.SoundCell.{SoundCell}
 use Rattle.sound_net.specs.Nets.{layer_at, component_at, x_at, y_at, corners_at}
 
 -- node n, its coordinates moved up as a cell's are
@@ -14,12 +13,9 @@ sound_node_at nodes n = record {
   y = off (y_at nodes n);
 }
 
--- the corners of cell c, and its sides in ticks
-abbrev pub sound_cell_at : List ℤ → List ℕ → ℕ → SoundCell
-sound_cell_at nodes corners c =
-    let q = corners_at corners c in
-    record {
-      corners = q;
-      width = nat_abs (x_at nodes q.southeast -ℤ x_at nodes q.southwest);
-      height = nat_abs (y_at nodes q.northwest -ℤ y_at nodes q.southwest);
-    }
+-- how many ticks cell c is wide and high
+abbrev pub width_at : List ℤ → List ℕ → ℕ → ℕ
+width_at nodes corners c = let q = corners_at corners c in nat_abs (x_at nodes q.southeast -ℤ x_at nodes q.southwest)
+
+abbrev pub height_at : List ℤ → List ℕ → ℕ → ℕ
+height_at nodes corners c = let q = corners_at corners c in nat_abs (y_at nodes q.northwest -ℤ y_at nodes q.southwest)

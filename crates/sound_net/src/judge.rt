@@ -4,7 +4,7 @@
 // last: a test of each number is a branch of each. The other tests leave at the first that fails.
 ghost use Rattle.std.specs.Prelude.{◌≡◌, ◌+◌, ◌*◌, ◌/◌, ◌^◌, ◌<◌, ◌≤◌, ◌&&◌, length, pos, int_lt, nat_lt, slice_index, slice_index_or};
 ghost use Rattle.cell.specs.Ticks.{in_range};
-ghost use Rattle.sound_net.specs.Nets.{net_in, all_below, node_count, x_at, y_at, eq_z, corners_at, sound_node, known, lined_up, sound_cell, sound_net};
+ghost use Rattle.sound_net.specs.Nets.{net_of, net_in, all_below, node_count, x_at, y_at, eq_z, corners_at, sound_node, known, lined_up, sound_cell, sound_net};
 
 use crate::{Corners, NetRows};
 
@@ -179,19 +179,40 @@ fn cells_are_sound(nodes: &[i64], corners: &[u64], cells: usize) -> bool
     astray == 0
 }
 
+// Whether five rows are a sound net. Each row goes by itself and not in one struct, so that none of them is put on the
+// stack.
+#[inline(never)]
+#[tactic(auto, using(crate::proofs::Marks::edge_ends), unfolding(crate::specs::Nets::sound_net))]
+fn are_sound(
+    nodes: &[i64],
+    ends: &[u64],
+    conductances: &[f64],
+    corners: &[u64],
+    sheets: &[f64],
+) -> bool
+    ensures { result ≡ sound_net (net_of nodes.now ends.now conductances.now corners.now sheets.now) }
+{
+    nodes.len() % 4 == 0
+        && ends.len() == conductances.len() * 2
+        && corners.len() == sheets.len() * 4
+        && nodes_are_sound(nodes)
+        && all_below(nodes.len() / 4, ends)
+        && cells_are_sound(nodes, corners, sheets.len())
+}
+
 impl NetRows<'_> {
     /// Whether the rows are a sound net: the rules' refusal 7 of a net is that they are not. `SoundNet::judge` asks it
     /// once for all.
-    #[tactic(auto, using(crate::proofs::Marks::edge_ends), unfolding(crate::specs::Nets::sound_net))]
     #[inline(always)]
     pub fn is_sound(&self) -> bool
         ensures { result ≡ sound_net (net_in self.now) }
     {
-        self.nodes.len() % 4 == 0
-            && self.ends.len() == self.conductances.len() * 2
-            && self.corners.len() == self.sheets.len() * 4
-            && nodes_are_sound(self.nodes)
-            && all_below(self.nodes.len() / 4, self.ends)
-            && cells_are_sound(self.nodes, self.corners, self.sheets.len())
+        are_sound(
+            self.nodes,
+            self.ends,
+            self.conductances,
+            self.corners,
+            self.sheets,
+        )
     }
 }

@@ -7,4 +7,4 @@ pub mod rows;
 pub mod view;
 
 pub use rows::{Corners, NetRows};
-pub use view::{SoundCell, SoundNet, SoundNode};
+pub use view::{SoundNet, SoundNode};

@@ -1,8 +1,8 @@
 // A net that was judged once: what holds of it is kept by its type, so no function over it asks again.
 ghost use Rattle.std.specs.Prelude.{◌≡◌, ◌+◌, ◌*◌, ◌^◌, ◌<◌, ◌≤◌, ◌↔◌, pos, nat_abs, ◌-ℤ◌, length, slice_index_or, IsSome, IfSome};
 ghost use Rattle.refusals.specs.Limits.{coordinate};
-ghost use Rattle.sound_net.specs.Nets.{net_in, IsSound, node_count, from_at, to_at};
-ghost use Rattle.sound_net.specs.Facts.{IsGap, IsSoundNode, AreKnown, IsSoundCell, HasSides, IsSoundNet};
+ghost use Rattle.sound_net.specs.Nets.{net_in, IsSound, node_count, from_at, to_at, corners_at};
+ghost use Rattle.sound_net.specs.Facts.{IsGap, IsSoundNode, AreKnown, IsSoundNet};
 
 use crate::{Corners, NetRows};
 
@@ -20,14 +20,6 @@ pub struct SoundNode {
     pub component: u32,
     pub x: u64,
     pub y: u64,
-}
-
-/// A cell of a sound net: its corners, and how many ticks it is wide and high.
-#[derive(Clone, Copy, Debug, PartialEq, Eq)]
-pub struct SoundCell {
-    pub corners: Corners,
-    pub width: u64,
-    pub height: u64,
 }
 
 // The ticks from one number of the row to a larger one. Internal: both are coordinates in range.
@@ -61,29 +53,6 @@ impl SoundNode {
     }
 }
 
-impl SoundCell {
-    ghost use Rattle.sound_net.specs.Cells.{sound_cell_at};
-
-    // Cell c. Internal: it is sound.
-    #[inline(always)]
-    fn of(nodes: &[i64], corners: &[u64], c: usize) -> SoundCell
-        requires there { c * 4 + 4 ≤ length corners.now }
-        requires sound { IsSoundCell nodes.now corners.now c }
-        requires sides { HasSides nodes.now corners.now c }
-        ensures value { result ≡ sound_cell_at nodes.now corners.now c }
-        ensures corners_known { AreKnown (node_count nodes.now) result.corners }
-        ensures width_in_range { result.width ≤ coordinate + coordinate }
-        ensures height_in_range { result.height ≤ coordinate + coordinate }
-    {
-        let q = Corners::of(corners, c);
-        SoundCell {
-            corners: q,
-            width: gap(nodes, q.southwest * 4 + 2, q.southeast * 4 + 2),
-            height: gap(nodes, q.southwest * 4 + 3, q.northwest * 4 + 3),
-        }
-    }
-}
-
 // The two nodes of edge e. Internal: it stands in the row.
 #[inline(always)]
 fn ends_of(ends: &[u64], e: usize) -> (usize, usize)
@@ -95,7 +64,7 @@ fn ends_of(ends: &[u64], e: usize) -> (usize, usize)
 }
 
 impl<'a> SoundNet<'a> {
-    ghost use Rattle.sound_net.specs.Cells.{sound_node_at, sound_cell_at};
+    ghost use Rattle.sound_net.specs.Cells.{sound_node_at, width_at, height_at};
 
     /// The rows as a net; none where they are not sound.
     #[inline(always)]
@@ -153,15 +122,36 @@ impl<'a> SoundNet<'a> {
         ends_of(self.rows.ends, e)
     }
 
+    /// The nodes at a cell's corners.
     #[inline(always)]
-    pub fn cell(&self, c: usize) -> SoundCell
+    pub fn corners(&self, c: usize) -> Corners
         requires { c < length self.now.rows.sheets.now }
-        ensures value { result ≡ sound_cell_at self.now.rows.nodes.now self.now.rows.corners.now c }
-        ensures corners_known { AreKnown (node_count self.now.rows.nodes.now) result.corners }
-        ensures width_in_range { result.width ≤ coordinate + coordinate }
-        ensures height_in_range { result.height ≤ coordinate + coordinate }
+        ensures corners { result ≡ corners_at self.now.rows.corners.now c }
+        ensures known { AreKnown (node_count self.now.rows.nodes.now) result }
     {
-        SoundCell::of(self.rows.nodes, self.rows.corners, c)
+        Corners::of(self.rows.corners, c)
+    }
+
+    /// How many ticks a cell is wide.
+    #[inline(always)]
+    pub fn width(&self, c: usize) -> u64
+        requires { c < length self.now.rows.sheets.now }
+        ensures ticks { result ≡ width_at self.now.rows.nodes.now self.now.rows.corners.now c }
+        ensures in_range { result ≤ coordinate + coordinate }
+    {
+        let q = self.corners(c);
+        gap(self.rows.nodes, q.southwest * 4 + 2, q.southeast * 4 + 2)
+    }
+
+    /// How many ticks a cell is high.
+    #[inline(always)]
+    pub fn height(&self, c: usize) -> u64
+        requires { c < length self.now.rows.sheets.now }
+        ensures ticks { result ≡ height_at self.now.rows.nodes.now self.now.rows.corners.now c }
+        ensures in_range { result ≤ coordinate + coordinate }
+    {
+        let q = self.corners(c);
+        gap(self.rows.nodes, q.southwest * 4 + 3, q.northwest * 4 + 3)
     }
 }
 
@@ -193,9 +183,9 @@ mod tests {
         assert_eq!(rt; net.node(2).component, 7);
         assert_eq!(rt; net.node(2).x, 68719476738);
         assert_eq!(rt; net.ends(0), (1, 2));
-        assert_eq!(rt; net.cell(0).corners.northwest, 3);
-        assert_eq!(rt; net.cell(0).width, 4);
-        assert_eq!(rt; net.cell(0).height, 8);
+        assert_eq!(rt; net.corners(0).northwest, 3);
+        assert_eq!(rt; net.width(0), 4);
+        assert_eq!(rt; net.height(0), 8);
         Ok(())
     }
 
