@@ -30,7 +30,9 @@ version=$(sed -n 's/^#define LEAFMESH_VERSION "\(.*\)"$/\1/p' ../include/leafmes
 parts=$(sed -n 's/^#define LEAFMESH_VERSION_[A-Z]* \([0-9]*\)$/\1/p' ../include/leafmesh.h | paste -sd .)
 [ "$version" = "$parts" ] || fail "the header says $version and $parts"
 grep -qx "version = \"$version\"" rust/Cargo.toml || fail "Cargo.toml has another version than $version"
-[ "$(sed -n 's/^## //p' ../CHANGELOG.md | head -n 1)" = "$version" ] || fail "CHANGELOG.md doesn't begin with $version"
+# What is still to get a number stands first, as Unreleased.
+[ "$(sed -n 's/^## //p' ../CHANGELOG.md | grep -vx Unreleased | head -n 1)" = "$version" ] ||
+    fail "CHANGELOG.md doesn't begin with $version"
 grep -qx 'license = "MIT OR Apache-2.0"' rust/Cargo.toml || fail "Cargo.toml has another licence"
 grep -q 'MIT OR Apache-2.0' ../LICENSE || fail "LICENSE has another licence"
 
