@@ -25,7 +25,9 @@ TABLE, NET, BOARDS = "replay_table", "replay_net", "replay_boards"
 FORMED = "table/src/formed.rt"
 SLOTS = "table/src/slots.rt"
 LIMITS = "refusals/src/limits.rt"
-CHECK = "record/src/check.rt"
+RECORD_LIMITS = "record/src/board.rt"
+PARTS = "record/src/parts.rt"
+WALK = "record/src/walk.rt"
 JUDGE = "network/src/judge.rt"
 NETWORK = "network/src/lib.rt"
 
@@ -79,25 +81,25 @@ FAULTS = [
     ("not one of its parent's four", TABLE, FORMED, "is_at(t, q * 8 + 6, i as i64) & kids_ok", "kids_ok"),
     ("level 13", BOARDS, LIMITS, "MAX_LEVEL: u64 = 12;", "MAX_LEVEL: u64 = 13;"),
     ("level 11", BOARDS, LIMITS, "MAX_LEVEL: u64 = 12;", "MAX_LEVEL: u64 = 11;"),
-    ("257 polygons", BOARDS, CHECK, "0, POLYGONS as u64)", "0, POLYGONS as u64 + 1)"),
-    ("255 polygons", BOARDS, CHECK, "0, POLYGONS as u64)", "0, POLYGONS as u64 - 1)"),
+    ("257 polygons", BOARDS, RECORD_LIMITS, "polygons: POLYGONS as u16", "polygons: POLYGONS as u16 + 1"),
+    ("255 polygons", BOARDS, RECORD_LIMITS, "polygons: POLYGONS as u16", "polygons: POLYGONS as u16 - 1"),
     ("step 2^m", BOARDS, "build/src/grid.rt", "1u64 << (max_level + 1)", "1u64 << max_level"),
     ("255 means 4", BOARDS, LIMITS, "DEFAULT_LEVEL: u64 = 3;", "DEFAULT_LEVEL: u64 = 4;"),
-    ("254 means 3", BOARDS, CHECK, "255 => Ok(", "v if v >= 254 => Ok("),
-    ("equal layers", BOARDS, CHECK, "r.ranged(2, least, 65535)? + 1;", "r.ranged(2, least, 65535)?;"),
+    ("254 means 3", BOARDS, PARTS, "255 => DEFAULT_LEVEL", "level if level >= 254 => DEFAULT_LEVEL"),
+    ("equal layers", BOARDS, PARTS, "last < layer,", "last <= layer,"),
     ("r_sheet above 2^40", BOARDS, LIMITS, "0x4270_0000_0000_0000", "0x4270_0000_0000_0001"),
     ("r_sheet 2^40 refused", BOARDS, LIMITS, "0x4270_0000_0000_0000", "0x426f_ffff_ffff_ffff"),
     ("r_sheet below 2^-40", BOARDS, LIMITS, "0x3d70_0000_0000_0000", "0x3d6f_ffff_ffff_ffff"),
-    ("1,024 points too many", BOARDS, CHECK, "0, RING_POINTS as u64)", "0, RING_POINTS as u64 - 1)"),
-    ("1,025 points", BOARDS, CHECK, "0, RING_POINTS as u64)", "0, RING_POINTS as u64 + 1)"),
+    ("1,024 points too many", BOARDS, RECORD_LIMITS, "RING_POINTS as u16", "RING_POINTS as u16 - 1"),
+    ("1,025 points", BOARDS, RECORD_LIMITS, "RING_POINTS as u16", "RING_POINTS as u16 + 1"),
     ("too little room for 1,021 points", BOARDS, "leafnet_text/src/rooms.rt", "POINTS: usize = 1024;", "POINTS: usize = 1020;"),
     ("63 layer entries", BOARDS, LIMITS, "LAYERS: usize = 64;", "LAYERS: usize = 63;"),
-    ("65 layer entries", BOARDS, CHECK, "0, LAYERS as u64)", "0, LAYERS as u64 + 1)"),
-    ("cap 257", BOARDS, CHECK, "1, CAP)", "1, CAP + 1)"),
-    ("cap 0", BOARDS, CHECK, "2, 1, CAP)", "2, 0, CAP)"),
-    ("target past 2^36", BOARDS, CHECK, "8, 1, CELL)", "8, 1, CELL + 1)"),
-    ("a layer's cell past 2^36", BOARDS, CHECK, "8, 0, CELL)", "8, 0, CELL + 1)"),
-    ("a coordinate past 2^36", BOARDS, LIMITS, "COORDINATE: i64 = 68719476736;", "COORDINATE: i64 = 68719476737;"),
+    ("65 layer entries", BOARDS, RECORD_LIMITS, "LAYERS as u16", "LAYERS as u16 + 1"),
+    ("cap 257", BOARDS, RECORD_LIMITS, "CAP as u16", "CAP as u16 + 1"),
+    ("cap 0", BOARDS, WALK, "within(1, limits.cap)", "within(0, limits.cap)"),
+    ("target past 2^36", BOARDS, WALK, "within(1, limits.cell)", "within(1, limits.cell + 1)"),
+    ("a layer's cell past 2^36", BOARDS, WALK, "within(0, limits.cell)", "within(0, limits.cell + 1)"),
+    ("a coordinate past 2^36", BOARDS, LIMITS, "COORDINATE: i64 = 1 << 36;", "COORDINATE: i64 = (1 << 36) + 1;"),
     ("network: bad table", NET, NETWORK, "!table::formed::well_formed(t, head)", "t.len() < head.count"),
     ("network: index at the count", NET, JUDGE, "count as u64 <= table", "(count as u64) < table"),
     ("network: components of another length", NET, JUDGE, "(components == layers) & ", ""),
