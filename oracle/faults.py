@@ -28,6 +28,7 @@ LIMITS = "refusals/src/limits.rt"
 RECORD_LIMITS = "record/src/board.rt"
 PARTS = "record/src/parts.rt"
 WALK = "record/src/walk.rt"
+ROOMS = "leafnet_text/src/rooms.rt"
 JUDGE = "network/src/judge.rt"
 NETWORK = "network/src/lib.rt"
 
@@ -92,7 +93,7 @@ FAULTS = [
     ("r_sheet below 2^-40", BOARDS, LIMITS, "0x3d70_0000_0000_0000", "0x3d6f_ffff_ffff_ffff"),
     ("1,024 points too many", BOARDS, RECORD_LIMITS, "RING_POINTS as u16", "RING_POINTS as u16 - 1"),
     ("1,025 points", BOARDS, RECORD_LIMITS, "RING_POINTS as u16", "RING_POINTS as u16 + 1"),
-    ("too little room for 1,021 points", BOARDS, "leafnet_text/src/rooms.rt", "POINTS: usize = 1024;", "POINTS: usize = 1020;"),
+    ("too little room for 1,021 points", BOARDS, ROOMS, "POINTS: usize = 1024;", "POINTS: usize = 1020;"),
     ("63 layer entries", BOARDS, LIMITS, "LAYERS: usize = 64;", "LAYERS: usize = 63;"),
     ("65 layer entries", BOARDS, RECORD_LIMITS, "LAYERS as u16", "LAYERS as u16 + 1"),
     ("cap 257", BOARDS, RECORD_LIMITS, "CAP as u16", "CAP as u16 + 1"),
