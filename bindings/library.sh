@@ -15,7 +15,7 @@ if [ -f "$made" ] && [ -z "$(find crates crates.txt -name out -prune -o -newer "
     exit 0
 fi
 command -v rt >/dev/null || {
-    echo "library.sh: $made is to be made by \`$what\` in crates/$crate, and there is no rt: see README.md, \"The toolchain\"" >&2
+    echo "library.sh: $made is to be made by \`$what\` in crates/$crate, and there is no rt: see README.md, \"Run it\"" >&2
     exit 1
 }
 log=$(mktemp)

@@ -16,13 +16,13 @@
  * zero. With another rounding the last bit of an answer can differ, with flush to zero a subnormal power is lost.
  *
  * Rows. A row is a pointer and, behind it, its length: the number of entries of the pointer's own type. So the
- * length of points counts points and that of nodes counts numbers, four a node; each call says it again. Where the
- * length is 0 the pointer may be null. Rows of one call must not overlap where one of them is written.
+ * length of points counts points and that of nodes counts nodes; only a table's counts numbers, eight a slot. Where
+ * the length is 0 the pointer may be null. Rows of one call must not overlap where one of them is written.
  *
  * Conductances. They are the original's, bit for bit, and not the copper's at a change of level, beside other
  * copper of the same layer's rows and columns, and where two polygons of one component meet: see
- * docs/CONDUCTANCES.md before you rely on them. Corners, sheets and the table are exact; a solver can be assembled
- * from those.
+ * docs/CONDUCTANCES.md before you rely on them. Nodes, cells and the table are exact; a solver can be assembled from
+ * those.
  *
  * Bands. Where bands of a ring get cells of unequal width, corners of one band's cells stand inside the sides of
  * the other's and no side is cut: the net is wrong there, and no check of the library tells. It can't happen where
@@ -40,10 +40,10 @@ extern "C" {
 #endif
 
 /* The version of this header and its library; CHANGELOG.md says what changed. */
-#define LEAFMESH_VERSION "0.2.1"
+#define LEAFMESH_VERSION "0.3.0"
 #define LEAFMESH_VERSION_MAJOR 0
-#define LEAFMESH_VERSION_MINOR 2
-#define LEAFMESH_VERSION_PATCH 1
+#define LEAFMESH_VERSION_MINOR 3
+#define LEAFMESH_VERSION_PATCH 0
 
 /* Ranges. */
 #define LEAFMESH_COORDINATE 68719476736LL /* coordinates lie from minus this to this: 2^36 ticks */
@@ -74,32 +74,27 @@ enum {
 };
 #define LEAFMESH_NO_CELL 4294967295LL /* no parent, no child */
 
-/* A net has four numbers a node, two ends an edge and four corners a cell. */
-#define LEAFMESH_NODE 4
-enum { LEAFMESH_NODE_LAYER, LEAFMESH_NODE_COMPONENT, LEAFMESH_NODE_X, LEAFMESH_NODE_Y };
-#define LEAFMESH_ENDS 2
-#define LEAFMESH_CORNERS 4
+/* The corners of a cell of a net, in their order. */
 enum { LEAFMESH_SW, LEAFMESH_SE, LEAFMESH_NE, LEAFMESH_NW };
+#define LEAFMESH_CORNERS 4
 
-/* Room that a net needs for each leaf: nodes, edges, cells, and work numbers. */
+/* Room that leafmesh_network needs for each leaf: nodes, edges, cells, and work numbers of 64 bits. */
 #define LEAFMESH_NODES_A_LEAF 4
 #define LEAFMESH_EDGES_A_LEAF 8
 #define LEAFMESH_CELLS_A_LEAF 1
 #define LEAFMESH_WORK_A_LEAF 64
 
-/* Work numbers with which a check takes n log n steps, for each node and for each edge; it takes none where there are
- * more nodes than LEAFMESH_CHECK_NODES, 2^26. */
+/* Work room with which a check takes n log n steps: so many numbers of 64 bits for each node and for each edge of its
+ * net. It takes none where there are more nodes than LEAFMESH_CHECK_NODES, 2^26. */
 #define LEAFMESH_CHECK_WORK_A_NODE 9
 #define LEAFMESH_CHECK_WORK_AN_EDGE 3
 #define LEAFMESH_CHECK_NODES 67108864
 
 /* Lengths of rows that are always enough, in entries of the row's type; they can size static rows. */
 #define LEAFMESH_TABLE_LENGTH(slots) (LEAFMESH_SLOT * (size_t)(slots))
-#define LEAFMESH_NODES_LENGTH(leaves) (LEAFMESH_NODE * LEAFMESH_NODES_A_LEAF * (size_t)(leaves))
-#define LEAFMESH_ENDS_LENGTH(leaves) (LEAFMESH_ENDS * LEAFMESH_EDGES_A_LEAF * (size_t)(leaves))
-#define LEAFMESH_CONDUCTANCES_LENGTH(leaves) (LEAFMESH_EDGES_A_LEAF * (size_t)(leaves))
-#define LEAFMESH_CORNERS_LENGTH(leaves) (LEAFMESH_CORNERS * LEAFMESH_CELLS_A_LEAF * (size_t)(leaves))
-#define LEAFMESH_SHEETS_LENGTH(leaves) (LEAFMESH_CELLS_A_LEAF * (size_t)(leaves))
+#define LEAFMESH_NODES_LENGTH(leaves) (LEAFMESH_NODES_A_LEAF * (size_t)(leaves))
+#define LEAFMESH_EDGES_LENGTH(leaves) (LEAFMESH_EDGES_A_LEAF * (size_t)(leaves))
+#define LEAFMESH_CELLS_LENGTH(leaves) (LEAFMESH_CELLS_A_LEAF * (size_t)(leaves))
 #define LEAFMESH_WORK_LENGTH(leaves) (LEAFMESH_WORK_A_LEAF * (size_t)(leaves))
 /* For a check that takes n log n steps; with less it takes the plain walk. */
 #define LEAFMESH_CHECK_WORK_LENGTH(nodes, edges)                                                                    \
@@ -120,7 +115,7 @@ enum {
     LEAFMESH_SLANTED = 4, /* neighbouring ring points differ in x and y: place is the polygon */
     LEAFMESH_UNEVEN_CELL = 5,   /* a base cell's side is no multiple of 2^(max_level+1): place is the polygon */
     LEAFMESH_NO_ROOM = 6,       /* a lent row is too short */
-    LEAFMESH_BAD_TABLE = 7,     /* a table, a net or rows that don't fit together */
+    LEAFMESH_BAD_TABLE = 7,     /* a bad table or net, or polygons' rows that don't fit together */
     LEAFMESH_NO_SUCH_CELL = 8,  /* place is the id */
     LEAFMESH_ALREADY_SPLIT = 9, /* place is the id */
     LEAFMESH_FINEST_LEVEL = 10  /* place is the id */
@@ -145,7 +140,7 @@ static inline const char *leafmesh_words(uint64_t number)
     case LEAFMESH_NO_ROOM:
         return "a lent row is too short";
     case LEAFMESH_BAD_TABLE:
-        return "the table or net is not well formed, or rows do not fit together";
+        return "the table or net is not well formed, or rows of polygons do not fit together";
     case LEAFMESH_NO_SUCH_CELL:
         return "there is no cell with this id";
     case LEAFMESH_ALREADY_SPLIT:
@@ -176,6 +171,37 @@ typedef struct {
 typedef struct {
     uint64_t layer, component, points;
 } leafmesh_polygon;
+
+/* A node of a net: layer, component, and where it stands, in ticks. */
+typedef struct {
+    uint16_t layer;
+    uint32_t component;
+    int64_t x, y;
+} leafmesh_node;
+
+/* An edge of a net: its two nodes, and its conductance in siemens. */
+typedef struct {
+    uint64_t from, to;
+    double conductance;
+} leafmesh_edge;
+
+/* A cell of a net: its nodes SW, SE, NE, NW, and its sheet resistance in ohms a square. */
+typedef struct {
+    uint64_t corners[LEAFMESH_CORNERS];
+    double sheet;
+} leafmesh_cell;
+
+/* What the library takes them for. */
+#ifdef __cplusplus
+#define LEAFMESH_ASSERT static_assert
+#else
+#define LEAFMESH_ASSERT _Static_assert
+#endif
+LEAFMESH_ASSERT(sizeof(leafmesh_node) == 24 && offsetof(leafmesh_node, component) == 4 &&
+                    offsetof(leafmesh_node, x) == 8 && offsetof(leafmesh_node, y) == 16,
+                "a node has 24 bytes");
+LEAFMESH_ASSERT(sizeof(leafmesh_edge) == 24, "an edge has 24 bytes");
+LEAFMESH_ASSERT(sizeof(leafmesh_cell) == 40, "a cell has 40 bytes");
 
 /* number 0: accepted, with the call's value. Otherwise the refusal and its place. In every outcome a field that
  * does not apply is 0. */
@@ -260,48 +286,46 @@ leafmesh_outcome leafmesh_balance(int64_t *table, size_t table_length, size_t co
  * Refuses 7, 6. */
 leafmesh_outcome leafmesh_conform(int64_t *table, size_t table_length, size_t count, uint64_t max_level);
 
-/* The net of a table's leaves. nodes: layer, component, x, y, in ticks; ends: two nodes an edge; conductances in
- * siemens; corners: the nodes SW, SE, NE, NW of a cell; cell_sheets in ohms a square. Cell i is the i-th leaf of
- * leafmesh_leaf_order. The work room is zero afterwards. nodes_length counts numbers (4 a node), ends_length
- * numbers (2 an edge), conductances_length edges, corners_length numbers (4 a cell), cell_sheets_length cells,
- * work_length numbers; layers, components and sheets have one entry a polygon. Refuses 7, 3, 6. */
+/* The net of a table's leaves: how many nodes, edges and cells. Cell i is the i-th leaf of leafmesh_leaf_order. The
+ * work room is zero afterwards. layers, components and sheets (ohms a square) have one entry a polygon, nodes_length
+ * counts nodes, edges_length edges, cells_length cells, work_length numbers; LEAFMESH_.._LENGTH says how many are
+ * enough. Refuses 7 (a bad table, a cell of a polygon that isn't there, polygons' rows of unequal length), 3 (more
+ * than 256 polygons; a sheet resistance, place: its polygon), 6. */
 leafmesh_net_outcome leafmesh_network(const int64_t *table, size_t table_length, size_t count, uint64_t max_level,
                                       const uint16_t *layers, size_t layers_length, const uint32_t *components,
                                       size_t components_length, const double *sheets, size_t sheets_length,
-                                      int64_t *nodes, size_t nodes_length, uint64_t *ends, size_t ends_length,
-                                      double *conductances, size_t conductances_length, uint64_t *corners,
-                                      size_t corners_length, double *cell_sheets, size_t cell_sheets_length,
+                                      leafmesh_node *nodes, size_t nodes_length, leafmesh_edge *edges,
+                                      size_t edges_length, leafmesh_cell *cells, size_t cells_length,
                                       uint64_t *work, size_t work_length);
+
+/* A net, here and in the two checks, is bad if a node's coordinates are out of range, an edge or a cell names a node
+ * that isn't there, or a cell's nodes aren't SW, SE, NE, NW of a rectangle with positive sides: 7. */
 
 /* The power of each cell in watts, from the potential of each node in volts. Cell i is the i-th leaf of
  * leafmesh_leaf_order. With its area A in square metres (ticks times LEAFMESH_TICK, each way) a cell of power P
- * carries, on average, a sheet current of J = sqrt(P / (A * r_sheet)) amperes a metre. nodes_length counts numbers
- * (4 a node), ends_length numbers (2 an edge), conductances_length edges, corners_length numbers (4 a cell),
- * sheets_length cells, potentials_length nodes, answers_length cells. Refuses 7, 3, 6. */
-leafmesh_outcome leafmesh_power(const int64_t *nodes, size_t nodes_length, const uint64_t *ends, size_t ends_length,
-                                const double *conductances, size_t conductances_length, const uint64_t *corners,
-                                size_t corners_length, const double *sheets, size_t sheets_length,
+ * carries, on average, a sheet current of J = sqrt(P / (A * r_sheet)) amperes a metre. Lengths count nodes, edges,
+ * cells, potentials (one a node) and answers (at least one a cell). Refuses 7 (a bad net), 3 (potentials that aren't
+ * as many as the nodes, or past 2^20 V; a sheet resistance), 6. */
+leafmesh_outcome leafmesh_power(const leafmesh_node *nodes, size_t nodes_length, const leafmesh_edge *edges,
+                                size_t edges_length, const leafmesh_cell *cells, size_t cells_length,
                                 const double *potentials, size_t potentials_length, double *answers,
                                 size_t answers_length);
 
 /* The first leaf edge with a node at its middle that lacks a half; nodes by place alone. It looks at middles only.
  * With enough work room (LEAFMESH_CHECK_WORK_LENGTH; zero afterwards) it takes n log n steps; the room may be
- * empty. Lengths as in leafmesh_network and leafmesh_power. Refuses 7. */
+ * empty. Lengths count nodes, edges, cells and numbers of work room. Refuses 7 (a bad table or net). */
 leafmesh_check_outcome leafmesh_check_network_conforming(const int64_t *table, size_t table_length, size_t count,
-                                                         uint64_t max_level, const int64_t *nodes,
-                                                         size_t nodes_length, const uint64_t *ends,
-                                                         size_t ends_length, const double *conductances,
-                                                         size_t conductances_length, const uint64_t *corners,
-                                                         size_t corners_length, const double *sheets,
-                                                         size_t sheets_length, uint64_t *work, size_t work_length);
+                                                         uint64_t max_level, const leafmesh_node *nodes,
+                                                         size_t nodes_length, const leafmesh_edge *edges,
+                                                         size_t edges_length, const leafmesh_cell *cells,
+                                                         size_t cells_length, uint64_t *work, size_t work_length);
 
 /* The same with nodes of the leaf's own layer and component; layers and components have one entry a polygon.
- * Refuses 7. */
+ * Refuses 7 (as before; a cell of a polygon that isn't there, polygons' rows of unequal length). */
 leafmesh_check_outcome leafmesh_check_by_layer(const int64_t *table, size_t table_length, size_t count,
-                                               uint64_t max_level, const int64_t *nodes, size_t nodes_length,
-                                               const uint64_t *ends, size_t ends_length, const double *conductances,
-                                               size_t conductances_length, const uint64_t *corners,
-                                               size_t corners_length, const double *sheets, size_t sheets_length,
+                                               uint64_t max_level, const leafmesh_node *nodes, size_t nodes_length,
+                                               const leafmesh_edge *edges, size_t edges_length,
+                                               const leafmesh_cell *cells, size_t cells_length,
                                                const uint16_t *layers, size_t layers_length,
                                                const uint32_t *components, size_t components_length, uint64_t *work,
                                                size_t work_length);

@@ -8,7 +8,7 @@ writes compiled with checks is held to the stored answers. Printed is the first 
 and its line in `stdout`, or where the checks stopped the program, which has written nothing then. Exit status 1 if a
 fault survives or an edit no longer fits. Not in the gate: each takes half a minute.
 
-Of replay_table, replay_net and replay_boards only the cases at the limits are run, which stand in front.
+Of each program only the cases at the limits are run, which stand in front.
 """
 
 import os
@@ -21,7 +21,7 @@ import tempfile
 ORACLE = os.path.dirname(os.path.abspath(__file__))
 ROOT = os.path.dirname(ORACLE)
 
-TABLE, NET, BOARDS = "replay_table", "replay_net", "replay_boards"
+TABLE, NET, BOARDS, OUTLINE = "replay_table", "replay_net", "replay_boards", "replay_outline"
 FORMED = "table/src/formed.rt"
 SLOTS = "table/src/slots.rt"
 LIMITS = "refusals/src/limits.rt"
@@ -29,17 +29,29 @@ RECORD_LIMITS = "record/src/board.rt"
 PARTS = "record/src/parts.rt"
 WALK = "record/src/walk.rt"
 ROOMS = "leafnet_text/src/rooms.rt"
+RANGES = "build/src/ranges.rt"
+OUTLINES = "build/src/outlines.rt"
+GRID = "build/src/grid.rt"
+RING = "strips/src/ring.rt"
 JUDGE = "network/src/judge.rt"
+POLYGONS = "net_rows/src/polygons.rt"
 NETWORK = "network/src/lib.rt"
 
-SHEETS = """    judge::judge_sheets(sheets)?;
+SHEETS = """    if let Some(p) = judge::first_bad(sheets) {
+        return Err(Refusal::OutOfRange(p));
+    }
 """
-ROOM = """    let l = table::leaves::count_leaves(t, head.count);
-    if !judge::roomy(l, nodes.len(), conductances.len(), cells.len(), work.len()) {
+ROOM = """    let room = Room {
+        nodes: nodes.len(),
+        edges: edges.len(),
+        cells: cells.len(),
+        work: work.len(),
+    };
+    if !room.holds(table.leaf_count()) {
         return Err(Refusal::NoRoom);
     }
 """
-POLYGON_COUNT = """    if limits::POLYGONS < layers.len() {
+POLYGON_COUNT = """    if limits::POLYGONS < polygons.layers.len() {
         return Err(Refusal::OutOfRange(0));
     }
 """
@@ -101,23 +113,50 @@ FAULTS = [
     ("target past 2^36", BOARDS, WALK, "within(1, limits.cell)", "within(1, limits.cell + 1)"),
     ("a layer's cell past 2^36", BOARDS, WALK, "within(0, limits.cell)", "within(0, limits.cell + 1)"),
     ("a coordinate past 2^36", BOARDS, LIMITS, "COORDINATE: i64 = 1 << 36;", "COORDINATE: i64 = (1 << 36) + 1;"),
-    ("network: bad table", NET, NETWORK, "!table::formed::well_formed(t, head)", "t.len() < head.count"),
-    ("network: index at the count", NET, JUDGE, "count as u64 <= table", "(count as u64) < table"),
-    ("network: components of another length", NET, JUDGE, "(components == layers) & ", ""),
-    ("network: sheets of another length", NET, JUDGE, " & (sheets == layers)", ""),
-    ("network: a part of a node", NET, JUDGE, "(nodes % 4 == 0) & ", ""),
-    ("network: ends and conductances", NET, JUDGE, "(ends == conductances * 2) & ", ""),
-    ("network: corners and cells", NET, JUDGE, " & (corners == cells * 4)", ""),
-    ("network: 257 polygons", NET, NETWORK, "limits::POLYGONS < layers", "limits::POLYGONS + 1 < layers"),
-    ("network: 256 polygons refused", NET, NETWORK, "limits::POLYGONS < layers", "limits::POLYGONS <= layers"),
+    ("build: level 13", OUTLINE, RANGES, "s.max_level <= limits::MAX_LEVEL", "s.max_level <= limits::MAX_LEVEL + 1"),
+    ("build: level 12 refused", OUTLINE, RANGES, "s.max_level <= limits::MAX_LEVEL", "s.max_level < limits::MAX_LEVEL"),
+    ("build: 257 polygons", OUTLINE, RANGES, "polygons <= limits::POLYGONS", "polygons <= limits::POLYGONS + 1"),
+    ("build: 256 polygons refused", OUTLINE, RANGES, "polygons <= limits::POLYGONS", "polygons < limits::POLYGONS"),
+    ("build: cap 0", OUTLINE, RANGES, "(1 <= s.cap) & ", ""),
+    ("build: cap 257", OUTLINE, RANGES, "s.cap <= limits::CAP", "s.cap <= limits::CAP + 1"),
+    ("build: cap 256 refused", OUTLINE, RANGES, "s.cap <= limits::CAP", "s.cap < limits::CAP"),
+    ("build: cap not held", OUTLINE, GRID, "n.clamp(1, self.cap)", "n.max(1)"),
+    ("build: a target past 2^36", OUTLINE, RANGES, "s.target <= limits::CELL", "s.target <= limits::CELL + 1"),
+    ("build: a target of 2^36 refused", OUTLINE, RANGES, "s.target <= limits::CELL", "s.target < limits::CELL"),
+    ("build: a target of 1 refused", OUTLINE, RANGES, "1 <= s.target", "1 < s.target"),
+    ("build: 65 layer entries", OUTLINE, RANGES, "list.len() <= limits::LAYERS", "list.len() <= limits::LAYERS + 1"),
+    ("build: 64 layer entries refused", OUTLINE, RANGES, "list.len() <= limits::LAYERS", "list.len() < limits::LAYERS"),
+    ("build: layer 65,536", OUTLINE, RANGES, "layer < 65536", "layer <= 65536"),
+    ("build: layer 65,535 refused", OUTLINE, RANGES, "layer < 65536", "layer < 65535"),
+    ("build: equal layers", OUTLINE, RANGES, "list[i - 1][0] < layer", "list[i - 1][0] <= layer"),
+    ("build: a layer's cell past 2^36", OUTLINE, RANGES, "cell <= limits::CELL)", "cell <= limits::CELL + 1)"),
+    ("build: a layer's cell of 2^36 refused", OUTLINE, RANGES, "cell <= limits::CELL)", "cell < limits::CELL)"),
+    ("build: 1,025 points", OUTLINE, RING, "points.len() <= RING_POINTS", "points.len() <= RING_POINTS + 1"),
+    ("build: 1,024 points refused", OUTLINE, RING, "points.len() <= RING_POINTS", "points.len() < RING_POINTS"),
+    ("build: x of any range", OUTLINE, RING, "ticks::in_range(points[i][0]) & ", ""),
+    ("build: y of any range", OUTLINE, RING, " & ticks::in_range(points[i][1])", ""),
+    ("build: no sheet judged", OUTLINE, OUTLINES, "if !floats::sheet_in_range(sheet) {", "if sheet > 1.0e300 {"),
+    ("build: 16,385 slots", OUTLINE, OUTLINES, "size / 8 <= limits::SLOTS", "size / 8 <= limits::SLOTS + 1"),
+    ("build: 16,384 slots refused", OUTLINE, OUTLINES, "size / 8 <= limits::SLOTS", "size / 8 < limits::SLOTS"),
+    ("build: slots that aren't whole", OUTLINE, OUTLINES, "(size % 8 == 0) & ", ""),
+    ("build: layers of another length", OUTLINE, OUTLINES, "(self.layers.len() == n) & ", ""),
+    ("build: components of another length", OUTLINE, OUTLINES, "(self.components.len() == n) & ", ""),
+    ("build: sheets of another length", OUTLINE, OUTLINES, " & (self.sheets.len() == n)", ""),
+    ("build: counts that don't add up", OUTLINE, OUTLINES, "    left == 0\n", "    left < 2\n"),
+    ("network: bad table", NET, NETWORK, "ok_or(Refusal::BadTable)?", "ok_or(Refusal::NoRoom)?"),
+    ("network: index at the count", NET, POLYGONS, "polygon(id) < count", "polygon(id) <= count"),
+    ("network: components of another length", NET, POLYGONS, "self.layers.len() == self.components.len() && ", ""),
+    ("network: sheets of another length", NET, NETWORK, " || sheets.len() != polygons.layers.len()", ""),
+    ("network: 257 polygons", NET, NETWORK, "limits::POLYGONS < polygons", "limits::POLYGONS + 1 < polygons"),
+    ("network: 256 polygons refused", NET, NETWORK, "limits::POLYGONS < polygons", "limits::POLYGONS <= polygons"),
     ("network: no sheet judged", NET, NETWORK, SHEETS, ""),
-    ("network: the last bad sheet", NET, JUDGE, "OutOfRange(p)", "OutOfRange(sheets.len() - 1)"),
+    ("network: the last bad sheet", NET, NETWORK, "OutOfRange(p)", "OutOfRange(sheets.len() - 1)"),
     ("network: a sheet above 2^40", NET, LIMITS, "1099511627776.0", "1099511627776.001"),
-    ("network: a node short", NET, JUDGE, "4 * l <= nodes / 4", "4 * l <= nodes / 4 + 1"),
-    ("network: an edge short", NET, JUDGE, "8 * l <= edges", "8 * l <= edges + 1"),
-    ("network: a cell short", NET, JUDGE, "l <= cells", "l <= cells + 1"),
-    ("network: a work number short", NET, JUDGE, "64 * l <= work", "64 * l <= work + 1"),
-    ("network: no room looked at", NET, NETWORK, "if !judge::roomy(l, ", "if judge::roomy(l + 9000, "),
+    ("network: a node short", NET, JUDGE, "self.nodes / NODES", "(self.nodes + 1) / NODES"),
+    ("network: an edge short", NET, JUDGE, "self.edges / EDGES", "(self.edges + 1) / EDGES"),
+    ("network: a cell short", NET, JUDGE, "self.cells)", "self.cells + 1)"),
+    ("network: a work number short", NET, JUDGE, "self.work / WORK", "(self.work + 1) / WORK"),
+    ("network: no room looked at", NET, NETWORK, "if !room.holds(", "if room.holds(9000 + "),
     ("network: the room before the sheet", NET, NETWORK, SHEETS + ROOM, ROOM + SHEETS),
     ("network: the sheet before the polygon count", NET, NETWORK, POLYGON_COUNT + SHEETS, SHEETS + POLYGON_COUNT),
 ]
@@ -228,7 +267,7 @@ def main():
         kept_work = shutil.ignore_patterns("out")
         shutil.copytree(os.path.join(ROOT, "crates"), os.path.join(folder, "crates"), ignore=kept_work)
         shutil.copy(os.path.join(ROOT, "crates.txt"), folder)
-        for program in (TABLE, NET, BOARDS):
+        for program in (TABLE, NET, BOARDS, OUTLINE):
             cut(folder, program)
         for program in sorted({fault[1] for fault in faults}):
             differs = tried(folder, program)

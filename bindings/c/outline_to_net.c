@@ -11,11 +11,9 @@
 enum { SLOTS = 64, LEAVES = 49 };
 
 static int64_t table[LEAFMESH_TABLE_LENGTH(SLOTS)];
-static int64_t nodes[LEAFMESH_NODES_LENGTH(LEAVES)];
-static uint64_t ends[LEAFMESH_ENDS_LENGTH(LEAVES)];
-static double conductances[LEAFMESH_CONDUCTANCES_LENGTH(LEAVES)];
-static uint64_t corners[LEAFMESH_CORNERS_LENGTH(LEAVES)];
-static double cell_sheets[LEAFMESH_SHEETS_LENGTH(LEAVES)];
+static leafmesh_node nodes[LEAFMESH_NODES_LENGTH(LEAVES)];
+static leafmesh_edge edges[LEAFMESH_EDGES_LENGTH(LEAVES)];
+static leafmesh_cell cells[LEAFMESH_CELLS_LENGTH(LEAVES)];
 static uint64_t work[LEAFMESH_WORK_LENGTH(LEAVES)];
 
 #define LENGTH(row) (sizeof(row) / sizeof((row)[0]))
@@ -49,12 +47,11 @@ int main(void)
 
     leafmesh_net_outcome net = leafmesh_network(
         table, LENGTH(table), count, max_level, layers, LENGTH(layers), components, LENGTH(components), sheets,
-        LENGTH(sheets), nodes, LENGTH(nodes), ends, LENGTH(ends), conductances, LENGTH(conductances), corners,
-        LENGTH(corners), cell_sheets, LENGTH(cell_sheets), work, LENGTH(work));
+        LENGTH(sheets), nodes, LENGTH(nodes), edges, LENGTH(edges), cells, LENGTH(cells), work, LENGTH(work));
     judge("network", net.number, net.place);
     printf("cells %zu nodes %" PRIu64 " edges %" PRIu64 "\n", count, net.nodes, net.edges);
     for (uint64_t e = 0; e < net.edges; e++) {
-        printf("edge %" PRIu64 " %" PRIu64 " %g S\n", ends[2 * e], ends[2 * e + 1], conductances[e]);
+        printf("edge %" PRIu64 " %" PRIu64 " %g S\n", edges[e].from, edges[e].to, edges[e].conductance);
     }
 
     /* A refusal: there is no cell 99, and nothing is changed. */

@@ -87,10 +87,11 @@ static uint64_t max_level, target;
 static int64_t table[LEAFMESH_SLOT * SLOTS], kept[LEAFMESH_SLOT * SLOTS];
 static size_t count, room, id;
 static uint64_t ids[SLOTS];
-static int64_t nodes[4 * LEAFMESH_NODES_A_LEAF * SLOTS];
-static uint64_t ends[2 * LEAFMESH_EDGES_A_LEAF * SLOTS], corners[4 * SLOTS], work[WORK];
-static double conductances[LEAFMESH_EDGES_A_LEAF * SLOTS], cell_sheets[SLOTS];
-static double potentials[LEAFMESH_NODES_A_LEAF * SLOTS], powers[SLOTS];
+static leafmesh_node nodes[LEAFMESH_NODES_LENGTH(SLOTS)];
+static leafmesh_edge edges[LEAFMESH_EDGES_LENGTH(SLOTS)];
+static leafmesh_cell cells[LEAFMESH_CELLS_LENGTH(SLOTS)];
+static uint64_t work[WORK];
+static double potentials[LEAFMESH_NODES_LENGTH(SLOTS)], powers[SLOTS];
 static size_t work_length, edge_count, byte_count;
 static uint8_t bytes[1 << 15];
 static leafmesh_outcome outcome;
@@ -148,30 +149,28 @@ static void conform(void)
 static void network(void)
 {
     net = CALL(leafmesh_network)(table, LEAFMESH_SLOT * SLOTS, count, max_level, layers, polygon_count, components,
-                                 polygon_count, sheets, polygon_count, nodes, 4 * LEAFMESH_NODES_A_LEAF * SLOTS, ends,
-                                 2 * LEAFMESH_EDGES_A_LEAF * SLOTS, conductances, LEAFMESH_EDGES_A_LEAF * SLOTS,
-                                 corners, 4 * SLOTS, cell_sheets, SLOTS, work, work_length);
+                                 polygon_count, sheets, polygon_count, nodes, LEAFMESH_NODES_LENGTH(SLOTS), edges,
+                                 LEAFMESH_EDGES_LENGTH(SLOTS), cells, LEAFMESH_CELLS_LENGTH(SLOTS), work, work_length);
 }
 
 static void power(void)
 {
-    outcome = CALL(leafmesh_power)(nodes, 4 * net.nodes, ends, 2 * net.edges, conductances, net.edges, corners,
-                                   4 * net.cells, cell_sheets, net.cells, potentials, net.nodes, powers, room);
+    outcome = CALL(leafmesh_power)(nodes, net.nodes, edges, net.edges, cells, net.cells, potentials, net.nodes, powers,
+                                   room);
 }
 
 static void check_network_conforming(void)
 {
-    checked = CALL(leafmesh_check_network_conforming)(
-        table, LEAFMESH_SLOT * SLOTS, count, max_level, nodes, 4 * net.nodes, ends, 2 * edge_count, conductances,
-        edge_count, corners, 4 * net.cells, cell_sheets, net.cells, work, work_length);
+    checked = CALL(leafmesh_check_network_conforming)(table, LEAFMESH_SLOT * SLOTS, count, max_level, nodes, net.nodes,
+                                                      edges, edge_count, cells, net.cells, work, work_length);
 }
 
 static void check_by_layer(void)
 {
     checked =
-        CALL(leafmesh_check_by_layer)(table, LEAFMESH_SLOT * SLOTS, count, max_level, nodes, 4 * net.nodes, ends,
-                                      2 * edge_count, conductances, edge_count, corners, 4 * net.cells, cell_sheets,
-                                      net.cells, layers, polygon_count, components, polygon_count, work, work_length);
+        CALL(leafmesh_check_by_layer)(table, LEAFMESH_SLOT * SLOTS, count, max_level, nodes, net.nodes, edges,
+                                      edge_count, cells, net.cells, layers, polygon_count, components, polygon_count,
+                                      work, work_length);
 }
 
 static void read_record(void)

@@ -8,7 +8,7 @@ use leafmesh::columns::Y0;
 use leafmesh::solving::{across, System};
 use leafmesh::{
     balance, build, check_by_layer, leaf_count, leaf_order, network, power, refine, sides, Head,
-    Net, NetRows, Outlines, Point, Refusal, Settings, SLOT, TICK,
+    Net, Outlines, Point, Refusal, Settings, SLOT, TICK,
 };
 use std::error::Error;
 use std::io::{stdout, Write};
@@ -47,25 +47,25 @@ fn main() -> Result<(), Box<dyn Error>> {
     writeln!(out, "{splits} split(s) to balance, {} cells", head.count)?;
 
     let leaves = leaf_count(&table, head)?;
-    let mut rows = NetRows::for_leaves(leaves);
-    let counts = network(&table, head, outlines, &mut rows)?;
-    let net = rows.net(counts);
+    let net = network(&table, head, outlines)?;
     writeln!(
         out,
         "{leaves} leaves, {} nodes, {} edges",
-        counts.nodes, counts.edges
+        net.nodes.len(),
+        net.edges.len()
     )?;
 
     // The check looks at the middles of sides; that no node stands elsewhere inside one is the outline's doing.
-    let found = check_by_layer(&table, head, net, outlines)?;
+    let found = check_by_layer(&table, head, net.rows(), outlines)?;
     writeln!(out, "a node without its halves: {found:?}")?;
-    writeln!(out, "a node off a side's middle: {:?}", sides::loose(net))?;
+    let loose = sides::loose(net.rows());
+    writeln!(out, "a node off a side's middle: {loose:?}")?;
 
-    let system = System::of_cells(net)?;
-    let volts = system.solve(&across(net.nodes))?;
+    let system = System::of_cells(net.rows())?;
+    let volts = system.solve(&across(&net.nodes))?;
     let squares = 1.0 / (system.watts(&volts) * SHEET);
     writeln!(out, "{squares:.3} squares from the bottom to the top")?;
-    let (cell, watts) = hottest(net, &volts)?;
+    let (cell, watts) = hottest(&net, &volts)?;
     // Cell i of the net is the i-th leaf of the order.
     let mut order = vec![0; leaves];
     leaf_order(&table, head, &mut order)?;
@@ -99,9 +99,9 @@ fn meshed(outlines: Outlines, table: &mut [i64]) -> Result<(usize, Head), Refusa
 }
 
 /// The cell of the most power, and how many watts it has.
-fn hottest(net: Net, volts: &[f64]) -> Result<(usize, f64), Refusal> {
-    let mut watts = vec![0.0; net.sheets.len()];
-    power(net, volts, &mut watts)?;
+fn hottest(net: &Net, volts: &[f64]) -> Result<(usize, f64), Refusal> {
+    let mut watts = vec![0.0; net.cells.len()];
+    power(net.rows(), volts, &mut watts)?;
     let most = |a: (usize, f64), b: (usize, f64)| if b.1 > a.1 { b } else { a };
     Ok(watts.into_iter().enumerate().fold((0, 0.0), most))
 }

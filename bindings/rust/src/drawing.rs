@@ -3,16 +3,20 @@
 
 use crate::printed::Printed;
 use crate::sides::hanging;
-use crate::{Board, Mesh, Net, Rect, Refusal, TICK};
+use crate::{Board, Mesh, NetRows, Rect, Refusal, TICK};
 use std::collections::{BTreeMap, BTreeSet};
 use std::fmt::{self, Write};
 
 /// A leaf as it is drawn.
 #[derive(Clone, Copy, Debug, PartialEq)]
 pub struct Cell {
+    /// Its id in the table.
     pub id: usize,
+    /// The panel that it stands in.
     pub layer: i64,
+    /// What gives it its colour.
     pub level: u64,
+    /// In ticks.
     pub rect: Rect,
 }
 
@@ -71,7 +75,7 @@ impl Picture {
     /// # Errors
     ///
     /// [`Reason::BadTable`](crate::Reason) for a table that isn't well formed.
-    pub fn of_mesh(title: &str, mesh: &Mesh, net: Net) -> Result<Self, Refusal> {
+    pub fn of_mesh(title: &str, mesh: &Mesh, net: NetRows) -> Result<Self, Refusal> {
         let cell = |id: usize| Cell {
             id,
             layer: i64::from(mesh.polygons.layers[mesh.polygon(id)]),
@@ -80,8 +84,8 @@ impl Picture {
         };
         let nodes: Vec<Place> = net
             .nodes
-            .chunks_exact(4)
-            .map(|n| [n[0], n[2], n[3]])
+            .iter()
+            .map(|node| [i64::from(node.layer), node.x, node.y])
             .collect();
         Ok(Picture {
             title: title.to_string(),
@@ -106,7 +110,7 @@ impl Picture {
             crate::printed::belongs_to(printed, board)?;
             let mesh = Mesh::of_board(board).map_err(|why| why.to_string())?;
             let net = mesh.net().map_err(|why| why.to_string())?;
-            return Picture::of_mesh(title, &mesh, net.net()).map_err(|why| why.to_string());
+            return Picture::of_mesh(title, &mesh, net.rows()).map_err(|why| why.to_string());
         }
         let cell = |leaf: &crate::printed::Leaf| Cell {
             id: leaf.id,
@@ -118,7 +122,7 @@ impl Picture {
         let nodes: Vec<Place> = printed
             .nodes
             .iter()
-            .map(|node| [0, node[2], node[3]])
+            .map(|node| [0, node.x, node.y])
             .collect();
         let there: BTreeSet<Place> = nodes.iter().copied().collect();
         let hanging = cells
@@ -144,6 +148,7 @@ impl Picture {
         self
     }
 
+    /// The picture as a text that browsers show.
     pub fn svg(&self) -> String {
         let mut text = String::new();
         put(self, &mut text).expect("a string takes all text");

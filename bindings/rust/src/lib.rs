@@ -2,10 +2,11 @@
 //!
 //! Coordinates are whole ticks of 2^-38 m, so that a board lies within a quarter of a metre each way; [`Pitch`] takes
 //! millimetres there and back. Sheet resistance is in ohms a square, potential in volts, power in watts, conductance in
-//! siemens. Every call takes any input and answers `Ok`, or `Err` with a [`Refusal`]; a refused call changes
-//! nothing that it was lent. No call of the library allocates or keeps anything, so any number of threads may call at
-//! once; what is lent stands in the caller's rows. [`Mesh`], [`read`] and the two checks take rows from the heap.
-//! [`limits`] has the ranges, [`columns`] the places of numbers in a slot and in a node.
+//! siemens. Every call takes any input and answers `Ok`, or `Err` with a [`Refusal`]; a refused call changes nothing
+//! that it was lent. No call of the library allocates or keeps anything, so any number of threads may call at once;
+//! what is lent stands in the caller's rows. [`Mesh`], [`read`], [`network`] and the two checks take rows from the heap;
+//! [`network_with`], [`check_network_conforming_with`] and [`check_by_layer_with`] take lent ones. [`limits`] has the
+//! ranges, [`columns`] the places of numbers in a slot and of corners in a cell.
 //!
 //! **The net's conductances are the original's, bit for bit, and not the copper's at a change of level**, beside other
 //! copper of the layer and where two polygons of a component meet: see docs/CONDUCTANCES.md. [`solving`] shows
@@ -22,7 +23,7 @@
 //! bindings/library.sh leaves it, or from the folder that `LEAFMESH_LIBRARY` names.
 //!
 //! ```
-//! use leafmesh::{balance, build, network, refine, Head, NetRows, Outlines, Settings};
+//! use leafmesh::{balance, build, network, power, refine, Outlines, Settings};
 //!
 //! // One square of 8 by 8 ticks, in base cells of 8: one cell, split once.
 //! let outlines = Outlines {
@@ -39,15 +40,23 @@
 //! let (splits, head) = balance(&mut table, head)?;
 //! assert_eq!((splits, head.count), (0, 5));
 //!
-//! let mut rows = NetRows::for_leaves(4);
-//! let counts = network(&table, head, outlines, &mut rows)?;
-//! assert_eq!((counts.nodes, counts.edges, counts.cells), (9, 12, 4));
+//! let net = network(&table, head, outlines)?;
+//! assert_eq!((net.nodes.len(), net.edges.len(), net.cells.len()), (9, 12, 4));
+//!
+//! // One volt along x, over two cells of one ohm in line, twice.
+//! let volts: Vec<f64> = net.nodes.iter().map(|node| node.x as f64 / 8.0).collect();
+//! let mut watts = [0.0; 4];
+//! power(net.rows(), &volts, &mut watts)?;
+//! assert_eq!(watts, [0.25; 4]);
 //! # Ok::<(), leafmesh::Refusal>(())
 //! ```
+
+#![warn(missing_docs)]
 
 pub mod drawing;
 pub mod ffi;
 mod mesh;
+mod net;
 mod pitch;
 pub mod printed;
 mod refusal;
@@ -59,7 +68,8 @@ pub mod tool;
 mod unmeshed;
 pub mod vtk;
 
-pub use mesh::{Mesh, OwnedNet, Polygons};
+pub use mesh::{Mesh, Polygons};
+pub use net::{Cell, Counts, Edge, Net, NetRoom, NetRows, Node};
 pub use pitch::{Misfit, Pitch, Why};
 use refusal::{judged, judged_net, judged_read};
 pub use refusal::{Reason, Refusal};
@@ -84,33 +94,41 @@ pub mod limits;
 
 pub use limits::{COORDINATE, MAX_LEVEL, SLOTS};
 
-/// The places of numbers: in a slot of a table, in a node of a net (its row has four numbers a node), and the
-/// corners of a cell (four nodes a cell).
+/// The places of numbers in a slot of a table, and of the corners in a cell of a net.
 pub mod columns {
+    /// The west side, in ticks.
     pub const X0: usize = 0;
+    /// The south side.
     pub const Y0: usize = 1;
+    /// The east side.
     pub const X1: usize = 2;
+    /// The north side.
     pub const Y1: usize = 3;
+    /// 0 of a base cell, one more of each quarter.
     pub const LEVEL: usize = 4;
+    /// The id of the cell that it is a quarter of, or [`NO_CELL`](crate::NO_CELL).
     pub const PARENT: usize = 5;
+    /// The id of the first of its four quarters, SW, SE, NW, NE, or [`NO_CELL`](crate::NO_CELL) of a leaf.
     pub const FIRST_CHILD: usize = 6;
+    /// The index of its polygon.
     pub const POLYGON: usize = 7;
 
-    pub const NODE_LAYER: usize = 0;
-    pub const NODE_COMPONENT: usize = 1;
-    pub const NODE_X: usize = 2;
-    pub const NODE_Y: usize = 3;
-
+    /// South-west.
     pub const SW: usize = 0;
+    /// South-east.
     pub const SE: usize = 1;
+    /// North-east.
     pub const NE: usize = 2;
+    /// North-west.
     pub const NW: usize = 3;
 }
 
 /// What a table has beside its row: how many cells, and how deep they may be split.
 #[derive(Clone, Copy, Debug, PartialEq, Eq)]
 pub struct Head {
+    /// How many cells, split ones among them.
     pub count: usize,
+    /// The deepest level, 0 to 12.
     pub max_level: u64,
 }
 
@@ -118,8 +136,11 @@ pub struct Head {
 /// wanted of a base cell in ticks.
 #[derive(Clone, Copy, Debug, PartialEq, Eq)]
 pub struct Settings {
+    /// The deepest level, 0 to 12.
     pub max_level: u64,
+    /// The most base cells that a strip has each way, 1 to 256.
     pub cap: u64,
+    /// The size wanted of a base cell, in ticks.
     pub target: u64,
 }
 
@@ -127,84 +148,26 @@ pub struct Settings {
 /// points, one polygon after another. [`Polygons`] holds such rows.
 #[derive(Clone, Copy, Debug)]
 pub struct Outlines<'a> {
+    /// The layer of each polygon.
     pub layers: &'a [u16],
+    /// The component of each.
     pub components: &'a [u32],
+    /// Ohms a square of each.
     pub sheets: &'a [f64],
+    /// How many points each has.
     pub counts: &'a [u64],
+    /// The points of all.
     pub points: &'a [Point],
-}
-
-/// How many nodes, edges and cells a net has.
-#[derive(Clone, Copy, Debug, PartialEq, Eq)]
-pub struct Counts {
-    pub nodes: usize,
-    pub edges: usize,
-    pub cells: usize,
-}
-
-/// The rows of a net, and the work room for making one.
-#[derive(Clone, Debug, PartialEq)]
-pub struct NetRows {
-    /// Layer, component, x and y of each node.
-    pub nodes: Vec<i64>,
-    /// Two nodes an edge.
-    pub ends: Vec<u64>,
-    /// In siemens; not the copper's everywhere (docs/CONDUCTANCES.md).
-    pub conductances: Vec<f64>,
-    /// The nodes SW, SE, NE, NW of each cell. Cell i is [`leaf_order`]'s i-th leaf.
-    pub corners: Vec<u64>,
-    /// Ohms a square of each cell.
-    pub sheets: Vec<f64>,
-    pub work: Vec<u64>,
-}
-
-impl NetRows {
-    /// Exactly the room that a net of so many leaves needs.
-    pub fn for_leaves(leaves: usize) -> Self {
-        NetRows {
-            nodes: vec![0; 4 * limits::NODES_A_LEAF * leaves],
-            ends: vec![0; 2 * limits::EDGES_A_LEAF * leaves],
-            conductances: vec![0.0; limits::EDGES_A_LEAF * leaves],
-            corners: vec![0; 4 * limits::CELLS_A_LEAF * leaves],
-            sheets: vec![0.0; limits::CELLS_A_LEAF * leaves],
-            work: vec![0; limits::WORK_A_LEAF * leaves],
-        }
-    }
-
-    /// The net in the front of the rows.
-    pub fn net(&self, counts: Counts) -> Net<'_> {
-        Net {
-            nodes: &self.nodes[..4 * counts.nodes],
-            ends: &self.ends[..2 * counts.edges],
-            conductances: &self.conductances[..counts.edges],
-            corners: &self.corners[..4 * counts.cells],
-            sheets: &self.sheets[..counts.cells],
-        }
-    }
-}
-
-/// A net by its rows, as in [`NetRows`].
-#[derive(Clone, Copy, Debug)]
-pub struct Net<'a> {
-    pub nodes: &'a [i64],
-    pub ends: &'a [u64],
-    pub conductances: &'a [f64],
-    pub corners: &'a [u64],
-    pub sheets: &'a [f64],
-}
-
-impl Net<'_> {
-    /// Enough work room for a check of this net.
-    fn check_work(&self) -> Vec<u64> {
-        vec![0; limits::check_work(self.nodes.len() / 4, self.conductances.len())]
-    }
 }
 
 /// A node at the middle of a leaf edge that is not joined to both its ends.
 #[derive(Clone, Copy, Debug, PartialEq, Eq)]
 pub struct Hanging {
+    /// The node.
     pub node: usize,
+    /// The first end of the edge, walking anticlockwise round the leaf.
     pub from: usize,
+    /// The other end.
     pub to: usize,
 }
 
@@ -386,18 +349,43 @@ fn grown(splits: u64, head: Head) -> (usize, Head) {
     )
 }
 
-/// The net of a table's leaves into the front of the rows; the work room is zero afterwards. Of the
-/// outlines layers, components and sheets are read. Cell i is [`leaf_order`]'s i-th leaf.
+/// The net of a table's leaves, in rows from the heap. Of the outlines layers, components and sheets are read. Cell i
+/// is [`leaf_order`]'s i-th leaf.
 ///
 /// # Errors
 ///
-/// [`Reason::BadTable`], [`Reason::OutOfRange`] for a sheet resistance or more than 256 polygons,
-/// [`Reason::NoRoom`].
-pub fn network(
+/// [`Reason::BadTable`] for polygons' rows of unequal length too, [`Reason::OutOfRange`] for a sheet resistance or more
+/// than 256 polygons.
+pub fn network(table: &[i64], head: Head, outlines: Outlines) -> Result<Net, Refusal> {
+    let leaves = leaf_count(table, head)?;
+    let mut net = Net {
+        nodes: vec![Node::default(); limits::NODES_A_LEAF * leaves],
+        edges: vec![Edge::default(); limits::EDGES_A_LEAF * leaves],
+        cells: vec![Cell::default(); limits::CELLS_A_LEAF * leaves],
+    };
+    let room = NetRoom {
+        nodes: &mut net.nodes,
+        edges: &mut net.edges,
+        cells: &mut net.cells,
+        work: &mut vec![0; limits::WORK_A_LEAF * leaves],
+    };
+    let counts = network_with(table, head, outlines, room)?;
+    net.nodes.truncate(counts.nodes);
+    net.edges.truncate(counts.edges);
+    net.cells.truncate(counts.cells);
+    Ok(net)
+}
+
+/// The same into the front of lent rows; the work room is zero afterwards.
+///
+/// # Errors
+///
+/// Those of [`network`], then [`Reason::NoRoom`].
+pub fn network_with(
     table: &[i64],
     head: Head,
     outlines: Outlines,
-    rows: &mut NetRows,
+    room: NetRoom,
 ) -> Result<Counts, Refusal> {
     let outcome = unsafe {
         ffi::leafmesh_network(
@@ -411,18 +399,14 @@ pub fn network(
             outlines.components.len(),
             outlines.sheets.as_ptr(),
             outlines.sheets.len(),
-            rows.nodes.as_mut_ptr(),
-            rows.nodes.len(),
-            rows.ends.as_mut_ptr(),
-            rows.ends.len(),
-            rows.conductances.as_mut_ptr(),
-            rows.conductances.len(),
-            rows.corners.as_mut_ptr(),
-            rows.corners.len(),
-            rows.sheets.as_mut_ptr(),
-            rows.sheets.len(),
-            rows.work.as_mut_ptr(),
-            rows.work.len(),
+            room.nodes.as_mut_ptr(),
+            room.nodes.len(),
+            room.edges.as_mut_ptr(),
+            room.edges.len(),
+            room.cells.as_mut_ptr(),
+            room.cells.len(),
+            room.work.as_mut_ptr(),
+            room.work.len(),
         )
     };
     judged_net(outcome)
@@ -436,19 +420,15 @@ pub fn network(
 ///
 /// [`Reason::BadTable`] for a bad net, [`Reason::OutOfRange`] for potentials that aren't as many as the nodes or
 /// past 2^20 V, [`Reason::NoRoom`].
-pub fn power(net: Net, potentials: &[f64], answers: &mut [f64]) -> Result<(), Refusal> {
+pub fn power(net: NetRows, potentials: &[f64], answers: &mut [f64]) -> Result<(), Refusal> {
     let outcome = unsafe {
         ffi::leafmesh_power(
             net.nodes.as_ptr(),
             net.nodes.len(),
-            net.ends.as_ptr(),
-            net.ends.len(),
-            net.conductances.as_ptr(),
-            net.conductances.len(),
-            net.corners.as_ptr(),
-            net.corners.len(),
-            net.sheets.as_ptr(),
-            net.sheets.len(),
+            net.edges.as_ptr(),
+            net.edges.len(),
+            net.cells.as_ptr(),
+            net.cells.len(),
             potentials.as_ptr(),
             potentials.len(),
             answers.as_mut_ptr(),
@@ -467,7 +447,7 @@ pub fn power(net: Net, potentials: &[f64], answers: &mut [f64]) -> Result<(), Re
 pub fn check_network_conforming(
     table: &[i64],
     head: Head,
-    net: Net,
+    net: NetRows,
 ) -> Result<Option<Hanging>, Refusal> {
     check_network_conforming_with(table, head, net, &mut net.check_work())
 }
@@ -482,7 +462,7 @@ pub fn check_network_conforming(
 pub fn check_network_conforming_with(
     table: &[i64],
     head: Head,
-    net: Net,
+    net: NetRows,
     work: &mut [u64],
 ) -> Result<Option<Hanging>, Refusal> {
     let outcome = unsafe {
@@ -493,14 +473,10 @@ pub fn check_network_conforming_with(
             head.max_level,
             net.nodes.as_ptr(),
             net.nodes.len(),
-            net.ends.as_ptr(),
-            net.ends.len(),
-            net.conductances.as_ptr(),
-            net.conductances.len(),
-            net.corners.as_ptr(),
-            net.corners.len(),
-            net.sheets.as_ptr(),
-            net.sheets.len(),
+            net.edges.as_ptr(),
+            net.edges.len(),
+            net.cells.as_ptr(),
+            net.cells.len(),
             work.as_mut_ptr(),
             work.len(),
         )
@@ -516,7 +492,7 @@ pub fn check_network_conforming_with(
 pub fn check_by_layer(
     table: &[i64],
     head: Head,
-    net: Net,
+    net: NetRows,
     outlines: Outlines,
 ) -> Result<Option<Hanging>, Refusal> {
     check_by_layer_with(table, head, net, outlines, &mut net.check_work())
@@ -530,7 +506,7 @@ pub fn check_by_layer(
 pub fn check_by_layer_with(
     table: &[i64],
     head: Head,
-    net: Net,
+    net: NetRows,
     outlines: Outlines,
     work: &mut [u64],
 ) -> Result<Option<Hanging>, Refusal> {
@@ -542,14 +518,10 @@ pub fn check_by_layer_with(
             head.max_level,
             net.nodes.as_ptr(),
             net.nodes.len(),
-            net.ends.as_ptr(),
-            net.ends.len(),
-            net.conductances.as_ptr(),
-            net.conductances.len(),
-            net.corners.as_ptr(),
-            net.corners.len(),
-            net.sheets.as_ptr(),
-            net.sheets.len(),
+            net.edges.as_ptr(),
+            net.edges.len(),
+            net.cells.as_ptr(),
+            net.cells.len(),
             outlines.layers.as_ptr(),
             outlines.layers.len(),
             outlines.components.as_ptr(),
@@ -566,18 +538,24 @@ pub fn check_by_layer_with(
 pub struct Board {
     /// 255 in a record is read as the default, 3.
     pub max_level: u64,
+    /// As in [`Settings`].
     pub cap: u64,
+    /// As in [`Settings`], in ticks.
     pub target: u64,
     /// Layer and cell size.
     pub layers: Vec<[u64; 2]>,
     /// Layer, component and point count.
     pub polygons: Vec<[u64; 3]>,
+    /// Ohms a square of each polygon.
     pub sheets: Vec<f64>,
+    /// The points of all polygons, one polygon after another.
     pub points: Vec<Point>,
+    /// The ids of the cells to be split, in order.
     pub splits: Vec<u64>,
 }
 
 impl Board {
+    /// What [`build`] takes.
     pub fn settings(&self) -> Settings {
         Settings {
             max_level: self.max_level,

@@ -15,6 +15,7 @@ pub const CELL: u64 = 1 << 36;
 /// Layers with a cell size of their own.
 pub const LAYER_ENTRIES: usize = 64;
 
+/// Polygons of a board.
 pub const POLYGONS: usize = 256;
 
 /// Points of one polygon.
@@ -35,13 +36,13 @@ pub const SHEET_HIGH: f64 = 1_099_511_627_776.0;
 /// Potentials lie from minus this to this, in volts.
 pub const POTENTIAL: f64 = 1_048_576.0;
 
-/// Rows of nodes that a net may need for each leaf.
+/// Nodes that a net may need for each leaf.
 pub const NODES_A_LEAF: usize = 4;
 
-/// Rows of edges that a net may need for each leaf.
+/// Edges that a net may need for each leaf.
 pub const EDGES_A_LEAF: usize = 8;
 
-/// Rows of cells that a net needs for each leaf.
+/// Cells that a net needs for each leaf.
 pub const CELLS_A_LEAF: usize = 1;
 
 /// Work numbers that [`network`](crate::network) needs for each leaf.

@@ -1,18 +1,19 @@
 //! A board's mesh and net with rooms of their own: the calls of the crate's root, one after another.
 
-use crate::columns::{FIRST_CHILD, LEVEL, NODE_X, NODE_Y, POLYGON, X0, Y1};
+use crate::columns::{FIRST_CHILD, LEVEL, POLYGON, X0, Y1};
 use crate::sides::{loose, Inside};
 use crate::unmeshed::{refused, Loose, TooLong, Unmeshed};
 use crate::{
-    balance, build, check_by_layer, leaf_count, leaf_order, network, refine, Board, Counts,
-    Hanging, Head, Net, NetRows, Outlines, Point, Reason, Rect, Refusal, Settings, NO_CELL, SLOT,
-    SLOTS,
+    balance, build, check_by_layer, leaf_count, leaf_order, network, refine, Board, Hanging, Head,
+    Net, NetRows, Outlines, Point, Reason, Rect, Refusal, Settings, NO_CELL, SLOT, SLOTS,
 };
 
 /// Polygons by rows, owned: what [`build`] and [`network`] take as [`Outlines`].
 #[derive(Clone, Debug, Default, PartialEq)]
 pub struct Polygons {
+    /// The layer of each polygon.
     pub layers: Vec<u16>,
+    /// The component of each.
     pub components: Vec<u32>,
     /// Ohms a square.
     pub sheets: Vec<f64>,
@@ -23,6 +24,7 @@ pub struct Polygons {
 }
 
 impl Polygons {
+    /// The rows as the calls take them.
     pub fn outlines(&self) -> Outlines<'_> {
         Outlines {
             layers: &self.layers,
@@ -71,11 +73,15 @@ impl Board {
 /// A table in the largest room, and the board that it was made of.
 #[derive(Clone, Debug, PartialEq)]
 pub struct Mesh {
+    /// Eight numbers a slot; [`columns`](crate::columns) names them.
     pub table: Vec<i64>,
+    /// How many of the slots are cells, and the deepest level.
     pub head: Head,
+    /// What the board was cut by.
     pub settings: Settings,
     /// Layers with a cell size of their own.
     pub list: Vec<[u64; 2]>,
+    /// What it was cut from.
     pub polygons: Polygons,
 }
 
@@ -165,11 +171,11 @@ impl Mesh {
     ///
     /// Those of [`network`]; [`Unmeshed::TooLong`] or [`Unmeshed::Loose`] where the net would be wrong, since
     /// [`sides::loose`](crate::sides::loose) finds a node inside a leaf's side.
-    pub fn net(&self) -> Result<OwnedNet, Unmeshed> {
-        let made = self.unjudged_net()?;
-        match loose(made.net()) {
-            Some(inside) => Err(self.why_loose(made.net(), inside)?),
-            None => Ok(made),
+    pub fn net(&self) -> Result<Net, Unmeshed> {
+        let net = self.unjudged_net()?;
+        match loose(net.rows()) {
+            Some(inside) => Err(self.why_loose(&net, inside)?),
+            None => Ok(net),
         }
     }
 
@@ -178,10 +184,8 @@ impl Mesh {
     /// # Errors
     ///
     /// Those of [`network`].
-    pub fn unjudged_net(&self) -> Result<OwnedNet, Refusal> {
-        let mut rows = NetRows::for_leaves(leaf_count(&self.table, self.head)?);
-        let counts = network(&self.table, self.head, self.polygons.outlines(), &mut rows)?;
-        Ok(OwnedNet { rows, counts })
+    pub fn unjudged_net(&self) -> Result<Net, Refusal> {
+        network(&self.table, self.head, self.polygons.outlines())
     }
 
     /// The first node at the middle of a leaf's side that lacks a half, among nodes of the leaf's own layer and
@@ -190,12 +194,12 @@ impl Mesh {
     /// # Errors
     ///
     /// Those of [`check_by_layer`].
-    pub fn check(&self, net: Net) -> Result<Option<Hanging>, Refusal> {
+    pub fn check(&self, net: NetRows) -> Result<Option<Hanging>, Refusal> {
         check_by_layer(&self.table, self.head, net, self.polygons.outlines())
     }
 
     /// Why a node stands inside a side: a strip of the same copper that is too long, or the place itself.
-    fn why_loose(&self, net: Net, inside: Inside) -> Result<Unmeshed, Refusal> {
+    fn why_loose(&self, net: &Net, inside: Inside) -> Result<Unmeshed, Refusal> {
         let leaf = self.order()?[inside.cell];
         let polygon = self.polygon(leaf);
         let copper = |polygon: usize| {
@@ -209,10 +213,7 @@ impl Mesh {
         if let Some(long) = TooLong::first(self.settings, &self.list, outlines, same) {
             return Ok(Unmeshed::TooLong(long));
         }
-        let place = |node: usize| {
-            let node = &net.nodes[4 * node..][..4];
-            [node[NODE_X], node[NODE_Y]]
-        };
+        let place = |node: usize| [net.nodes[node].x, net.nodes[node].y];
         Ok(Unmeshed::Loose(Loose {
             polygon,
             leaf,
@@ -230,33 +231,24 @@ impl Mesh {
         &self.table[SLOT * id..SLOT * (id + 1)]
     }
 
+    /// Where a cell lies, in ticks.
     pub fn rect(&self, id: usize) -> Rect {
         let slot = &self.slot(id)[X0..=Y1];
         [slot[0], slot[1], slot[2], slot[3]]
     }
 
+    /// The level of a cell: 0 of a base cell.
     pub fn level(&self, id: usize) -> u64 {
         self.slot(id)[LEVEL] as u64
     }
 
+    /// The index of its polygon.
     pub fn polygon(&self, id: usize) -> usize {
         self.slot(id)[POLYGON] as usize
     }
 
+    /// Whether it isn't split.
     pub fn is_leaf(&self, id: usize) -> bool {
         self.slot(id)[FIRST_CHILD] == NO_CELL
-    }
-}
-
-/// A net with the rows that hold it.
-#[derive(Clone, Debug, PartialEq)]
-pub struct OwnedNet {
-    pub rows: NetRows,
-    pub counts: Counts,
-}
-
-impl OwnedNet {
-    pub fn net(&self) -> Net<'_> {
-        self.rows.net(self.counts)
     }
 }

@@ -40,7 +40,9 @@ pub struct Pitch {
 pub struct Misfit {
     /// In millimetres, as all lengths here.
     pub given: f64,
+    /// The nearest length that fits.
     pub nearest: f64,
+    /// What it doesn't fit.
     pub why: Why,
 }
 
@@ -49,11 +51,17 @@ pub struct Misfit {
 #[non_exhaustive]
 pub enum Why {
     /// A pitch below 2^(max_level+1) ticks, above 2^36 ticks, or no number.
-    NoPitch { max_level: u64 },
+    NoPitch {
+        /// The deepest level that was asked for.
+        max_level: u64,
+    },
     /// Past the 2^36 ticks that a coordinate may have.
     TooFar,
     /// No multiple of the pitch.
-    OffPitch { pitch: f64 },
+    OffPitch {
+        /// The pitch, in millimetres.
+        pitch: f64,
+    },
 }
 
 impl Pitch {

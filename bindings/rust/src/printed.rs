@@ -1,29 +1,34 @@
 //! What leafnet prints, read back: every line, and that all of them are there.
 
 use crate::sides::{inside, Inside};
-use crate::{Board, Mesh, Net, OwnedNet, Unmeshed, COORDINATE, MAX_LEVEL};
+use crate::{
+    Board, Cell, Edge, Mesh, Net, NetRows, Node, Point, Rect, Unmeshed, COORDINATE, MAX_LEVEL,
+};
 use std::collections::{BTreeMap, BTreeSet};
 use std::fmt::Write;
 
 /// A leaf line: id, polygon, level, x0, y0, x1, y1.
 #[derive(Clone, Copy, Debug, PartialEq)]
 pub struct Leaf {
+    /// Its id in the table.
     pub id: usize,
+    /// The index of its polygon.
     pub polygon: usize,
+    /// 0 of a base cell.
     pub level: u64,
-    pub rect: [i64; 4],
+    /// In ticks.
+    pub rect: Rect,
 }
-
-/// Layer, component, x and y of a node.
-pub type Node = [i64; 4];
 
 /// What leafnet printed for an accepted board. Every edge names nodes that are there.
 #[derive(Clone, Debug, Default, PartialEq)]
 pub struct Printed {
+    /// In [`leaf_order`](crate::leaf_order).
     pub leaves: Vec<Leaf>,
+    /// By their numbers.
     pub nodes: Vec<Node>,
-    pub edges: Vec<[usize; 2]>,
-    pub conductances: Vec<f64>,
+    /// In the order of the net.
+    pub edges: Vec<Edge>,
 }
 
 /// Reads leafnet's output.
@@ -55,12 +60,8 @@ pub fn read(text: &str) -> Result<Printed, String> {
             ));
         }
     }
-    match printed
-        .edges
-        .iter()
-        .flatten()
-        .find(|&&end| end >= printed.nodes.len())
-    {
+    let mut ends = printed.edges.iter().flat_map(|edge| [edge.from, edge.to]);
+    match ends.find(|&end| end >= printed.nodes.len()) {
         Some(end) => Err(format!(
             "not leafnet's text: an edge names node {end}, which isn't there"
         )),
@@ -103,17 +104,23 @@ fn take_line(printed: &mut Printed, line: &str) -> Option<()> {
         }
         "node" => {
             let [number, layer, component, x, y] = numbers(words)?;
-            let sound = [x, y].iter().all(in_range) && layer >= 0 && component >= 0;
+            let sound = [x, y].iter().all(in_range);
             (sound && usize::try_from(number) == Ok(printed.nodes.len())).then_some(())?;
-            printed.nodes.push([layer, component, x, y]);
+            printed.nodes.push(Node {
+                layer: u16::try_from(layer).ok()?,
+                component: u32::try_from(component).ok()?,
+                x,
+                y,
+            });
         }
         "edge" => {
-            let [a, b] = numbers(words.by_ref().take(2))?;
-            printed
-                .edges
-                .push([usize::try_from(a).ok()?, usize::try_from(b).ok()?]);
+            let [from, to] = numbers(words.by_ref().take(2))?;
             let bits = u64::from_str_radix(words.next()?, 16).ok()?;
-            printed.conductances.push(f64::from_bits(bits));
+            printed.edges.push(Edge {
+                from: usize::try_from(from).ok()?,
+                to: usize::try_from(to).ok()?,
+                conductance: f64::from_bits(bits),
+            });
             words.next().is_none().then_some(())?;
         }
         _ => return None,
@@ -137,8 +144,7 @@ fn numbers<'a, const N: usize>(words: impl Iterator<Item = &'a str>) -> Option<[
 /// Those of [`Mesh::of_board`].
 pub fn show(board: &Board) -> Result<String, Unmeshed> {
     let mesh = Mesh::unjudged(board)?;
-    let made = mesh.net()?;
-    show_mesh(board, &mesh, &made)
+    show_mesh(board, &mesh, &mesh.net()?)
 }
 
 /// The same of a mesh and a net that were made of the board already.
@@ -146,7 +152,7 @@ pub fn show(board: &Board) -> Result<String, Unmeshed> {
 /// # Errors
 ///
 /// Those of [`Mesh::new`] and [`Mesh::order`].
-pub fn show_mesh(board: &Board, mesh: &Mesh, made: &OwnedNet) -> Result<String, Unmeshed> {
+pub fn show_mesh(board: &Board, mesh: &Mesh, net: &Net) -> Result<String, Unmeshed> {
     let order = mesh.order()?;
     let before = Mesh::new(board.settings(), &board.layers, board.polygons()?)?
         .head
@@ -156,23 +162,25 @@ pub fn show_mesh(board: &Board, mesh: &Mesh, made: &OwnedNet) -> Result<String, 
         "cells {} leaves {} nodes {} edges {} splits {splits}\n",
         mesh.head.count,
         order.len(),
-        made.counts.nodes,
-        made.counts.edges
+        net.nodes.len(),
+        net.edges.len()
     );
-    let net = made.net();
     for id in order {
         let ([x0, y0, x1, y1], level, polygon) = (mesh.rect(id), mesh.level(id), mesh.polygon(id));
         let _ = writeln!(text, "leaf {id} {polygon} {level} {x0} {y0} {x1} {y1}");
     }
-    for (number, node) in net.nodes.chunks_exact(4).enumerate() {
-        let _ = writeln!(
-            text,
-            "node {number} {} {} {} {}",
-            node[0], node[1], node[2], node[3]
-        );
+    for (number, node) in net.nodes.iter().enumerate() {
+        let Node {
+            layer,
+            component,
+            x,
+            y,
+        } = node;
+        let _ = writeln!(text, "node {number} {layer} {component} {x} {y}");
     }
-    for (ends, g) in net.ends.chunks_exact(2).zip(net.conductances) {
-        let _ = writeln!(text, "edge {} {} {:016x}", ends[0], ends[1], g.to_bits());
+    for edge in &net.edges {
+        let bits = edge.conductance.to_bits();
+        let _ = writeln!(text, "edge {} {} {bits:016x}", edge.from, edge.to);
     }
     Ok(text)
 }
@@ -181,39 +189,54 @@ pub fn show_mesh(board: &Board, mesh: &Mesh, made: &OwnedNet) -> Result<String, 
 /// of what layer and component a polygon is; it is taken to be one that has all corners of its leaves, and where
 /// several have, each must have such a node.
 pub fn loose(printed: &Printed) -> Option<(usize, Inside)> {
-    let nodes: Vec<i64> = printed.nodes.iter().flatten().copied().collect();
-    let mut numbers = BTreeMap::new();
-    for (number, &node) in printed.nodes.iter().enumerate() {
-        numbers.insert(node, number as u64);
-    }
-    let coppers: BTreeSet<[i64; 2]> = printed
+    let numbers: BTreeMap<Node, usize> = printed
         .nodes
         .iter()
-        .map(|node| [node[0], node[1]])
+        .enumerate()
+        .map(|(number, &node)| (node, number))
+        .collect();
+    let coppers: BTreeSet<(u16, u32)> = printed
+        .nodes
+        .iter()
+        .map(|node| (node.layer, node.component))
         .collect();
     let mut polygons: BTreeMap<usize, Vec<&Leaf>> = BTreeMap::new();
     for leaf in &printed.leaves {
         polygons.entry(leaf.polygon).or_default().push(leaf);
     }
     for leaves in polygons.values() {
-        let corners_in = |&[layer, component]: &[i64; 2]| -> Option<Vec<u64>> {
-            let places = leaves.iter().flat_map(|leaf| corners(leaf.rect));
-            let number = |[x, y]: [i64; 2]| numbers.get(&[layer, component, x, y]).copied();
-            places.map(number).collect()
+        let cell_in = |rect: Rect, layer: u16, component: u32| -> Option<Cell> {
+            let mut corners = [0; 4];
+            for (corner, [x, y]) in corners.iter_mut().zip(corners_of(rect)) {
+                *corner = *numbers.get(&Node {
+                    layer,
+                    component,
+                    x,
+                    y,
+                })?;
+            }
+            Some(Cell {
+                corners,
+                sheet: 1.0,
+            })
         };
-        let first_loose = |corners: Vec<u64>| {
-            let net = Net {
-                nodes: &nodes,
-                ends: &[],
-                conductances: &[],
-                corners: &corners,
-                sheets: &vec![1.0; leaves.len()],
+        let cells_in = |&(layer, component): &(u16, u32)| -> Option<Vec<Cell>> {
+            leaves
+                .iter()
+                .map(|leaf| cell_in(leaf.rect, layer, component))
+                .collect()
+        };
+        let first_loose = |cells: Vec<Cell>| {
+            let net = NetRows {
+                nodes: &printed.nodes,
+                edges: &[],
+                cells: &cells,
             };
             inside(net).into_iter().find(|one| !one.middle)
         };
         let found: Option<Vec<Inside>> = coppers
             .iter()
-            .filter_map(corners_in)
+            .filter_map(cells_in)
             .map(first_loose)
             .collect();
         if let Some(&one) = found.as_ref().and_then(|all| all.first()) {
@@ -223,7 +246,8 @@ pub fn loose(printed: &Printed) -> Option<(usize, Inside)> {
     None
 }
 
-fn corners([x0, y0, x1, y1]: [i64; 4]) -> [[i64; 2]; 4] {
+/// SW, SE, NE, NW.
+fn corners_of([x0, y0, x1, y1]: Rect) -> [Point; 4] {
     [[x0, y0], [x1, y0], [x1, y1], [x0, y1]]
 }
 

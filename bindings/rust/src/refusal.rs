@@ -9,7 +9,9 @@ use std::fmt;
 /// values and rings, a cell's id for the cell that was asked for, and 0 otherwise.
 #[derive(Clone, Copy, Debug, PartialEq, Eq)]
 pub struct Refusal {
+    /// Why.
     pub reason: Reason,
+    /// Where, or 0.
     pub place: usize,
 }
 
@@ -17,15 +19,25 @@ pub struct Refusal {
 #[derive(Clone, Copy, Debug, PartialEq, Eq, PartialOrd, Ord)]
 #[non_exhaustive]
 pub enum Reason {
+    /// 1: the record is not of version 1.
     WrongVersion,
+    /// 2: a field of a record is cut short, a length is wrong, or bytes are left over.
     WrongLength,
+    /// 3: a value is out of range.
     OutOfRange,
+    /// 4: neighbouring points of a ring differ in both x and y.
     Slanted,
+    /// 5: a base cell's side is no multiple of 2^(max_level+1) ticks.
     UnevenCell,
+    /// 6: a lent row is too short.
     NoRoom,
+    /// 7: a bad table or net, or polygons' rows that don't fit together.
     BadTable,
+    /// 8: there is no cell with this id.
     NoSuchCell,
+    /// 9: the cell is split already.
     AlreadySplit,
+    /// 10: the cell is at the finest level.
     FinestLevel,
     /// A number that this crate doesn't know.
     Other(u64),
@@ -50,7 +62,7 @@ const KNOWN: [(Reason, &str); 10] = [
     (Reason::NoRoom, "a lent row is too short"),
     (
         Reason::BadTable,
-        "the table or net is not well formed, or rows do not fit together",
+        "the table or net is not well formed, or rows of polygons do not fit together",
     ),
     (Reason::NoSuchCell, "there is no cell with this id"),
     (Reason::AlreadySplit, "the cell is split already"),
@@ -74,6 +86,7 @@ impl Reason {
         }
     }
 
+    /// What is wrong, in words, without the place.
     pub fn words(self) -> &'static str {
         let known = KNOWN.iter().find(|entry| entry.0 == self);
         known.map_or("a refusal of a later version", |entry| entry.1)

@@ -1,12 +1,14 @@
 //! Nodes inside the sides of a net's cells: those that hang, and those that don't belong there.
 
-use crate::Net;
+use crate::{NetRows, Node};
 use std::collections::BTreeMap;
 
 /// A node of a cell's own layer and component that stands inside one of its sides and is no end of it.
 #[derive(Clone, Copy, Debug, PartialEq, Eq)]
 pub struct Inside {
+    /// The node.
     pub node: usize,
+    /// The cell that it stands in a side of.
     pub cell: usize,
     /// The side's ends, anticlockwise round the cell.
     pub ends: [usize; 2],
@@ -15,50 +17,64 @@ pub struct Inside {
     pub middle: bool,
 }
 
-/// Layer, component, the coordinate that a row or column has in common, and the other one.
-type Lines = BTreeMap<[i64; 4], usize>;
+/// Where a node stands on a row or column: layer, component, the coordinate that the line has in common, and the other
+/// one.
+type OnLine = (u16, u32, i64, i64);
+
+fn on_row(node: &Node) -> OnLine {
+    (node.layer, node.component, node.y, node.x)
+}
+
+fn on_column(node: &Node) -> OnLine {
+    (node.layer, node.component, node.x, node.y)
+}
+
+/// Nodes along lines. A later node at the same place takes the earlier one's.
+struct Lines {
+    place: fn(&Node) -> OnLine,
+    nodes: BTreeMap<OnLine, usize>,
+}
+
+impl Lines {
+    fn of(net: NetRows, place: fn(&Node) -> OnLine) -> Self {
+        let nodes = net.nodes.iter().enumerate();
+        Lines {
+            place,
+            nodes: nodes.map(|(number, node)| (place(node), number)).collect(),
+        }
+    }
+
+    /// The nodes strictly between two ends of a line, rising, and whether each is in the middle.
+    fn between(&self, ends: [&Node; 2]) -> impl Iterator<Item = (usize, bool)> + '_ {
+        let [from, to] = ends.map(self.place);
+        let (low, high) = (from.min(to), from.max(to));
+        let past = (low.0, low.1, low.2, low.3 + 1);
+        let nodes = self.nodes.range(past..high);
+        nodes.map(move |(at, &node)| (node, at.3 - low.3 == high.3 - at.3))
+    }
+}
 
 /// Every node inside a side of a cell, by cell, then south, east, north, west, then rising.
-pub fn inside(net: Net) -> Vec<Inside> {
-    let (mut rows, mut columns) = (Lines::new(), Lines::new());
-    for (number, node) in net.nodes.chunks_exact(4).enumerate() {
-        rows.insert([node[0], node[1], node[3], node[2]], number);
-        columns.insert([node[0], node[1], node[2], node[3]], number);
-    }
+pub fn inside(net: NetRows) -> Vec<Inside> {
+    let lines = [Lines::of(net, on_row), Lines::of(net, on_column)];
     let mut found = Vec::new();
-    for (cell, corners) in net.corners.chunks_exact(4).enumerate() {
+    for (cell, corners) in net.cells.iter().map(|cell| cell.corners).enumerate() {
         for side in 0..4 {
-            let lines = if side % 2 == 0 { &rows } else { &columns };
-            let ends = [corners[side], corners[(side + 1) % 4]].map(|end| end as usize);
-            let [from, to] = ends.map(|end| key(net, end, side));
-            let (low, high) = (from.min(to), from.max(to));
-            let mut past = low;
-            past[3] += 1;
-            for (&[.., at], &node) in lines.range(past..high) {
-                let middle = at - low[3] == high[3] - at;
-                found.push(Inside {
-                    node,
-                    cell,
-                    ends,
-                    middle,
-                });
-            }
+            let ends = [corners[side], corners[(side + 1) % 4]];
+            let inside = lines[side % 2].between(ends.map(|end| &net.nodes[end]));
+            found.extend(inside.map(|(node, middle)| Inside {
+                node,
+                cell,
+                ends,
+                middle,
+            }));
         }
     }
     found
 }
 
-/// A node as a key of rows for sides south and north, of columns for the others.
-fn key(net: Net, number: usize, side: usize) -> [i64; 4] {
-    let node = &net.nodes[4 * number..][..4];
-    match side % 2 {
-        0 => [node[0], node[1], node[3], node[2]],
-        _ => [node[0], node[1], node[2], node[3]],
-    }
-}
-
 /// The numbers of the nodes at the middle of a cell's side, rising.
-pub fn hanging(net: Net) -> Vec<usize> {
+pub fn hanging(net: NetRows) -> Vec<usize> {
     let middles = inside(net).into_iter().filter(|one| one.middle);
     let mut found: Vec<usize> = middles.map(|one| one.node).collect();
     found.sort_unstable();
@@ -69,6 +85,6 @@ pub fn hanging(net: Net) -> Vec<usize> {
 /// The first node inside a side that isn't at its middle: none on a balanced board of one polygon whose coordinates are
 /// multiples of its base cell and whose strips are no longer than [`Settings::cap`](crate::Settings) base cells.
 /// [`Mesh::net`](crate::Mesh::net) refuses a net that has one.
-pub fn loose(net: Net) -> Option<Inside> {
+pub fn loose(net: NetRows) -> Option<Inside> {
     inside(net).into_iter().find(|one| !one.middle)
 }

@@ -3,11 +3,12 @@
 //!
 //! Two systems are made of the same net. [`System::of_net`] takes the net's conductances, which are the
 //! original's and not the copper's at a change of level (docs/CONDUCTANCES.md). [`System::of_cells`] takes
-//! the cells alone, `corners` and `sheets`, as bilinear elements, and ties a node at the middle of a cell's
+//! the cells alone as bilinear elements, and ties a node at the middle of a cell's
 //! side to the mean of the side's ends.
 
+use crate::columns::{NE, SW};
 use crate::sides::{inside, Inside};
-use crate::Net;
+use crate::{NetRows, Node};
 use std::collections::BTreeMap;
 use std::error::Error;
 use std::fmt;
@@ -48,6 +49,7 @@ impl Error for Unsolved {}
 /// A node that stands inside a cell's side and isn't held by its ends.
 #[derive(Clone, Copy, Debug, PartialEq, Eq)]
 pub struct NoFit {
+    /// The first such node.
     pub node: usize,
 }
 
@@ -63,12 +65,6 @@ impl fmt::Display for NoFit {
 }
 
 impl Error for NoFit {}
-
-/// x and y of a node, and its layer and component.
-fn node(net: Net, number: u64) -> [i64; 4] {
-    let row = &net.nodes[4 * number as usize..][..4];
-    [row[0], row[1], row[2], row[3]]
-}
 
 /// A bilinear element of w by h: the parts of the slopes along x and along y, corners SW, SE, NE, NW.
 fn element(w: f64, h: f64, sheet: f64) -> [[f64; 4]; 4] {
@@ -95,8 +91,8 @@ fn element(w: f64, h: f64, sheet: f64) -> [[f64; 4]; 4] {
 
 /// The free nodes that make up each node. In a balanced table of aligned bands the ends of a side with a node at its
 /// middle never hang themselves: the finer cells beside it would lie two levels below the next.
-fn parts_of(net: Net) -> Result<Vec<Parts>, NoFit> {
-    let mut parts: Vec<Parts> = (0..net.nodes.len() / 4).map(free).collect();
+fn parts_of(net: NetRows) -> Result<Vec<Parts>, NoFit> {
+    let mut parts: Vec<Parts> = (0..net.nodes.len()).map(free).collect();
     let all = inside(net);
     for one in &all {
         parts[one.node] = one.ends.iter().map(|&end| (end, 0.5)).collect();
@@ -147,13 +143,13 @@ impl System {
     }
 
     /// The net's own conductances; no node is tied.
-    pub fn of_net(net: Net) -> Self {
+    pub fn of_net(net: NetRows) -> Self {
         let mut all = Vec::new();
-        for (ends, &g) in net.ends.chunks_exact(2).zip(net.conductances) {
-            let (a, b) = (ends[0] as usize, ends[1] as usize);
+        for edge in net.edges {
+            let (a, b, g) = (edge.from, edge.to, edge.conductance);
             all.extend([(a, a, g), (b, b, g), (a, b, -g), (b, a, -g)]);
         }
-        System::of_entries((0..net.nodes.len() / 4).map(free).collect(), &all)
+        System::of_entries((0..net.nodes.len()).map(free).collect(), &all)
     }
 
     /// The cells as bilinear elements, hanging nodes tied.
@@ -162,14 +158,14 @@ impl System {
     ///
     /// [`NoFit`] where a node stands inside a cell's side and not at its middle: the table that the net was
     /// made of isn't balanced, or its coordinates are no multiples of the base cell.
-    pub fn of_cells(net: Net) -> Result<Self, NoFit> {
+    pub fn of_cells(net: NetRows) -> Result<Self, NoFit> {
         let mut all = Vec::new();
-        for (cell, &sheet) in net.corners.chunks_exact(4).zip(net.sheets) {
-            let ([_, _, x0, y0], [_, _, x1, y1]) = (node(net, cell[0]), node(net, cell[2]));
-            let matrix = element((x1 - x0) as f64, (y1 - y0) as f64, sheet);
+        for cell in net.cells {
+            let [low, high] = [SW, NE].map(|corner| net.nodes[cell.corners[corner]]);
+            let matrix = element((high.x - low.x) as f64, (high.y - low.y) as f64, cell.sheet);
             for (i, row) in matrix.iter().enumerate() {
                 for (j, &value) in row.iter().enumerate() {
-                    all.push((cell[i] as usize, cell[j] as usize, value));
+                    all.push((cell.corners[i], cell.corners[j], value));
                 }
             }
         }
@@ -256,19 +252,20 @@ fn add(to: &mut [f64], share: f64, what: &[f64]) {
 }
 
 /// 1 V along the top and 0 V along the bottom of each layer's components, the other nodes free.
-pub fn across(nodes: &[i64]) -> Vec<Option<f64>> {
-    let mut ends: BTreeMap<[i64; 2], [i64; 2]> = BTreeMap::new();
-    for node in nodes.chunks_exact(4) {
-        let [low, high] = ends.entry([node[0], node[1]]).or_insert([node[3]; 2]);
-        (*low, *high) = ((*low).min(node[3]), (*high).max(node[3]));
+pub fn across(nodes: &[Node]) -> Vec<Option<f64>> {
+    let copper = |node: &Node| (node.layer, node.component);
+    let mut ends = BTreeMap::new();
+    for node in nodes {
+        let (low, high) = ends.entry(copper(node)).or_insert((node.y, node.y));
+        (*low, *high) = ((*low).min(node.y), (*high).max(node.y));
     }
-    let held = |node: &[i64]| {
-        let [low, high] = ends[&[node[0], node[1]]];
-        match node[3] {
+    let held = |node: &Node| {
+        let (low, high) = ends[&copper(node)];
+        match node.y {
             y if y == low => Some(0.0),
             y if y == high => Some(1.0),
             _ => None,
         }
     };
-    nodes.chunks_exact(4).map(held).collect()
+    nodes.iter().map(held).collect()
 }

@@ -47,6 +47,7 @@ const DEFAULT_LEVEL: u64 = 3;
 pub struct Unclear {
     /// Counted from 1; 0 where no line is to blame.
     pub line: usize,
+    /// What is wrong.
     pub words: String,
 }
 
@@ -67,12 +68,19 @@ fn unclear<T>(line: usize, words: String) -> Result<T, Unclear> {
 pub struct Lines {
     /// The pitch of a text in millimetres.
     pub pitch: Option<Pitch>,
+    /// Of `level`.
     pub level: usize,
+    /// Of `cap`.
     pub cap: usize,
+    /// Of `target`, or of `pitch`.
     pub target: usize,
+    /// Of each layer with cells of its own size.
     pub layers: Vec<usize>,
+    /// Of each polygon.
     pub polygons: Vec<usize>,
+    /// Of each point.
     pub points: Vec<usize>,
+    /// Of each cell to be split.
     pub splits: Vec<usize>,
 }
 

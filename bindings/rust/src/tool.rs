@@ -2,7 +2,7 @@
 //! and ends with 1; an output that was closed before the start looks like an empty file to it.
 
 use crate::text::{self, Lines};
-use crate::{read, Board, Mesh, OwnedNet, Unmeshed};
+use crate::{read, Board, Mesh, Net, Unmeshed};
 use std::fs;
 use std::io::{self, Read, Write};
 use std::process::ExitCode;
@@ -79,7 +79,7 @@ impl Given {
     }
 
     /// Its mesh and its net, or why there is none, with the line of a text.
-    pub fn mesh(&self) -> Result<(Mesh, OwnedNet), String> {
+    pub fn mesh(&self) -> Result<(Mesh, Net), String> {
         let mesh = Mesh::unjudged(&self.board).map_err(|why| self.blame(&why))?;
         let net = mesh.net().map_err(|why| self.blame(&why))?;
         Ok((mesh, net))

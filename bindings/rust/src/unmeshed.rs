@@ -19,9 +19,11 @@ pub enum Unmeshed {
 /// A strip that is longer than as many base cells as it may have.
 #[derive(Clone, Copy, Debug, PartialEq, Eq)]
 pub struct TooLong {
+    /// Its index.
     pub polygon: usize,
     /// Of the polygon's points the first at an end of the edge that bounds the strip on the west.
     pub point: usize,
+    /// In ticks.
     pub strip: Rect,
     /// How many base cells the strip would need along its longer side.
     pub cells: u64,
@@ -36,6 +38,7 @@ pub struct TooLong {
 pub struct Loose {
     /// That of the leaf.
     pub polygon: usize,
+    /// The id of the leaf.
     pub leaf: usize,
     /// Where the node stands.
     pub place: Point,

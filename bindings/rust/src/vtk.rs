@@ -3,14 +3,16 @@
 //! the points.
 
 use crate::sides::hanging;
-use crate::{Mesh, Net, Refusal, TICK};
+use crate::{Mesh, NetRows, Node, Refusal, TICK};
 use std::collections::BTreeSet;
 use std::fmt::{self, Write};
 
 /// Values of the cells, or of the nodes: so many as there are of one or the other.
 #[derive(Clone, Copy, Debug)]
 pub enum Field<'a> {
+    /// A name, and one value a cell.
     Cells(&'a str, &'a [f64]),
+    /// A name, and one value a node.
     Nodes(&'a str, &'a [f64]),
 }
 
@@ -20,15 +22,21 @@ pub enum Field<'a> {
 /// # Errors
 ///
 /// Those of [`leaf_order`](crate::leaf_order).
-pub fn of_mesh(mesh: &Mesh, net: Net, fields: &[Field]) -> Result<String, Refusal> {
+pub fn of_mesh(mesh: &Mesh, net: NetRows, fields: &[Field]) -> Result<String, Refusal> {
     let order = mesh.order()?;
     let mut text = String::new();
     put(mesh, &order, net, fields, &mut text).expect("a string takes all text");
     Ok(text)
 }
 
-fn put(mesh: &Mesh, order: &[usize], net: Net, fields: &[Field], text: &mut String) -> fmt::Result {
-    let (nodes, cells) = (net.nodes.len() / 4, net.sheets.len());
+fn put(
+    mesh: &Mesh,
+    order: &[usize],
+    net: NetRows,
+    fields: &[Field],
+    text: &mut String,
+) -> fmt::Result {
+    let (nodes, cells) = (net.nodes.len(), net.cells.len());
     put_grid(net, text)?;
     writeln!(text, "CELL_DATA {cells}")?;
     put_leaves(mesh, order, net, text)?;
@@ -41,38 +49,31 @@ fn put(mesh: &Mesh, order: &[usize], net: Net, fields: &[Field], text: &mut Stri
 }
 
 /// Nodes in metres, and leaves as quads.
-fn put_grid(net: Net, text: &mut String) -> fmt::Result {
-    let cells = net.sheets.len();
+fn put_grid(net: NetRows, text: &mut String) -> fmt::Result {
+    let cells = net.cells.len();
     writeln!(
         text,
         "# vtk DataFile Version 3.0\nleafmesh\nASCII\nDATASET UNSTRUCTURED_GRID"
     )?;
-    writeln!(text, "POINTS {} double", net.nodes.len() / 4)?;
+    writeln!(text, "POINTS {} double", net.nodes.len())?;
     let apart = layers_apart(net);
-    let layers: BTreeSet<i64> = net.nodes.chunks_exact(4).map(|node| node[0]).collect();
-    for node in net.nodes.chunks_exact(4) {
-        let height = layers.range(..node[0]).count() as f64 * apart;
-        writeln!(
-            text,
-            "{} {} {height}",
-            node[2] as f64 * TICK,
-            node[3] as f64 * TICK
-        )?;
+    let layers: BTreeSet<u16> = net.nodes.iter().map(|node| node.layer).collect();
+    for node in net.nodes {
+        let height = layers.range(..node.layer).count() as f64 * apart;
+        let [x, y] = [node.x, node.y].map(|ticks| ticks as f64 * TICK);
+        writeln!(text, "{x} {y} {height}")?;
     }
     writeln!(text, "CELLS {cells} {}", 5 * cells)?;
-    for corners in net.corners.chunks_exact(4) {
-        writeln!(
-            text,
-            "4 {} {} {} {}",
-            corners[0], corners[1], corners[2], corners[3]
-        )?;
+    for cell in net.cells {
+        let [sw, se, ne, nw] = cell.corners;
+        writeln!(text, "4 {sw} {se} {ne} {nw}")?;
     }
     writeln!(text, "CELL_TYPES {cells}")?;
     (0..cells).try_for_each(|_| writeln!(text, "9"))
 }
 
 /// What every leaf has.
-fn put_leaves(mesh: &Mesh, order: &[usize], net: Net, text: &mut String) -> fmt::Result {
+fn put_leaves(mesh: &Mesh, order: &[usize], net: NetRows, text: &mut String) -> fmt::Result {
     let polygon = |at: usize| mesh.polygon(order[at]);
     let numbers: [(&str, &dyn Fn(usize) -> f64); 6] = [
         ("leaf", &|at| order[at] as f64),
@@ -82,21 +83,21 @@ fn put_leaves(mesh: &Mesh, order: &[usize], net: Net, text: &mut String) -> fmt:
         ("component", &|at| {
             f64::from(mesh.polygons.components[polygon(at)])
         }),
-        ("r_sheet", &|at| net.sheets[at]),
+        ("r_sheet", &|at| net.cells[at].sheet),
     ];
     for (name, number) in numbers {
-        put_field(name, &mut (0..net.sheets.len()).map(number), text)?;
+        put_field(name, &mut (0..net.cells.len()).map(number), text)?;
     }
     Ok(())
 }
 
 /// A twentieth of the board's larger side, in metres.
-fn layers_apart(net: Net) -> f64 {
-    let along = |axis: usize| {
-        let all = || net.nodes.chunks_exact(4).map(|node| node[axis]);
+fn layers_apart(net: NetRows) -> f64 {
+    let along = |axis: fn(&Node) -> i64| {
+        let all = || net.nodes.iter().map(axis);
         all().max().unwrap_or(0) - all().min().unwrap_or(0)
     };
-    along(2).max(along(3)) as f64 * TICK / 20.0
+    along(|node| node.x).max(along(|node| node.y)) as f64 * TICK / 20.0
 }
 
 fn put_own(fields: &[Field], of_cells: bool, count: usize, text: &mut String) -> fmt::Result {

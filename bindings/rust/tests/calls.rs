@@ -104,28 +104,18 @@ fn empty_rows_are_no_trouble() {
     let head = build(settings, &[], nothing, &mut []).expect("an empty board");
     assert_eq!(head.count, 0);
     assert_eq!(balance(&mut [], head), Ok((0, head)));
-    let mut rows = NetRows::for_leaves(0);
-    let counts = network(&[], head, nothing, &mut rows).expect("an empty net");
-    assert_eq!(
-        counts,
-        Counts {
-            nodes: 0,
-            edges: 0,
-            cells: 0
-        }
-    );
-    assert_eq!(power(rows.net(counts), &[], &mut []), Ok(()));
+    let net = network(&[], head, nothing).expect("an empty net");
+    assert_eq!(net, Net::default());
+    assert_eq!(power(net.rows(), &[], &mut []), Ok(()));
 }
 
 #[test]
 fn net_and_checks_agree() {
     let (mut table, head) = two_roots(64);
     let (_, head) = balance(&mut table, head).expect("room");
-    let mut rows = NetRows::for_leaves(11);
-    let counts = network(&table, head, outlines(), &mut rows).expect("room");
-    assert_eq!(counts.cells, 11);
-    assert!(rows.work.iter().all(|&w| w == 0));
-    let net = rows.net(counts);
+    let made = network(&table, head, outlines()).expect("a net");
+    assert_eq!(made.cells.len(), 11);
+    let net = made.rows();
     for room in [0, 4096] {
         let mut work = vec![0; room];
         assert_eq!(
@@ -141,17 +131,78 @@ fn net_and_checks_agree() {
     assert_eq!(check_network_conforming(&table, head, net), Ok(None));
 }
 
+/// The net lies in front of rows that are long enough, what is behind it stays, and the work room is zero.
+#[test]
+fn a_net_in_lent_rows_is_the_same() {
+    let (table, head) = two_roots(64);
+    let net = network(&table, head, outlines()).expect("a net");
+    let lent = |leaves: usize| {
+        let mut nodes = vec![
+            Node {
+                layer: 7,
+                ..Node::default()
+            };
+            limits::NODES_A_LEAF * leaves
+        ];
+        let mut edges = vec![
+            Edge {
+                from: 7,
+                ..Edge::default()
+            };
+            limits::EDGES_A_LEAF * leaves
+        ];
+        let mut cells = vec![
+            Cell {
+                sheet: 7.0,
+                ..Cell::default()
+            };
+            limits::CELLS_A_LEAF * leaves
+        ];
+        let mut work = vec![7; limits::WORK_A_LEAF * leaves];
+        let room = NetRoom {
+            nodes: &mut nodes,
+            edges: &mut edges,
+            cells: &mut cells,
+            work: &mut work,
+        };
+        let counts = network_with(&table, head, outlines(), room);
+        (
+            counts,
+            Net {
+                nodes,
+                edges,
+                cells,
+            },
+            work,
+        )
+    };
+    let (counts, rows, work) = lent(8);
+    let Counts {
+        nodes,
+        edges,
+        cells,
+    } = counts.expect("room");
+    assert_eq!(rows.nodes[..nodes], net.nodes);
+    assert_eq!(rows.edges[..edges], net.edges);
+    assert_eq!(rows.cells[..cells], net.cells);
+    assert!(rows.nodes[nodes..].iter().all(|node| node.layer == 7));
+    assert!(rows.edges[edges..].iter().all(|edge| edge.from == 7));
+    assert!(work.iter().all(|&w| w == 0));
+    let (counts, rows, work) = lent(7);
+    assert_eq!(counts.map_err(|why| why.reason), Err(Reason::NoRoom));
+    assert!(rows.cells.iter().all(|cell| cell.sheet == 7.0));
+    assert!(work.iter().all(|&w| w == 7));
+}
+
 /// With exactly the work room that a check asks for it is used, and with one number less it isn't.
 #[test]
 fn a_checks_work_room_is_as_long_as_it_says() {
     let (table, head) = two_roots(64);
-    let mut rows = NetRows::for_leaves(8);
-    let counts = network(&table, head, outlines(), &mut rows).expect("room");
-    let enough = limits::check_work(counts.nodes, counts.edges);
+    let net = network(&table, head, outlines()).expect("a net");
+    let enough = limits::check_work(net.nodes.len(), net.edges.len());
     for (length, left) in [(enough, 0), (enough - 1, 7)] {
         let mut work = vec![7; length];
-        let net = rows.net(counts);
-        check_by_layer_with(&table, head, net, outlines(), &mut work).expect("sound");
+        check_by_layer_with(&table, head, net.rows(), outlines(), &mut work).expect("sound");
         assert!(work.iter().all(|&w| w == left));
     }
 }
@@ -159,10 +210,8 @@ fn a_checks_work_room_is_as_long_as_it_says() {
 #[test]
 fn a_net_without_an_edge_is_found_out() {
     let (table, head) = two_roots(64);
-    let mut rows = NetRows::for_leaves(8);
-    let counts = network(&table, head, outlines(), &mut rows).expect("room");
-    let net = rows.net(counts);
-    let quick = |net: Net| {
+    let net = network(&table, head, outlines()).expect("a net");
+    let quick = |net: NetRows| {
         let quick = check_by_layer(&table, head, net, outlines()).expect("sound");
         assert_eq!(
             quick,
@@ -170,18 +219,11 @@ fn a_net_without_an_edge_is_found_out() {
         );
         quick
     };
-    assert_eq!(quick(net), None);
-    let broken = (0..counts.edges).filter(|&edge| {
-        let mut ends = net.ends.to_vec();
-        let mut conductances = net.conductances.to_vec();
-        ends.drain(2 * edge..2 * edge + 2);
-        conductances.remove(edge);
-        quick(Net {
-            ends: &ends,
-            conductances: &conductances,
-            ..net
-        })
-        .is_some()
+    assert_eq!(quick(net.rows()), None);
+    let broken = (0..net.edges.len()).filter(|&edge| {
+        let mut without = net.clone();
+        without.edges.remove(edge);
+        quick(without.rows()).is_some()
     });
     assert!(broken.count() > 0);
 }
@@ -203,12 +245,11 @@ fn one_cell_of_one_ohm() {
     };
     let mut table = vec![0; SLOT];
     let head = build(settings, &[], square, &mut table).expect("one root");
-    let mut rows = NetRows::for_leaves(1);
-    let counts = network(&table, head, square, &mut rows).expect("room");
+    let net = network(&table, head, square).expect("a net");
     let mut watts = [0.0];
-    power(rows.net(counts), &[0.0, 1.0, 1.0, 0.0], &mut watts).expect("in range");
+    power(net.rows(), &[0.0, 1.0, 1.0, 0.0], &mut watts).expect("in range");
     assert_eq!(watts, [1.0]);
-    assert_eq!(rows.conductances[..4], [0.5; 4]);
+    assert!(net.edges.iter().all(|edge| edge.conductance == 0.5));
 }
 
 /// As the header says.
@@ -225,7 +266,7 @@ fn calls_need_little_stack() {
         target: 16,
     };
     let mut table = vec![0; SLOT * SLOTS];
-    let (mut rows, mut order) = (NetRows::for_leaves(1_100), vec![0; 1_100]);
+    let mut order = vec![0; 1_100];
     let (mut work, mut strips_room) = (vec![0; 1 << 16], [[0; 4]; 1]);
     let mut calls = || -> Result<(), Refusal> {
         strips(square.points, &mut strips_room)?;
@@ -234,14 +275,13 @@ fn calls_need_little_stack() {
         let head = refine(&mut table, head, head.count - 1)?;
         let (_, head) = balance(&mut table, head)?;
         leaf_order(&table, head, &mut order)?;
-        let counts = network(&table, head, square, &mut rows)?;
-        let net = rows.net(counts);
+        let net = network(&table, head, square)?;
         assert_eq!(
-            check_network_conforming_with(&table, head, net, &mut work)?,
+            check_network_conforming_with(&table, head, net.rows(), &mut work)?,
             None
         );
         assert_eq!(
-            check_by_layer_with(&table, head, net, square, &mut work)?,
+            check_by_layer_with(&table, head, net.rows(), square, &mut work)?,
             None
         );
         Ok(())

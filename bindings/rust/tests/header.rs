@@ -1,7 +1,8 @@
 //! The header's constants and the crate's are the same.
 
-use leafmesh::{columns, limits, NO_CELL, SLOT, SLOTS};
+use leafmesh::{columns, limits, Cell, Edge, Node, NO_CELL, SLOT, SLOTS};
 use std::fs;
+use std::mem::size_of;
 use std::path::Path;
 
 /// The number behind a name that the header defines.
@@ -42,6 +43,15 @@ fn the_headers_constants_are_the_crates() {
         ("CHECK_NODES", limits::CHECK_NODES),
     ] {
         assert_eq!(defined(&header, name), number.to_string(), "{name}");
+    }
+    for (name, size) in [
+        ("node", size_of::<Node>()),
+        ("edge", size_of::<Edge>()),
+        ("cell", size_of::<Cell>()),
+    ] {
+        assert!(header.contains(&format!(
+            "LEAFMESH_ASSERT(sizeof(leafmesh_{name}) == {size}"
+        )));
     }
     assert_eq!(columns::POLYGON + 1, SLOT);
     assert_eq!(limits::check_work(10, 4), 102);

@@ -16,7 +16,7 @@ fn mesh_of(name: &str) -> Mesh {
 
 fn picture_of(mesh: &Mesh) -> String {
     let net = mesh.net().expect("a net");
-    Picture::of_mesh("A board", mesh, net.net())
+    Picture::of_mesh("A board", mesh, net.rows())
         .expect("a picture")
         .svg()
 }
@@ -92,7 +92,7 @@ fn a_board_of_two_layers_has_two_panels() {
         assert!(svg.contains(words), "{words}");
     }
     let net = mesh.net().expect("a net");
-    let hanging = sides::hanging(net.net()).len();
+    let hanging = sides::hanging(net.rows()).len();
     // One more in the legend.
     assert_eq!(
         svg.matches("fill=\"#ffffff\" stroke=\"#000000\"").count(),
@@ -105,10 +105,10 @@ fn a_board_of_two_layers_has_two_panels() {
 fn values_have_a_logarithmic_bar() {
     let mesh = mesh_of("neck.txt");
     let net = mesh.net().expect("a net");
-    let values: Vec<f64> = (0..net.counts.cells)
+    let values: Vec<f64> = (0..net.cells.len())
         .map(|cell| 10_f64.powi(cell as i32 - 30))
         .collect();
-    let picture = Picture::of_mesh("<&>", &mesh, net.net()).expect("a picture");
+    let picture = Picture::of_mesh("<&>", &mesh, net.rows()).expect("a picture");
     let svg = picture.clone().by_value("W/mm2", &values).svg();
     for words in [
         "&lt;&amp;&gt;",
@@ -128,7 +128,7 @@ fn values_have_a_logarithmic_bar() {
     ] {
         assert_uncut(&picture.clone().by_value("W/mm2", &values).svg());
     }
-    let even = densities(&mesh, &vec![1.0; net.counts.cells]).expect("densities");
+    let even = densities(&mesh, &vec![1.0; net.cells.len()]).expect("densities");
     for (&id, value) in mesh.order().expect("leaves").iter().zip(even) {
         // Base cells of 2 by 2 mm.
         assert!(
@@ -149,14 +149,14 @@ fn boards_in_ticks_have_a_bar_in_ticks() {
 fn a_vtk_file_has_all_cells_nodes_and_fields() {
     let mesh = mesh_of("two_layers.txt");
     let net = mesh.net().expect("a net");
-    let (nodes, cells) = (net.counts.nodes, net.counts.cells);
+    let (nodes, cells) = (net.nodes.len(), net.cells.len());
     let (watts, volts) = (vec![0.5; cells], vec![0.25; nodes]);
     let own = [
         Field::Cells("my watts", &watts),
         Field::Nodes("volts", &volts),
         Field::Cells("short", &[]),
     ];
-    let file = vtk::of_mesh(&mesh, net.net(), &own).expect("a file");
+    let file = vtk::of_mesh(&mesh, net.rows(), &own).expect("a file");
     let lines: Vec<&str> = file.lines().collect();
     assert_eq!(lines[0], "# vtk DataFile Version 3.0");
     let after = |words: String| {
@@ -171,14 +171,9 @@ fn a_vtk_file_has_all_cells_nodes_and_fields() {
         .iter()
         .all(|line| line.split(' ').count() == 3));
     let at = after(format!("CELLS {cells} {}", 5 * cells));
-    for (line, corners) in lines[at..].iter().zip(net.net().corners.chunks_exact(4)) {
-        assert_eq!(
-            **line,
-            format!(
-                "4 {} {} {} {}",
-                corners[0], corners[1], corners[2], corners[3]
-            )
-        );
+    for (line, cell) in lines[at..].iter().zip(&net.cells) {
+        let [sw, se, ne, nw] = cell.corners;
+        assert_eq!(**line, format!("4 {sw} {se} {ne} {nw}"));
     }
     let at = after(format!("CELL_TYPES {cells}"));
     assert!(lines[at..at + cells].iter().all(|line| *line == "9"));

@@ -3,7 +3,7 @@
 use leafmesh::drawing::Picture;
 use leafmesh::printed::{read, show};
 use leafmesh::solving::{across, System};
-use leafmesh::{text, Net};
+use leafmesh::{text, NetRows};
 
 const BOARD: &str = "level 2\ntarget 8\npolygon 1 0 1\n0 0\n8 0\n8 16\n0 16\nsplit 0\n\
     polygon 2 1 1\n0 0\n8 0\n8 8\n0 8\n";
@@ -15,21 +15,12 @@ fn used(text: &str) -> bool {
     };
     let picture = Picture::of_printed("any", &printed, None).expect("no board to differ from");
     assert!(picture.svg().ends_with("</svg>\n"));
-    let nodes: Vec<i64> = printed.nodes.iter().flatten().copied().collect();
-    let ends: Vec<u64> = printed
-        .edges
-        .iter()
-        .flatten()
-        .map(|&end| end as u64)
-        .collect();
-    let net = Net {
-        nodes: &nodes,
-        ends: &ends,
-        conductances: &printed.conductances,
-        corners: &[],
-        sheets: &[],
+    let net = NetRows {
+        nodes: &printed.nodes,
+        edges: &printed.edges,
+        cells: &[],
     };
-    let _ = System::of_net(net).solve(&across(&nodes));
+    let _ = System::of_net(net).solve(&across(&printed.nodes));
     let board = text::parse(BOARD).expect("a board");
     Picture::of_printed("any", &printed, Some(&board)).is_ok()
 }

@@ -180,31 +180,24 @@ fn balance_in_a_row_and_over_one_another() {
     assert_ne!(table[SLOT * 16 + columns::FIRST_CHILD], NO_CELL);
 }
 
-/// The net of a board's text, as edges by their ends.
-fn edges_of(text: &str) -> (Mesh, OwnedNet, Vec<([u64; 2], f64)>) {
+/// The mesh of a board's text, and its net.
+fn meshed(text: &str) -> (Mesh, Net) {
     let board = text::parse(text).expect("a board");
     let mesh = Mesh::unjudged(&board).expect("a mesh");
     let net = mesh.unjudged_net().expect("a net");
-    let ends = net
-        .net()
-        .ends
-        .chunks_exact(2)
-        .map(|ends| [ends[0], ends[1]]);
-    let edges = ends.zip(net.net().conductances.iter().copied()).collect();
-    (mesh, net, edges)
+    (mesh, net)
+}
+
+/// The two nodes of an edge, and its conductance.
+fn parts(edge: &Edge) -> ([usize; 2], f64) {
+    ([edge.from, edge.to], edge.conductance)
 }
 
 #[test]
 fn a_split_square_and_its_weights() {
-    let (mesh, net, edges) =
-        edges_of("level 1\ntarget 8\npolygon 1 0 1\n0 0\n8 0\n8 16\n0 16\nsplit 0\n");
+    let (mesh, net) = meshed("level 1\ntarget 8\npolygon 1 0 1\n0 0\n8 0\n8 16\n0 16\nsplit 0\n");
     assert_eq!(mesh.order(), Ok(vec![1, 2, 3, 4, 5]));
-    let places: Vec<[i64; 2]> = net
-        .net()
-        .nodes
-        .chunks_exact(4)
-        .map(|node| [node[2], node[3]])
-        .collect();
+    let places: Vec<[i64; 2]> = net.nodes.iter().map(|node| [node.x, node.y]).collect();
     let expected = [
         [0, 8],
         [8, 8],
@@ -219,6 +212,7 @@ fn a_split_square_and_its_weights() {
         [4, 8],
     ];
     assert_eq!(places, expected);
+    let edges: Vec<_> = net.edges.iter().map(parts).collect();
     assert_eq!(edges.len(), 15);
     assert_eq!(edges[0], ([0, 10], 1.5));
     assert_eq!(edges[1].0, [10, 1]);
@@ -231,7 +225,7 @@ fn a_split_square_and_its_weights() {
 
 #[test]
 fn two_squares_out_of_step() {
-    let (_, _, edges) = edges_of(
+    let (_, net) = meshed(
         "level 0\ntarget 2\npolygon 1 0 1\n0 0\n2 0\n2 2\n0 2\npolygon 1 0 1\n0 1\n2 1\n2 3\n0 3\n",
     );
     let expected = [
@@ -246,7 +240,7 @@ fn two_squares_out_of_step() {
         ([5, 2], 2.0),
         ([2, 6], 2.0),
     ];
-    assert_eq!(edges, expected);
+    assert!(net.edges.iter().map(parts).eq(expected));
 }
 
 #[test]
@@ -257,13 +251,20 @@ fn powers() {
         (4, 8, 2.0, [0.0, 1.0, 1.0, 0.0], 1.0),
         (4, 4, 1.0, [0.0, 1.0, 0.0, 1.0], 0.0),
     ] {
-        let nodes = [1, 0, 0, 0, 1, 0, wide, 0, 1, 0, wide, high, 1, 0, 0, high];
-        let net = Net {
-            nodes: &nodes,
-            ends: &[],
-            conductances: &[],
-            corners: &[0, 1, 2, 3],
-            sheets: &[sheet],
+        let node = |[x, y]: [i64; 2]| Node {
+            layer: 1,
+            component: 0,
+            x,
+            y,
+        };
+        let cell = Cell {
+            corners: [0, 1, 2, 3],
+            sheet,
+        };
+        let net = NetRows {
+            nodes: &[[0, 0], [wide, 0], [wide, high], [0, high]].map(node),
+            edges: &[],
+            cells: &[cell],
         };
         let mut watts = [-1.0];
         power(net, &volts, &mut watts).expect("in range");
@@ -276,8 +277,8 @@ fn layers_over_each_other() {
     let square = "0 0\n8 0\n8 8\n0 8\n";
     let text =
         format!("level 1\ntarget 8\npolygon 1 0 1\n{square}polygon 2 0 1\n{square}split 0\n");
-    let (mesh, net, _) = edges_of(&text);
-    let named = check_network_conforming(&mesh.table, mesh.head, net.net());
+    let (mesh, net) = meshed(&text);
+    let named = check_network_conforming(&mesh.table, mesh.head, net.rows());
     assert_eq!(
         named,
         Ok(Some(Hanging {
@@ -286,8 +287,14 @@ fn layers_over_each_other() {
             to: 10
         }))
     );
-    assert_eq!(net.net().nodes[4..8], [1, 0, 4, 0]);
-    assert_eq!(mesh.check(net.net()), Ok(None));
+    let named = Node {
+        layer: 1,
+        component: 0,
+        x: 4,
+        y: 0,
+    };
+    assert_eq!(net.nodes[1], named);
+    assert_eq!(mesh.check(net.rows()), Ok(None));
 }
 
 #[test]

@@ -1,16 +1,16 @@
 //! The worked solver: on boards with a known resistance, and where cells don't fit together.
 
 use leafmesh::solving::{across, System};
-use leafmesh::{sides, text, Mesh, OwnedNet};
+use leafmesh::{sides, text, Mesh, Net};
 
-fn net_of(board: &str) -> OwnedNet {
+fn net_of(board: &str) -> Net {
     let board = text::parse(board).expect("a board");
     let mesh = Mesh::unjudged(&board).expect("a mesh");
     mesh.unjudged_net().expect("a net")
 }
 
-fn ohms(system: &System, net: &OwnedNet) -> f64 {
-    let volts = system.solve(&across(net.net().nodes)).expect("a solution");
+fn ohms(system: &System, net: &Net) -> f64 {
+    let volts = system.solve(&across(&net.nodes)).expect("a solution");
     1.0 / system.watts(&volts)
 }
 
@@ -23,9 +23,9 @@ const CORNER: &str = "level 3\ntarget 16\npolygon 1 0 1\n0 0\n32 0\n32 64\n0 64\
 fn cells_have_the_resistance_of_their_copper() {
     for board in [STRIP, CORNER] {
         let net = net_of(board);
-        assert!(!sides::hanging(net.net()).is_empty());
-        assert!((ohms(&System::of_cells(net.net()).expect("aligned"), &net) - 2.0).abs() < 1e-9);
-        assert!((ohms(&System::of_net(net.net()), &net) - 2.0).abs() > 0.1);
+        assert!(!sides::hanging(net.rows()).is_empty());
+        assert!((ohms(&System::of_cells(net.rows()).expect("aligned"), &net) - 2.0).abs() < 1e-9);
+        assert!((ohms(&System::of_net(net.rows()), &net) - 2.0).abs() > 0.1);
     }
 }
 
@@ -33,11 +33,11 @@ fn cells_have_the_resistance_of_their_copper() {
 #[test]
 fn an_even_current_has_an_even_slope() {
     let net = net_of(CORNER);
-    let system = System::of_cells(net.net()).expect("aligned");
-    let volts = system.solve(&across(net.net().nodes)).expect("a solution");
-    for (volt, node) in volts.iter().zip(net.net().nodes.chunks_exact(4)) {
+    let system = System::of_cells(net.rows()).expect("aligned");
+    let volts = system.solve(&across(&net.nodes)).expect("a solution");
+    for (volt, node) in volts.iter().zip(&net.nodes) {
         assert!(
-            (volt - node[3] as f64 / 64.0).abs() < 1e-9,
+            (volt - node.y as f64 / 64.0).abs() < 1e-9,
             "node {node:?} at {volt}"
         );
     }
@@ -46,9 +46,10 @@ fn an_even_current_has_an_even_slope() {
 #[test]
 fn bands_that_do_not_meet_are_no_elements() {
     let net = net_of("level 0\ntarget 6\npolygon 1 0 1\n0 0\n6 0\n6 2\n8 2\n8 4\n0 4\n");
-    let loose = sides::loose(net.net()).expect("a node inside a side");
-    let why = System::of_cells(net.net()).expect_err("no fit");
+    let loose = sides::loose(net.rows()).expect("a node inside a side");
+    let why = System::of_cells(net.rows()).expect_err("no fit");
     assert_eq!(why.node, loose.node);
-    assert_eq!(net.net().nodes[4 * loose.node + 2..][..2], [4, 2]);
-    assert_eq!(sides::loose(net_of(STRIP).net()), None);
+    let node = net.nodes[loose.node];
+    assert_eq!([node.x, node.y], [4, 2]);
+    assert_eq!(sides::loose(net_of(STRIP).rows()), None);
 }

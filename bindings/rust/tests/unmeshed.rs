@@ -85,16 +85,12 @@ fn leaves_two_levels_apart_have_no_net() {
     let loose = mesh.net().expect_err("two levels apart");
     assert!(loose.to_string().contains("balance the mesh"), "{loose}");
     mesh.balance().expect("room");
-    let made = mesh.net().expect("balanced");
-    assert_eq!(mesh.check(made.net()), Ok(None));
-    let mut rows = made.rows.clone();
+    let net = mesh.net().expect("balanced");
+    assert_eq!(mesh.check(net.rows()), Ok(None));
     // No edge at all: the first node at a middle is named.
-    rows.ends.clear();
-    rows.conductances.clear();
-    let without = leafmesh::Net {
-        ends: &rows.ends,
-        conductances: &rows.conductances,
-        ..made.net()
+    let without = leafmesh::NetRows {
+        edges: &[],
+        ..net.rows()
     };
     assert!(mesh.check(without).expect("sound rows").is_some());
 }

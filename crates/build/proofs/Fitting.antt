@@ -5,10 +5,7 @@ use lib.Ieee.{nan}
 use Rattle.cell.proofs.Offsets.{below?}
 use Rattle.cell.proofs.Contact.{and_left, and_right}
 use Rattle.refusals.specs.Limits.{widest_level, max_cap, max_cell, max_layers, max_points, max_polygons}
-use Rattle.refusals.specs.Said.{Said, accepted, refused, refusal}
-use Rattle.refusals.specs.declared.Refusal.{Refusal}
-use Rattle.refusals.specs.declared.Refusal.TheVariants.{WrongVersion, WrongLength, OutOfRange, Slanted, UnevenCell, NoRoom, BadTable, NoSuchCell, AlreadySplit, FinestLevel}
-use Rattle.strips.specs.Said.{if_accepted}
+use Rattle.refusals.specs.Said.{Said, accepted, refused}
 use Rattle.strips.specs.Rings.{ring_in_range, ring_slants}
 use Rattle.strips.specs.Strips.{strips_of}
 use Rattle.strips.proofs.Picking.{split}
@@ -17,7 +14,7 @@ use Rattle.build.specs.Grid.{Root, all_even, listed_at, flat, roots_in}
 use Rattle.build.specs.Board.{Board, sum_to, ring_at, polygons, unit, size_at, strips_at, roots_to, roots_of}
 use Rattle.floats.specs.Fractions.{in_sheet}
 use Rattle.build.specs.Says.{room_shaped, rows_shaped, layer_in, entry_ok, entries_ok, list_ok, numbers_ok, settings_ok, judge_from, even_from, room_for, filled}
-use Rattle.build.specs.Steps.{Fit, Tabled, placed, alone_says, alone_leaves}
+use Rattle.build.specs.Steps.{Fit, Tabled, placed, alone_says}
 use Rattle.build.proofs.Placing.{length-flat}
 
 -- every entry of a list that is in order has a cell in range
@@ -136,10 +133,6 @@ module _ (b : Board) (f : Fit b) (one : length b.counts ≡ 1) where
   unfolding even_from
   says-alone slots = rw (roots-alone, one, ring-alone) refl
 
-  pub leaves-alone : (size : ℕ) → filled b size ≡ alone_leaves b.settings.cap (size_at b 0) (strips_of b.points) size
-  unfolding filled
-  leaves-alone size = rw roots-alone refl
-
 -- from the tests to what the steps ask
 module _ (b : Board) (components : List ℕ) (sheets : List Float) (size : ℕ) (shape : rows_shaped b.layers components sheets b.counts b.points size ≡ true) where
   rows_fit : (eqb (length b.layers) (length b.counts) && (eqb (length components) (length b.counts) && eqb (length sheets) (length b.counts))) ≡ true
@@ -178,16 +171,3 @@ module _ (b : Board) (components : List ℕ) (sheets : List Float) (size : ℕ) 
         few = λ p h. sound-few sheets b.counts b.points o vs (length b.counts) p j h;
         polys = leb-true _ _ (and_right (leb b.settings.max_level widest_level) _ m);
       }
-
--- what a refused call leaves
-pub refusal-keeps : {A : Type 0} (x : Refusal) (new old : A) → if_accepted (refusal x) new old ≡ old
-refusal-keeps WrongVersion new old = refl
-refusal-keeps (WrongLength p) new old = refl
-refusal-keeps (OutOfRange p) new old = refl
-refusal-keeps (Slanted p) new old = refl
-refusal-keeps (UnevenCell p) new old = refl
-refusal-keeps NoRoom new old = refl
-refusal-keeps BadTable new old = refl
-refusal-keeps (NoSuchCell p) new old = refl
-refusal-keeps (AlreadySplit p) new old = refl
-refusal-keeps (FinestLevel p) new old = refl

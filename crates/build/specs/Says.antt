@@ -5,9 +5,9 @@ use Rattle.std.specs.Prelude.{slice_index_or, slice_index}
 use Rattle.std.specs.Float.{nan}
 use Rattle.refusals.specs.Limits.{widest_level, max_cap, max_cell, max_layers, max_polygons, max_slots}
 use Rattle.refusals.specs.declared.Refusal.{Refusal}
-use Rattle.refusals.specs.Said.{Said, accepted, refused, refusal, said}
+use Rattle.refusals.specs.Said.{Said, accepted, refused, refusal, said, if_accepted}
 use Rattle.floats.specs.Fractions.{in_sheet}
-use Rattle.strips.specs.Said.{judged, if_accepted}
+use Rattle.strips.specs.Said.{judged}
 use Rattle.build.specs.declared.Settings.{Settings}
 use Rattle.build.specs.Grid.{all_even, flat}
 use Rattle.build.specs.Board.{Board, sum_to, ring_at, polygons, unit, size_at, strips_at, roots_of}
@@ -50,12 +50,15 @@ numbers_ok s n =
 abbrev pub settings_ok : Board → Bool
 settings_ok b = numbers_ok b.settings (polygons b) && list_ok b.list
 
+-- what is due of polygon p, by its sheet resistance and its ring, and then `otherwise`
+abbrev pub judge_one : ℕ → Float → List (List ℤ) → Said → Said
+judge_one p sheet ring otherwise = if in_sheet sheet then judged p ring otherwise else refused 3 p
+
 -- "polygon by polygon 3 before 4": the n polygons from p on, and then `otherwise`
 unfoldable pub judge_from : List Float → List ℕ → List (List ℤ) → ℕ → ℕ → Said → Said
 judge_from rs cs ps p zero otherwise = otherwise
 judge_from rs cs ps p (suc n) otherwise =
-    if in_sheet (slice_index_or rs p nan) then judged p (ring_at cs ps p) (judge_from rs cs ps (suc p) n otherwise)
-    else refused 3 p
+    judge_one p (slice_index_or rs p nan) (ring_at cs ps p) (judge_from rs cs ps (suc p) n otherwise)
 
 -- "then 5", at the lowest polygon that has an uneven side
 unfoldable pub even_from : Board → ℕ → ℕ → Said → Said

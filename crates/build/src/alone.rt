@@ -1,6 +1,6 @@
 //! A board of one polygon, whose ring is made ready once.
 ghost use Rattle.std.specs.Prelude.{◌≡◌, ◌/◌, length};
-ghost use Rattle.strips.specs.Said.{if_accepted};
+ghost use Rattle.refusals.specs.Said.{if_accepted};
 ghost use Rattle.build.specs.Board.{board_of, roots_of};
 ghost use Rattle.build.specs.Says.{built_said, even_from, filled, room_for};
 ghost use Rattle.build.specs.Steps.{Tabled};

@@ -2,7 +2,7 @@
 #![tactic(auto)]
 
 ghost use Rattle.std.specs.Prelude.{◌≡◌, ◌/◌, length};
-ghost use Rattle.strips.specs.Said.{if_accepted};
+ghost use Rattle.refusals.specs.Said.{if_accepted};
 ghost use Rattle.build.specs.Board.{board_of, roots_of};
 ghost use Rattle.build.specs.Says.{built_said, build_says, build_leaves, even_from, room_for, filled};
 ghost use Rattle.build.specs.Steps.{Tabled};

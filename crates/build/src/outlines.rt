@@ -2,7 +2,7 @@
 ghost use Rattle.std.specs.Prelude.{◌≡◌, ◌==◌, ◌+◌, ◌<◌, ◌^◌, length};
 ghost use Rattle.refusals.specs.Said.{Said};
 ghost use Rattle.build.specs.Board.{ring_at, sum_to};
-ghost use Rattle.build.specs.Says.{fault, judge_from, room_shaped, rows_shaped};
+ghost use Rattle.build.specs.Says.{fault, judge_one, judge_from, room_shaped, rows_shaped};
 
 use refusals::{Refusal, limits};
 use strips::ring;
@@ -39,6 +39,22 @@ fn adds_up(counts: &[u64], total: usize) -> bool
         left -= n;
     }
     left == 0
+}
+
+// Sheet resistance and ring of one polygon.
+fn judge_one(polygon: usize, sheet: f64, ring: &[[i64; 2]]) -> Result<(), Refusal>
+    ensures { (o : Said) → fault result o ≡ judge_one polygon sheet ring.now o }
+{
+    if !floats::sheet_in_range(sheet) {
+        return Err(Refusal::OutOfRange(polygon));
+    }
+    if !ring::in_range(ring) {
+        return Err(Refusal::OutOfRange(polygon));
+    }
+    if ring::slanted(ring) {
+        return Err(Refusal::Slanted(polygon));
+    }
+    Ok(())
 }
 
 impl<'a> Outlines<'a> {
@@ -80,16 +96,8 @@ impl<'a> Outlines<'a> {
     {
         let mut at = 0;
         for p in 0..self.counts.len() {
-            if !floats::sheet_in_range(self.sheets[p]) {
-                return Err(Refusal::OutOfRange(p));
-            }
             let ring = self.ring(p, at);
-            if !ring::in_range(ring) {
-                return Err(Refusal::OutOfRange(p));
-            }
-            if ring::slanted(ring) {
-                return Err(Refusal::Slanted(p));
-            }
+            judge_one(p, self.sheets[p], ring)?;
             at += ring.len();
         }
         Ok(())

@@ -1,6 +1,6 @@
 -- Contact: as facts; symmetric; a corner is none; and the lemma on quadrants: a box that shares an edge with another has a quadrant
 -- that does. The engines cite contact by these laws and never by its text. Assumes nothing.
-use Rattle.std.proofs.Common.{◌≡◌, refl, Bool, true, false, ◌&&◌, ◌||◌, ◌⊎◌, inl, inr, ⊎_elim, ℕ, ◌+◌, ◌<◌, ◌≤◌, min, max, arith, ltb, eqb, ltb-true, ltb-false, lt-ltb, eqb-true, eq-eqb}
+use Rattle.std.proofs.Common.{◌≡◌, refl, Bool, true, false, ◌&&◌, ◌||◌, ◌⊎◌, inl, inr, ⊎_elim, ℕ, ◌<◌, ◌≤◌, min, max, arith, ltb, eqb, ltb-true, ltb-false, lt-ltb, eqb-true, eq-eqb}
 use mathlib.Core.Bool.{false≢true}
 use Rattle.cell.specs.Boxes.{Box, Quad, sw, se, nw, ne, quadrant, mid, overlaps, shares_edge}
 
@@ -117,7 +117,3 @@ pub shares-quadrant : (a b : Box) → shares_edge a b ≡ true → (q : Quad) ×
 shares-quadrant a b e =
     let t = touch-quadrant a b (shares→touch a b e) in
     (t.0, touch→shares (quadrant a t.0) b t.1)
-
--- where a side is even, the cut is its exact middle: the two halves are as long
-pub cut-exact : (a d : ℕ) → (mid a (a + (d + d)) ≡ a + d) × (a + (d + d) ≡ mid a (a + (d + d)) + d)
-cut-exact a d = (omega arith, omega arith)

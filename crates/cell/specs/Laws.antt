@@ -1,5 +1,8 @@
 -- What contact comes to.
-use Rattle.std.specs.Prelude.{◌≡◌, ◌<◌, IsTrue}
+use Rattle.std.specs.Prelude.{◌≡◌, ◌<◌, IsTrue, Bool, Result}
+use Rattle.refusals.specs.declared.Refusal.{Refusal}
+use Rattle.cell.specs.declared.rectangles.Rect.{Rect}
+use Rattle.cell.specs.Contact.{contact_said, contact_says}
 use Rattle.cell.specs.Boxes.{Box, Quad, quadrant, shares_edge}
 
 -- who shares an edge with another is shared an edge with
@@ -15,3 +18,9 @@ CornersDoNotTouch =
 -- a box that shares an edge with another has a quadrant that does
 abbrev pub SomeQuadrantTouches : Type 0
 SomeQuadrantTouches = (a b : Box) → IsTrue (shares_edge a b) → (q : Quad) × IsTrue (shares_edge (quadrant a q) b)
+
+-- two answers that the contract of `between` permits are one
+abbrev pub OneContact : Type 0
+OneContact =
+    (a b : Rect) (r q : Result Bool Refusal)
+    → contact_said r ≡ contact_says a b → contact_said q ≡ contact_says a b → r ≡ q

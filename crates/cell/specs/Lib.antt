@@ -2,4 +2,5 @@
 pub mod Boxes
 pub mod Cells
 pub mod Ticks
+pub mod Contact
 pub mod Laws

@@ -3,12 +3,13 @@
 //! A cell's coordinates are offset by 2^36, so that the range is 0 to 2^37 and no coordinate is negative.
 #![tactic(auto)]
 
-ghost use Rattle.std.specs.Prelude.{◌≡◌, ◌+◌, ◌/◌, ◌<◌};
+ghost use Rattle.std.specs.Prelude.{◌≡◌, ◌==◌, ◌+◌, ◌/◌, ◌<◌};
 ghost use Rattle.refusals.specs.Limits.{widest_level};
 ghost use Rattle.cell.specs.Boxes.{num, overlaps, shares_edge};
-ghost use Rattle.cell.specs.Cells.{box_of, root_of, cut_to, centre, child_of};
+ghost use Rattle.cell.specs.Cells.{box_of, no_cell, root_of, cut_to, centre, child_of};
 
 pub mod laws;
+pub mod rectangles;
 pub mod ticks;
 
 /// The four quadrants, in the order of the children's ids.
@@ -78,6 +79,13 @@ impl Cell {
             first: Cell::NO_CELL,
             poly,
         }
+    }
+
+    /// Whether it has no children.
+    pub fn is_leaf(self) -> bool
+        ensures { result ≡ (self.first == no_cell) }
+    {
+        self.first == Cell::NO_CELL
     }
 
     /// The point at which the cell is cut, as a cell of no width and no height.
@@ -152,44 +160,4 @@ pub fn shares_edge(a: Cell, b: Cell) -> bool
     let beside = (a.x1 == b.x0) | (b.x1 == a.x0);
     let stacked = (a.y1 == b.y0) | (b.y1 == a.y0);
     (beside & overlap(a.y0, a.y1, b.y0, b.y1)) | (stacked & overlap(a.x0, a.x1, b.x0, b.x1))
-}
-
-#[cfg(test)]
-mod tests {
-    use super::*;
-
-    #[test]
-    fn a_root_and_its_children(rt: HostRuntime) {
-        let root = Cell::root(0, 0, 8, 8, 2);
-        let middle = root.midpoint();
-        assert_eq!(rt; middle.x0, 4);
-        assert_eq!(rt; middle.y1, 4);
-        assert_eq!(rt;
-            root.quadrant(Quadrant::SouthEast),
-            Cell {
-                x0: 4,
-                y1: 4,
-                ..root
-            }
-        );
-        let child = root.child(7, Quadrant::NorthWest);
-        assert_eq!(rt;
-            child,
-            Cell {
-                x1: 4,
-                y0: 4,
-                level: 1,
-                parent: 7,
-                ..root
-            }
-        );
-    }
-
-    // Across a corner there is no contact; along a piece of border there is.
-    #[test]
-    fn contact(rt: HostRuntime) {
-        let a = Cell::root(0, 0, 4, 4, 0);
-        assert!(rt; !shares_edge(a, Cell::root(4, 4, 8, 8, 0)));
-        assert!(rt; shares_edge(a, Cell::root(4, 3, 8, 8, 0)));
-    }
 }

@@ -46,24 +46,3 @@ pub fn metres(length: u64) -> f64
 {
     ((length as i64) as f64) * crate::Cell::TICK
 }
-
-#[cfg(test)]
-mod tests {
-    use super::*;
-
-    #[test]
-    fn ends_of_the_range(rt: HostRuntime) {
-        assert!(rt; in_range(-68719476736));
-        assert!(rt; !in_range(-68719476737));
-        assert!(rt; in_range(68719476736));
-        assert!(rt; !in_range(68719476737));
-        assert_eq!(rt; offset(-68719476736), 0);
-        assert_eq!(rt; offset(i64::MAX), 137438953472);
-        assert_eq!(rt; ticks(offset(-5)), -5);
-    }
-
-    #[test]
-    fn a_metre(rt: HostRuntime) {
-        assert_eq!(rt; metres(274877906944), 1.0);
-    }
-}

@@ -1,80 +1,98 @@
 -- What is found in a row in order is what the net has. Assumes nothing.
-use Rattle.std.proofs.Common.{ℕ, ◌<◌, ◌≤◌, ◌≡◌, refl, sym, ap, ap₂, subst, ◌∙◌, Bool, true, false, Option, None, Some, ◌&&◌, ◌||◌, ◌==◌, ◌/◌, List, [], ◌∷◌, map, length, arith, ℤ, min, max, IfSome, IfNone, All, Contains, ⊎_elim}
-use Rattle.std.specs.List.{range_with_len}
+use Rattle.std.proofs.Common.{ℕ, ◌<◌, ◌≤◌, ◌≡◌, refl, sym, ap, ap₂, subst, ◌∙◌, Bool, true, false, Option, None, Some, ◌&&◌, ◌||◌, ◌==◌, List, [], ◌∷◌, length, get_or, slice_get, filter, nat_eq, ◌-◌, arith, min, max, All, Contains}
+use lib.Ieee.{nan}
+use Rattle.std.specs.List.{starts_with}
+use Rattle.std.specs.Ordering.{is_lt, nat_cmp}
+use Rattle.std.specs.Cmp.Lexicographic.{slice_cmp}
+use Rattle.std.proofs.lemmas.Bool.{false_from_ne_true, true≢false}
+use Rattle.std.proofs.lemmas.Bool.Decides.{nat_tests}
+use Rattle.std.proofs.lemmas.List.{get_or-map, get_or_default, length-map}
 use Rattle.std.proofs.lemmas.List.Elements.{Contains-get_or}
+use Rattle.std.proofs.lemmas.List.Folds.{list_any_at, list_any_none}
 use Rattle.std.proofs.lemmas.List.FromFn.{length-map-range_with_len, get_or-map-range_with_len}
 use Rattle.std.proofs.lemmas.List.Sorted.{IsPermutation-sym, Contains-permutation}
-use Rattle.std.proofs.lemmas.Bool.Decides.{nat_tests}
+use Rattle.sorted.proofs.Ends.{none_passes, found_passes, last_greatest}
 use Rattle.cell.specs.Ticks.{on}
-use Rattle.sound_net.specs.Nets.{node_count, from_at, to_at}
-use Rattle.sound_net.specs.Facts.{IsSoundNode}
+use Rattle.net_rows.specs.declared.rows.Node.{Node}
+use Rattle.net_rows.specs.declared.rows.Edge.{Edge}
+use Rattle.net_rows.specs.Nets.{no_node, nth_node}
+use Rattle.net_rows.specs.Facts.{IsSoundNode}
 use Rattle.checks.specs.declared.asked.Place.{Place}
 use Rattle.checks.specs.declared.asked.Class.{Class}
-use Rattle.checks.specs.declared.index.Key.{Key}
+use Rattle.checks.specs.declared.asked.Class.TheVariants.{Any, Of}
 use Rattle.checks.specs.Nodes.{here, node_at, joins, joined}
 use Rattle.checks.specs.Sides.{Near}
-use Rattle.checks.specs.Entries.{key_of, place_entry, pair_of, pair_entry, IsInOrder, IsPlaced, IsPaired, IsAt, IsLastAt}
-use Rattle.checks.proofs.Searches.{any-hit}
-use Rattle.checks.proofs.Lasts.{last-is, last-not, any-not, either}
-use Rattle.checks.proofs.Order.{num, stands, stands-at, at-stands}
+use Rattle.checks.specs.Entries.{key_of, place_entry, place_entries, pair_of, pair_entries, IsInOrder, IsPlaced, IsPaired}
+use Rattle.checks.proofs.Lasts.{last-is, last-not}
 use Rattle.checks.proofs.Spots.{stands-here}
 
--- ---- a row of the entries f 0, f 1, ..
-module _ (f : ℕ → List ℕ) (n : ℕ) (row : List (List ℕ)) (R : IsInOrder f n row) where
-  pub contained : (i : ℕ) → i < n → Contains row (f i)
-  contained i h =
-      let m = length-map-range_with_len f 0 n in
-      let e = get_or-map-range_with_len f 0 n i i [] h (omega arith) in
-      Contains-permutation (map f (range_with_len 0 n)) row (f i) R.same
-      (subst (Contains (map f (range_with_len 0 n))) e (Contains-get_or (map f (range_with_len 0 n)) i [] (omega arith)))
+-- ---- a row of entries in order has these and no others
+module _ (entries row : List (List ℕ)) (R : IsInOrder entries row) where
+  contained : (i : ℕ) → i < length entries → Contains row (get_or entries i [])
+  contained i h = Contains-permutation entries row (get_or entries i []) R.same (Contains-get_or entries i [] h)
 
-  pub record From (e : List ℕ) : Type 0 where
-    pub index : ℕ
-    pub inside : index < n
-    pub is : f index ≡ e
-
-  pub from_of : (e : List ℕ) → Contains row e → From e
-  from_of e c =
-      let s = Contains-permutation row (map f (range_with_len 0 n)) e (IsPermutation-sym _ _ R.same) c in
-      let m = length-map-range_with_len f 0 n in
-      let h : s.0 < n = let b = s.1 in omega arith in
-      record { index = s.0; inside = h; is = sym (get_or-map-range_with_len f 0 n s.0 s.0 e h (omega arith)) ∙ s.2 }
+  from_entry : (e : List ℕ) → Contains row e → Contains entries e
+  from_entry e c = Contains-permutation row entries e (IsPermutation-sym _ _ R.same) c
 
 -- ---- nodes
-module _ (class : Class) (nodes : List ℤ) (row : List (List ℕ)) (P : IsPlaced class nodes row) (sound : (i : ℕ) → i < node_count nodes → IsSoundNode nodes i) (p : Place) (near : Near p) where
-  abbrev k : Key
-  k = key_of class p
+abbrev num : List ℕ → ℕ → ℕ
+num e q = get_or e q 0
 
+-- of two entries of a key the lesser has the lesser number
+numbers : (class : Class) (p : Place) (a b c d i v w x y j : ℕ)
+    → starts_with nat_eq (a ∷ b ∷ c ∷ d ∷ i ∷ []) (key_of class p) ≡ true → starts_with nat_eq (v ∷ w ∷ x ∷ y ∷ j ∷ []) (key_of class p) ≡ true
+    → is_lt (slice_cmp nat_cmp (v ∷ w ∷ x ∷ y ∷ j ∷ []) (a ∷ b ∷ c ∷ d ∷ i ∷ [])) ≡ false → i ≤ j
+numbers Any p a b c d i v w x y j s t h = grind (arith, nat_tests)
+numbers (Of l m) p a b c d i v w x y j s t h = grind (arith, nat_tests)
+
+module _ (class : Class) (nodes : List Node) (row : List (List ℕ)) (P : IsPlaced class nodes row) (sound : All IsSoundNode nodes) (p : Place) (near : Near p) where
   abbrev f : ℕ → List ℕ
   f = place_entry class nodes
 
+  abbrev test : List ℕ → Bool
+  test e = starts_with nat_eq e (key_of class p)
+
   abbrev is_here : ℕ → Bool
-  is_here = here nodes class (on p.x) (on p.y)
+  is_here n = here class (on p.x) (on p.y) (nth_node nodes n)
 
-  same-test : (i : ℕ) → i < node_count nodes → stands k (f i) ≡ is_here i
-  same-test i h = stands-here class nodes p i near (sound i h)
+  count : length (place_entries class nodes) ≡ length nodes
+  count = length-map-range_with_len f 0 (length nodes)
 
-  -- an entry of the key, if its node is there
-  at-entry : (i : ℕ) → i < node_count nodes → is_here i ≡ true → IsAt k (f i)
-  at-entry i h e = stands-at k (f i) (same-test i h ∙ e)
+  same-test : (i : ℕ) → i < length nodes → test (f i) ≡ is_here i
+  same-test i h = stands-here class nodes p i near (sound i no_node h)
 
-  no : (i : ℕ) → (is_here i ≡ true → ⊥) → is_here i ≡ false
-  no i z = ⊎_elim (λ (e : is_here i ≡ true). absurd (z e)) (λ (e : is_here i ≡ false). e) (either (is_here i))
+  -- where the entry of node i stands
+  record Spot (i : ℕ) : Type 0 where
+    place : ℕ
+    inside : place < length row
+    is : get_or row place [] ≡ f i
 
-  -- what all entries say, of the entry of node i
-  of_entry : (Q : List ℕ → Type 0) → All Q row → (i : ℕ) → i < node_count nodes → Q (f i)
-  of_entry Q all i h = let c = contained f (node_count nodes) row P i h in subst Q c.2 (all c.0 (f i) c.1)
+  spot : (i : ℕ) → i < length nodes → Spot i
+  spot i h =
+      let c = contained (place_entries class nodes) row P i (omega (arith, count)) in
+      record { place = c.0; inside = c.1; is = get_or_default row c.0 [] _ c.1 ∙ (c.2 ∙ get_or-map-range_with_len f 0 (length nodes) i i [] h (omega arith)) }
 
-  pub place-found : (o : Option ℕ) → IfSome o (IsLastAt row k) → IfNone o (All (λ e. IsAt k e → ⊥) row) → o ≡ node_at nodes class p
-  place-found None s z =
-      sym (last-not is_here (node_count nodes) (λ i h. no i (λ e. of_entry (λ e. IsAt k e → ⊥) z i h (at-entry i h e))))
-  place-found (Some j) s z =
-      let w = from_of f (node_count nodes) row P (k.layer ∷ k.component ∷ k.x ∷ k.y ∷ j ∷ []) s.there in
-      let b = w.inside in
-      let v : w.index ≡ j = ap (λ (e : List ℕ). num e 4) w.is in
-      let q : IsAt k (f w.index) = record { layer = ap (λ (e : List ℕ). num e 0) w.is; component = ap (λ (e : List ℕ). num e 1) w.is; x = ap (λ (e : List ℕ). num e 2) w.is; y = ap (λ (e : List ℕ). num e 3) w.is } in
-      let t : is_here j ≡ true = subst (λ (i : ℕ). is_here i ≡ true) v (sym (same-test w.index b) ∙ at-stands k (f w.index) q) in
-      sym (last-is is_here (node_count nodes) j (omega arith) t (λ i g h. no i (λ e. (let m = of_entry (λ e. IsAt k e → num e 4 ≤ j) s.last i h (at-entry i h e) in omega arith))))
+  pub place-found : (o : Option (List ℕ)) → o ≡ slice_get (filter test row) (length (filter test row) - 1)
+      → elim o [ None ↦ None | Some e ↦ Some (num e 4) ] ≡ node_at nodes class p
+  place-found None s =
+      sym (last-not is_here (length nodes) (λ i h. false_from_ne_true (is_here i) (λ e.
+      let w = spot i h in
+      true≢false (sym (ap test w.is ∙ (same-test i h ∙ e)) ∙ none_passes row P.sorted test (length (filter test row) - 1) (omega arith) (sym s) w.place w.inside))))
+  place-found (Some e) s =
+      let g = found_passes row P.sorted test (length (filter test row) - 1) e (sym s) in
+      let k = g.there in
+      let w = from_entry (place_entries class nodes) row P e (k.place, k.inside, get_or_default row k.place e [] k.inside ∙ k.is) in
+      let j = w.0 in
+      let b : j < length nodes = let h = w.1 in omega (arith, count) in
+      let is : e ≡ f j = sym w.2 ∙ get_or-map-range_with_len f 0 (length nodes) j j e b (omega arith) in
+      let t : test (f j) ≡ true = sym (ap test is) ∙ g.passes in
+      ap (λ (x : List ℕ). Some (num x 4)) is
+      ∙ sym (last-is is_here (length nodes) j b (sym (same-test j b) ∙ t) (λ i l h. false_from_ne_true (is_here i) (λ q.
+      let v = spot i h in
+      let u : test (f i) ≡ true = same-test i h ∙ q in
+      let z = last_greatest row P.sorted test e (sym s) v.place v.inside (ap test v.is ∙ u) in
+      let m = numbers class p _ _ _ _ i _ _ _ _ j u t (subst (λ x. is_lt (slice_cmp nat_cmp x (f i)) ≡ false) is (subst (λ x. is_lt (slice_cmp nat_cmp e x) ≡ false) v.is z)) in
+      absurd (omega arith))))
 
 -- ---- edges
 abbrev joined_by : ℕ → ℕ → ℕ → ℕ → Bool
@@ -89,24 +107,30 @@ most-same f t a b h = grind (arith, nat_tests)
 joined-of : (f t a b : ℕ) → min f t ≡ min a b → max f t ≡ max a b → joined_by f t a b ≡ true
 joined-of f t a b p q = grind (arith, nat_tests)
 
-module _ (ends : List ℕ) (n : ℕ) (row : List (List ℕ)) (P : IsPaired n ends row) (long : length ends / 2 ≡ n) (a b : ℕ) where
-  joins-entry : (e : ℕ) → joins ends a b e ≡ true → pair_entry ends e ≡ pair_of a b
+abbrev pub blank : Edge
+blank = record { from = 0; to = 0; conductance = nan }
+
+abbrev pub pair_entry : Edge → List ℕ
+pair_entry e = pair_of e.from e.to
+
+module _ (edges : List Edge) (row : List (List ℕ)) (P : IsPaired edges row) (a b : ℕ) where
+  joins-entry : (e : Edge) → joins a b e ≡ true → pair_entry e ≡ pair_of a b
   unfolding joins
-  joins-entry e h =
-      ap₂ (λ (x y : ℕ). x ∷ y ∷ []) (least-same (from_at ends e) (to_at ends e) a b h) (most-same (from_at ends e) (to_at ends e) a b h)
+  joins-entry e h = ap₂ (λ (x y : ℕ). x ∷ y ∷ []) (least-same e.from e.to a b h) (most-same e.from e.to a b h)
 
-  entry-joins : (e : ℕ) → pair_entry ends e ≡ pair_of a b → joins ends a b e ≡ true
+  entry-joins : (e : Edge) → pair_entry e ≡ pair_of a b → joins a b e ≡ true
   unfolding joins
-  entry-joins e h =
-      joined-of (from_at ends e) (to_at ends e) a b (ap (λ (x : List ℕ). num x 0) h) (ap (λ (x : List ℕ). num x 1) h)
+  entry-joins e h = joined-of e.from e.to a b (ap (λ (x : List ℕ). num x 0) h) (ap (λ (x : List ℕ). num x 1) h)
 
-  no-join : (e : ℕ) → (joins ends a b e ≡ true → ⊥) → joins ends a b e ≡ false
-  no-join e z = ⊎_elim (λ (h : joins ends a b e ≡ true). absurd (z h)) (λ (h : joins ends a b e ≡ false). h) (either (joins ends a b e))
+  entry-of : (i : ℕ) → i < length edges → Contains row (pair_entry (get_or edges i blank))
+  entry-of i h =
+      subst (Contains row) (get_or-map pair_entry edges i blank [] h) (contained (pair_entries edges) row P i (rw length-map h))
 
-  pub pair-found : (r : Bool) → (r ≡ true → Contains row (pair_of a b)) → (r ≡ false → Contains row (pair_of a b) → ⊥) → r ≡ joined ends a b
+  pub pair-found : (r : Bool) → (r ≡ true → Contains row (pair_of a b)) → (r ≡ false → Contains row (pair_of a b) → ⊥) → r ≡ joined edges a b
   pair-found true s z =
-      let w = from_of (pair_entry ends) n row P (pair_of a b) (s refl) in
-      let h = w.inside in
-      sym (any-hit (joins ends a b) (length ends / 2) w.index (omega arith) (entry-joins w.index w.is))
+      let w = from_entry (pair_entries edges) row P (pair_of a b) (s refl) in
+      let h : w.0 < length edges = rw length-map at w.1 in
+      let e = sym (get_or-map pair_entry edges w.0 blank (pair_of a b) h) ∙ w.2 in
+      sym (list_any_at (joins a b) edges w.0 blank h (entry-joins (get_or edges w.0 blank) e))
   pair-found false s z =
-      sym (any-not (joins ends a b) (length ends / 2) (λ e h. no-join e (λ j. z refl (subst (Contains row) (joins-entry e j) (contained (pair_entry ends) n row P e (omega arith))))))
+      sym (list_any_none (joins a b) edges (λ i d h. false_from_ne_true _ (λ j. z refl (subst (Contains row) (joins-entry _ j) (rw (get_or_default edges i d blank h) (entry-of i h))))))

@@ -1,7 +1,5 @@
 -- Laws that belong to no one function.
-pub mod Searches
 pub mod Faults
-pub mod Order
 pub mod Entries
 pub mod Lasts
 pub mod Spots

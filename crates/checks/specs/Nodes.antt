@@ -1,40 +1,38 @@
 -- Nodes by their place, and edges by their ends.
-use Rattle.std.specs.Prelude.{ℕ, zero, suc, ◌/◌, Bool, true, false, ◌==◌, ◌&&◌, ◌||◌, if◌then◌else◌, List, length, ℤ, pos, Option, None, Some}
+use Rattle.std.specs.Prelude.{ℕ, Bool, true, ◌==◌, ◌&&◌, ◌||◌, List, length, reverse, ℤ, Option}
+use Rattle.std.specs.List.{range_with_len, find, list_any}
+use Rattle.std.specs.Ordering.{int_eq}
 use Rattle.cell.specs.Ticks.{on}
-use Rattle.sound_net.specs.Nets.{eq_z, node_count, layer_at, component_at, x_at, y_at, from_at, to_at}
+use Rattle.net_rows.specs.declared.rows.Node.{Node}
+use Rattle.net_rows.specs.declared.rows.Edge.{Edge}
+use Rattle.net_rows.specs.Nets.{nth_node}
 use Rattle.checks.specs.declared.asked.Place.{Place}
 use Rattle.checks.specs.declared.asked.Class.{Class}
 use Rattle.checks.specs.declared.asked.Class.TheVariants.{Any, Of}
 
--- node n is one of those looked for
-abbrev pub is_of : List ℤ → Class → ℕ → Bool
-is_of nodes Any n = true
-is_of nodes (Of layer component) n = eq_z (layer_at nodes n) (pos layer) && eq_z (component_at nodes n) (pos component)
+-- a node is one of those looked for
+abbrev pub is_of : Class → Node → Bool
+is_of Any n = true
+is_of (Of layer component) n = n.layer == layer && n.component == component
 
--- node n lies at the place x, y, in ticks, and is one of those looked for
-unfoldable pub here : List ℤ → Class → ℤ → ℤ → ℕ → Bool
-here nodes class x y n = eq_z (x_at nodes n) x && eq_z (y_at nodes n) y && is_of nodes class n
+-- it lies at the place x, y, in ticks, and is one of those looked for
+unfoldable pub here : Class → ℤ → ℤ → Node → Bool
+here class x y n = int_eq n.x x && int_eq n.y y && is_of class n
 
--- some index below n passes a test
-unfoldable pub any_below : (ℕ → Bool) → ℕ → Bool
-any_below p zero = false
-any_below p (suc n) = any_below p n || p n
-
--- the last index below n that passes a test
-unfoldable pub last_below : (ℕ → Bool) → ℕ → Option ℕ
-last_below p zero = None
-last_below p (suc n) = if p n then Some n else last_below p n
+-- the last number below n that passes a test
+abbrev pub last_below : (ℕ → Bool) → ℕ → Option ℕ
+last_below p n = find p (reverse (range_with_len 0 n))
 
 -- "the last one winning"
-abbrev pub last_at : List ℤ → Class → ℤ → ℤ → Option ℕ
-last_at nodes class x y = last_below (here nodes class x y) (node_count nodes)
+abbrev pub last_at : List Node → Class → ℤ → ℤ → Option ℕ
+last_at nodes class x y = last_below (λ n. here class x y (nth_node nodes n)) (length nodes)
 
-abbrev pub node_at : List ℤ → Class → Place → Option ℕ
+abbrev pub node_at : List Node → Class → Place → Option ℕ
 node_at nodes class p = last_at nodes class (on p.x) (on p.y)
 
--- edge e joins a and b, one way or the other
-unfoldable pub joins : List ℕ → ℕ → ℕ → ℕ → Bool
-joins ends a b e = ((from_at ends e == a) && (to_at ends e == b)) || ((from_at ends e == b) && (to_at ends e == a))
+-- an edge joins a and b, one way or the other
+unfoldable pub joins : ℕ → ℕ → Edge → Bool
+joins a b e = (e.from == a && e.to == b) || (e.from == b && e.to == a)
 
-abbrev pub joined : List ℕ → ℕ → ℕ → Bool
-joined ends a b = any_below (joins ends a b) (length ends / 2)
+abbrev pub joined : List Edge → ℕ → ℕ → Bool
+joined edges a b = list_any (joins a b) edges

@@ -2,7 +2,7 @@
 use Rattle.std.specs.Prelude.{ℕ, ◌<◌, length}
 use Rattle.checks.specs.declared.asked.Class.{Class}
 use Rattle.checks.specs.declared.asked.Class.TheVariants.{Any}
-use Rattle.checks.specs.declared.asked.Polygons.{Polygons}
+use Rattle.net_rows.specs.declared.rows.Polygons.{Polygons}
 use Rattle.checks.specs.declared.asked.Scope.{Scope}
 use Rattle.checks.specs.declared.asked.Scope.TheVariants.{Everywhere, ByLayer}
 use Rattle.checks.specs.Checks.{own_class}

@@ -1,10 +1,8 @@
 // What is looked for: places, sides of leaves, and which nodes stand for a place.
-ghost use Rattle.std.specs.Prelude.{◌≡◌, ℕ, ◌<◌, ◌*◌, ◌≤◌, length, nat_lt};
-ghost use Rattle.table.specs.Slots.{cell_at};
-ghost use Rattle.sound_net.specs.Nets.{all_below};
+ghost use Rattle.std.specs.Prelude.{◌≡◌};
 
 use cell::Cell;
-use table::Table;
+use net_rows::Polygons;
 
 /// A place, its coordinates moved up as a cell's are.
 #[derive(Clone, Copy, Debug, PartialEq, Eq)]
@@ -34,13 +32,6 @@ pub struct Hanging {
 pub enum Class {
     Any,
     Of { layer: u16, component: u32 },
-}
-
-/// Layer and component of each polygon.
-#[derive(Clone, Copy)]
-pub struct Polygons<'a> {
-    pub layers: &'a [u16],
-    pub components: &'a [u32],
 }
 
 /// Which nodes a leaf is held against: all of them, or those of its polygon's layer and component.
@@ -104,28 +95,6 @@ impl Side {
             },
             end: Place { x: c.x0, y: c.y0 },
         }
-    }
-}
-
-// Whether each cell's polygon is below a count. Internal: the cells stand in the table.
-fn polygons_below(t: &[i64], n: usize, count: usize) -> bool
-    requires { n * 8 ≤ length t.now }
-    ensures { result ≡ all_below (λ i. nat_lt (cell_at t.now i).poly count) n }
-{
-    (0..n).all(|i| table::slots::poly_at(t, i) < count as u64)
-}
-
-impl Polygons<'_> {
-    ghost use Rattle.checks.specs.Checks.{polygons_fit};
-
-    /// Whether each polygon has a layer and a component, and no cell names a polygon past the last.
-    #[tactic(auto, unfolding(crate::specs::Checks::polygons_fit))]
-    pub fn fit(&self, table: &Table) -> bool
-        ensures { result
-            ≡ polygons_fit table.now.row.now table.now.head.count self.now.layers.now self.now.components.now }
-    {
-        (self.layers.len() == self.components.len())
-            & polygons_below(table.row, table.head.count, self.layers.len())
     }
 }
 

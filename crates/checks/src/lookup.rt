@@ -1,18 +1,20 @@
 // How nodes are found by their place and edges by their ends: the net as it stands.
-ghost use Rattle.std.specs.Prelude.{◌≡◌, ◌+◌, ◌*◌, ◌≤◌, List, ℤ, ℕ, length};
+ghost use Rattle.std.specs.Prelude.{◌≡◌, List, ℤ, ℕ};
+ghost use Rattle.net_rows.specs.declared.rows.Node.{Node};
+ghost use Rattle.net_rows.specs.declared.rows.Edge.{Edge};
 ghost use Rattle.checks.specs.declared.asked.Class.{Class};
 ghost use Rattle.checks.specs.Nodes.{node_at, last_at, joined, here, joins};
 ghost use Rattle.checks.specs.Sides.{Near};
 
 use crate::asked::{Class, Place};
 use cell::ticks::ticks;
-use sound_net::SoundNet;
+use net_rows::{Edge, Node, SoundNet};
 
 /// Nodes by their place and edges by their ends.
 pub trait Lookup {
-    ghost nodes: { Self → List ℤ };
+    ghost nodes: { Self → List Node };
 
-    ghost ends: { Self → List ℕ };
+    ghost edges: { Self → List Edge };
 
     // it was made of that net
     ghost ready: { Self → Type 0 };
@@ -30,81 +32,64 @@ pub trait Lookup {
     /// Whether an edge joins two nodes, one way or the other.
     fn are_joined(&self, a: usize, b: usize) -> bool
         requires { ready self.now }
-        ensures { result ≡ joined (ends self.now) a b };
+        ensures { result ≡ joined (edges self.now) a b };
 }
 
 impl Class {
     ghost use Rattle.checks.specs.Nodes.{is_of};
 
-    // Whether a node is one of them. Internal: it stands in the row.
-    fn has(self, nodes: &[i64], n: usize) -> bool
-        requires { n * 4 + 4 ≤ length nodes.now }
-        ensures { result ≡ is_of nodes.now self n }
+    // Whether a node is one of them.
+    fn has(self, node: Node) -> bool
+        ensures { result ≡ is_of self node }
     {
         match self {
             Class::Any => true,
             Class::Of { layer, component } => {
-                let own_layer = i64::from(layer);
-                let own_component = i64::from(component);
-                (nodes[n * 4] == own_layer) & (nodes[n * 4 + 1] == own_component)
+                (node.layer == layer) & (node.component == component)
             }
         }
     }
 }
 
-// Internal: the node stands in the row.
-fn is_here(nodes: &[i64], class: Class, x: i64, y: i64, n: usize) -> bool
-    requires { n * 4 + 4 ≤ length nodes.now }
-    ensures { result ≡ here nodes.now class x y n }
+#[tactic(auto, unfolding(crate::specs::Nodes::here))]
+fn is_here(node: Node, class: Class, x: i64, y: i64) -> bool
+    ensures { result ≡ here class x y node }
 {
-    let east = nodes[n * 4 + 2];
-    let north = nodes[n * 4 + 3];
-    (east == x) & (north == y) & class.has(nodes, n)
+    node.lies_at(x, y) & class.has(node)
 }
 
 // The last node at a place, in ticks.
-#[tactic(auto, unfolding(crate::specs::Nodes::last_below))]
-fn last_at(nodes: &[i64], class: Class, x: i64, y: i64) -> Option<usize>
+#[tactic(auto, using(crate::proofs::Lasts::last_more))]
+fn last_at(nodes: &[Node], class: Class, x: i64, y: i64) -> Option<usize>
     ensures { result ≡ last_at nodes.now class x y }
 {
-    for n in (0..nodes.len() / 4).rev() {
-        if is_here(nodes, class, x, y, n) {
+    for n in (0..nodes.len()).rev() {
+        if is_here(nodes[n], class, x, y) {
             return Some(n);
         }
     }
     None
 }
 
-// Internal: the edge stands in the row.
 #[tactic(auto, unfolding(crate::specs::Nodes::joins))]
-fn edge_joins(ends: &[u64], a: usize, b: usize, e: usize) -> bool
-    requires { e * 2 + 2 ≤ length ends.now }
-    ensures { result ≡ joins ends.now a b e }
+fn edge_joins(edge: &Edge, a: usize, b: usize) -> bool
+    ensures { result ≡ joins a b edge.now }
 {
-    let at = e * 2;
-    let from = ends[at] as usize;
-    let to = ends[at + 1] as usize;
-    ((from == a) & (to == b)) | ((from == b) & (to == a))
+    ((edge.from == a) & (edge.to == b)) | ((edge.from == b) & (edge.to == a))
 }
 
 // Whether an edge joins two nodes.
-#[tactic(auto, unfolding(crate::specs::Nodes::any_below))]
-fn are_joined(ends: &[u64], a: usize, b: usize) -> bool
-    ensures { result ≡ joined ends.now a b }
+fn are_joined(edges: &[Edge], a: usize, b: usize) -> bool
+    ensures { result ≡ joined edges.now a b }
 {
-    for e in 0..ends.len() / 2 {
-        if edge_joins(ends, a, b, e) {
-            return true;
-        }
-    }
-    false
+    edges.iter().any(|edge| edge_joins(edge, a, b))
 }
 
 /// The net as it stands: each place is looked for among all nodes, and each edge among all edges.
 impl Lookup for SoundNet<'_> {
     ghost nodes = { λ net. net.rows.nodes.now };
 
-    ghost ends = { λ net. net.rows.ends.now };
+    ghost edges = { λ net. net.rows.edges.now };
 
     ghost ready = { λ net. Unit {0} };
 
@@ -115,6 +100,6 @@ impl Lookup for SoundNet<'_> {
     }
 
     fn are_joined(&self, a: usize, b: usize) -> bool {
-        are_joined(self.rows.ends, a, b)
+        are_joined(self.rows.edges, a, b)
     }
 }

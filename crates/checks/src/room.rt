@@ -1,7 +1,6 @@
 // The work room of the checks: how long it is to be, and what stands in it.
 ghost use Rattle.std.specs.Prelude.{◌≡◌, ℕ, ◌+◌, ◌*◌, ◌<◌, ◌≤◌, length, replicate};
 ghost use Rattle.table.specs.Slots.{cell_at};
-ghost use Rattle.sound_net.specs.Nets.{node_count};
 ghost use Rattle.checks.specs.Checks.{fault_by};
 ghost use Rattle.checks.specs.Scopes.{class_of, Holds};
 ghost use Rattle.checks.specs.Rooms.{max_nodes, roomy, room_after};
@@ -9,7 +8,7 @@ ghost use Rattle.checks.specs.Rooms.{max_nodes, roomy, room_after};
 use crate::asked::{Hanging, Scope};
 use crate::index::{Index, sort_pairs, sort_places};
 use crate::walk::first_fault;
-use sound_net::SoundNet;
+use net_rows::SoundNet;
 use table::Table;
 
 // What a net takes of the room, in numbers.
@@ -30,30 +29,30 @@ const A_PAIR: usize = 2;
 #[inline(always)]
 fn has_room(net: &SoundNet, work: &[u64]) -> bool
     ensures { result
-        ≡ roomy (node_count net.now.rows.nodes.now) (length net.now.rows.conductances.now) (length work.now) }
+        ≡ roomy (length net.now.rows.nodes.now) (length net.now.rows.edges.now) (length work.now) }
 {
-    let nodes = net.node_count();
-    nodes <= NODES && A_NODE * nodes + AN_EDGE * net.edge_count() <= work.len()
+    let nodes = net.rows.nodes.len();
+    nodes <= NODES && A_NODE * nodes + AN_EDGE * net.rows.edges.len() <= work.len()
 }
 
 // The first fault, by the net in order. Internal: there is room.
 #[inline(never)]
 fn find_quickly(net: &SoundNet, table: &Table, scope: Scope, work: &mut [u64]) -> Option<Hanging>
-    requires few_nodes { node_count net.now.rows.nodes.now ≤ max_nodes }
-    requires room { 9 * node_count net.now.rows.nodes.now + 3 * length net.now.rows.conductances.now
+    requires few_nodes { length net.now.rows.nodes.now ≤ max_nodes }
+    requires room { 9 * length net.now.rows.nodes.now + 3 * length net.now.rows.edges.now
         ≤ length work.old }
     requires polygons_there { (i : ℕ) → i < table.now.head.count
         → Holds scope (cell_at table.now.row.now i).poly }
     ensures fault { result
-        ≡ fault_by (class_of scope.entry) table.now.row.now table.now.head.count net.now.rows.nodes.now
-        net.now.rows.ends.now }
+        ≡ fault_by (class_of scope.entry) table.now.row.now table.now.head net.now.rows.nodes.now
+        net.now.rows.edges.now }
     ensures zeros { work.new ≡ replicate (length work.old) 0 }
 {
-    let (front, back) = work.split_at_mut(A_PLACE * net.node_count());
+    let (front, back) = work.split_at_mut(A_PLACE * net.rows.nodes.len());
     let (places, _) = front.as_chunks_mut::<A_PLACE>();
-    let (pairs, _) = back[..A_PAIR * net.edge_count()].as_chunks_mut::<A_PAIR>();
-    sort_places(net, scope, places);
-    sort_pairs(net, pairs);
+    let (pairs, _) = back[..A_PAIR * net.rows.edges.len()].as_chunks_mut::<A_PAIR>();
+    sort_places(net.rows.nodes, scope, places);
+    sort_pairs(net.rows.edges, pairs);
     let index = Index {
         net: *net,
         places,
@@ -71,10 +70,10 @@ fn find_quickly(net: &SoundNet, table: &Table, scope: Scope, work: &mut [u64]) -
 pub fn find_fault(net: &SoundNet, table: &Table, scope: Scope, work: &mut [u64]) -> Option<Hanging>
     requires { (i : ℕ) → i < table.now.head.count → Holds scope (cell_at table.now.row.now i).poly }
     ensures fault { result
-        ≡ fault_by (class_of scope.entry) table.now.row.now table.now.head.count net.now.rows.nodes.now
-        net.now.rows.ends.now }
+        ≡ fault_by (class_of scope.entry) table.now.row.now table.now.head net.now.rows.nodes.now
+        net.now.rows.edges.now }
     ensures room { work.new
-        ≡ room_after (node_count net.now.rows.nodes.now) (length net.now.rows.conductances.now) work.old }
+        ≡ room_after (length net.now.rows.nodes.now) (length net.now.rows.edges.now) work.old }
 {
     if has_room(net, work) {
         find_quickly(net, table, scope, work)

@@ -27,7 +27,7 @@ fn side_fault<L: Lookup>(net: &L, class: Class, side: Side) -> Option<Hanging>
     requires ready { L.ready net.now }
     requires served { L.serves net.now class }
     requires near { NearSide side }
-    ensures { result ≡ side_fault (L.nodes net.now) (L.ends net.now) class side }
+    ensures { result ≡ side_fault (L.nodes net.now) (L.edges net.now) class side }
 {
     let node = middle_node(net, class, side)?;
     let start = net.node_at(class, side.start)?;
@@ -44,7 +44,7 @@ fn leaf_fault<L: Lookup>(net: &L, class: Class, c: Cell) -> Option<Hanging>
     requires ready { L.ready net.now }
     requires served { L.serves net.now class }
     requires near { NearCell c }
-    ensures { result ≡ leaf_fault (L.nodes net.now) (L.ends net.now) class c }
+    ensures { result ≡ leaf_fault (L.nodes net.now) (L.edges net.now) class c }
 {
     let first = side_fault(net, class, Side::south(c));
     if first.is_some() {
@@ -69,10 +69,10 @@ fn cell_fault<L: Lookup>(net: &L, t: &[i64], scope: Scope, i: usize) -> Option<H
     requires served { (p : ℕ) → L.serves net.now (class_of scope p) }
     requires polygon_there { Holds scope (cell_at t.now i).poly }
     ensures { result
-        ≡ cell_fault t.now (L.nodes net.now) (L.ends net.now) (class_of scope.entry (cell_at t.now i).poly) i }
+        ≡ cell_fault t.now (L.nodes net.now) (L.edges net.now) (class_of scope.entry (cell_at t.now i).poly) i }
 {
     let c = table::slots::cell_at(t, i);
-    if c.first != Cell::NO_CELL {
+    if !c.is_leaf() {
         return None;
     }
     leaf_fault(net, scope.class_of(c.poly as usize), c)
@@ -86,7 +86,7 @@ pub fn first_fault<L: Lookup>(net: &L, table: &Table, scope: Scope) -> Option<Ha
     requires polygons_there { (i : ℕ) → i < table.now.head.count
         → Holds scope (cell_at table.now.row.now i).poly }
     ensures { result
-        ≡ fault_by (class_of scope.entry) table.now.row.now table.now.head.count (L.nodes net.now) (L.ends net.now) }
+        ≡ fault_by (class_of scope.entry) table.now.row.now table.now.head (L.nodes net.now) (L.edges net.now) }
 {
     for i in 0..table.head.count {
         let fault = cell_fault(net, table.row, scope, i);

@@ -1,5 +1,5 @@
 -- The number of cells of a splitting: there is one, and a splitting that splits more has no fewer. Assumes nothing.
-use Rattle.std.proofs.Common.{◌≡◌, refl, sym, ap, ◌∙◌, ◌⊎◌, inl, inr, ⊎_elim, ◌≢◌, ℕ, zero, suc, ◌<◌, ◌≤◌, arith, le_antisymm}
+use Rattle.std.proofs.Common.{◌≡◌, refl, sym, ap, ◌∙◌, ◌⊎◌, inl, inr, ⊎_elim, ◌≢◌, ℕ, zero, suc, ◌<◌, ◌≤◌, arith}
 use native.Mathlib.Decide.{ℕ_discrete, dec_lt}
 use Rattle.coarsest.specs.Names.{Splitting, Roots, HasCells, ◌⊆◌}
 use Rattle.coarsest.proofs.Least.{stands-more}
@@ -68,6 +68,3 @@ module _ (R : Roots) (S T : Splitting) (m n : ℕ) (more : S ⊆ T) (a : HasCell
       let p = seat-is i (dec_lt i m) hi in
       let q = seat-is j (dec_lt j m) hj in
       a.once i j hi hj (sym p.1 ∙ ap b.root e ∙ q.1) (sym p.2 ∙ ap b.route e ∙ q.2))
-
-pub cells-one : (R : Roots) (S : Splitting) (m n : ℕ) → HasCells R S m → HasCells R S n → m ≡ n
-cells-one R S m n a b = le_antisymm (cells-fewer R S S m n (λ r p e. e) a b) (cells-fewer R S S n m (λ r p e. e) b a)

@@ -11,8 +11,8 @@ use Rattle.coarsest.specs.Names.{Route, Splitting, Roots, Admissible, Coarsest, 
 use Rattle.coarsest.specs.Laws.{SameRoots}
 use Rattle.table.specs.Formed.{Formed}
 use Rattle.cell.proofs.Contact.{or_cases, or_right}
-use Rattle.coarsest.proofs.Forced.{bool-ext, coarsest-grows, coarsest-one, coarsest-parts}
-use Rattle.coarsest.proofs.Evened.{evened-stop, evened-calm, evened-coarsest, evened-formed, evened-roots}
+use Rattle.coarsest.proofs.Forced.{coarsest-grows, coarsest-one, coarsest-parts}
+use Rattle.coarsest.proofs.Evened.{evened-calm, evened-coarsest, evened-formed, evened-roots}
 use Rattle.coarsest.proofs.Count.{cells-fewer}
 use Rattle.coarsest.proofs.Numbered.{formed-cells}
 
@@ -37,18 +37,6 @@ module _ (k M : ℕ) where
       (coarsest-of e t u ft s) (evened-coarsest e k M u fu) (coarsest-of e w u fw s') tu
       (λ r p h. or r p ∙ or_right (splitting (evened e k M t) r p) (splitting u r p) h)
       (λ S f g r p h. ⊎_elim (f r p) (g r p) (or_cases (splitting (evened e k M t) r p) (splitting u r p) (sym (or r p) ∙ h)))
-
-  -- two tables with the same roots and the same splitting, however numbered, end in the same
-  pub evened-one : (e d : Engine) (t u : List Cell) → Formed M t → Formed M u → SameRoots t u → ((r : ℕ) (p : Route) → splitting t r p ≡ splitting u r p)
-      → (r : ℕ) (p : Route) → splitting (evened e k M t) r p ≡ splitting (evened d k M u) r p
-  evened-one e d t u ft fu s h r p =
-      bool-ext (splitting (evened e k M t) r p) (splitting (evened d k M u) r p)
-      (evened-grows e d t u ft fu s (λ r p x. sym (h r p) ∙ x) r p)
-      (evened-grows d e u t fu ft (λ r. sym (s r)) (λ r p x. h r p ∙ x) r p)
-
-  -- evened out, a table stays as it is
-  pub evened-twice : (e : Engine) (t : List Cell) → Formed M t → evened e k M (evened e k M t) ≡ evened e k M t
-  evened-twice e t ft = evened-stop e k M (evened e k M t) (evened-formed e k M t ft) (evened-calm e k M t ft)
 
 -- one pass more changes nothing
 pub evened-passed : (e : Engine) (k M : ℕ) (t : List Cell) → Formed M t → pass e k (evened e k M t) ≡ evened e k M t
@@ -85,29 +73,12 @@ module _ (e : Engine) (k M : ℕ) (t : List Cell) (formed : Formed M t) where
       (w.coarsest.least (splitting (evened e k M t)) (evened-coarsest e k M t formed).admissible (evened-coarsest e k M t formed).keeps) w.cells evened-cells)
       (evened-fewest w.splits n w.coarsest.admissible w.coarsest.keeps w.cells)
 
-  -- a table that has the coarsest splitting has that many cells
-  pub evens-length : (u : List Cell) → Evens k M t u → length u ≡ length (evened e k M t)
-  evens-length u v =
-      needs-one (length u) (record {
-        splits = splitting u;
-        coarsest = v.coarsest;
-        cells = subst (λ (R : Roots). HasCells R (splitting u) (length u)) (fun_ext v.roots) (formed-cells M u v.formed);
-      })
-
 -- balance and conform
 module _ (M : ℕ) (t : List Cell) (formed : Formed M t) where
   pub balance-evens : Evens 1 M t (balance M t)
   unfolding balance
   balance-evens = evened-evens Balancing 1 M t formed
 
-  pub balance-needs : Needs 1 M t (length (balance M t))
-  unfolding balance
-  balance-needs = evened-needs Balancing 1 M t formed
-
   pub conform-evens : Evens 0 M t (conform M t)
   unfolding conform
   conform-evens = evened-evens Conforming 0 M t formed
-
-  pub conform-needs : Needs 0 M t (length (conform M t))
-  unfolding conform
-  conform-needs = evened-needs Conforming 0 M t formed

@@ -39,9 +39,6 @@ spent-keeps k M t u f c hf hc s d =
     let b = s.spent in
     record { formed = formed-split u c hc w.coarse M finer s.formed; spent = omega arith }
 
-pub formed-keeps : (k M : ℕ) → Keeps k (Formed M)
-formed-keeps k M u f c hf hc formed d = (spent-keeps k M u u f c hf hc (record { formed = formed; spent = refl }) d).formed
-
 pub pass_spent : (e : Engine) (k M : ℕ) (t : List Cell) → Formed M t → Spent M t (pass e k t)
 pass_spent e k M t formed = pass-keeps e k t (Spent M t) (spent-keeps k M t) (record { formed = formed; spent = refl })
 

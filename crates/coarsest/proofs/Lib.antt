@@ -1,5 +1,4 @@
 -- Laws that belong to no one function.
-pub mod Pair
 pub mod Forced
 pub mod Roots
 pub mod Find

@@ -49,13 +49,3 @@ cell-sides M t formed i h =
     let m = level-most M t formed i h in
     let l = s.level in
     rw (s.box, s.level) (place-sides M (at t n.root).box (r.wide, r.high) n.path (omega arith))
-
--- so a cell is cut at its exact middles
-pub cell-middles : (M : ℕ) (t : List Cell) → Formed M t → (i : ℕ) → i < length t
-    → (mid (at t i).box.x0 (at t i).box.x1 + mid (at t i).box.x0 (at t i).box.x1 ≡ (at t i).box.x0 + (at t i).box.x1)
-    × (mid (at t i).box.y0 (at t i).box.y1 + mid (at t i).box.y0 (at t i).box.y1 ≡ (at t i).box.y0 + (at t i).box.y1)
-cell-middles M t formed i h =
-    let m = level-most M t formed i h in
-    let e : M + 1 - (at t i).level ≡ suc (M - (at t i).level) = omega arith in
-    let s = subst (λ (n : ℕ). Sides n (at t i).box) e (cell-sides M t formed i h) in
-    (middle (M - (at t i).level) (at t i).box.x0 (at t i).box.x1 s.0, middle (M - (at t i).level) (at t i).box.y0 (at t i).box.y1 s.1)

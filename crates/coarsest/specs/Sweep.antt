@@ -1,7 +1,7 @@
 -- A pass as the code's loops make it, over all ids below the pass's starting count. It is `pass` (proofs/Passes.antt):
 -- a cell that is no leaf at the pass's start is none later on, and nothing is due for it.
-use Rattle.std.specs.Prelude.{ℕ, zero, suc, Bool, false, ◌||◌, List, [], ◌∷◌, length}
-use Rattle.table.specs.Mesh.{Cell, split}
+use Rattle.std.specs.Prelude.{ℕ, zero, suc, List, length}
+use Rattle.table.specs.Mesh.{Cell}
 use Rattle.coarsest.specs.declared.Engine.{Engine}
 use Rattle.coarsest.specs.Passes.{step}
 
@@ -17,14 +17,3 @@ rows e k n t (suc a) = row e k (rows e k n t a) a n
 
 unfoldable pub sweep : Engine → ℕ → List Cell → List Cell
 sweep e k t = rows e k (length t) t (length t)
-
--- a row at one blow (proofs/Rows.antt): a balancing one splits each b that is due at its start, and a conforming one a,
--- if any b asks for it
-
-unfoldable pub split_each : List Cell → List ℕ → List Cell
-split_each t [] = t
-split_each t (c ∷ cs) = split_each (split t c) cs
-
-unfoldable pub any_to : (ℕ → Bool) → ℕ → Bool
-any_to f zero = false
-any_to f (suc n) = any_to f n || f n

@@ -24,7 +24,7 @@ pub fn due(a: Cell, b: Cell, k: u64) -> bool
 {
     // Most pairs are told by their levels, so the rectangles come last; a difference of levels cannot wrap where a sum
     // could.
-    if (a.first != Cell::NO_CELL) | (b.first != Cell::NO_CELL) {
+    if !(a.is_leaf() & b.is_leaf()) {
         return false;
     }
     if a.level <= b.level {

@@ -1,5 +1,5 @@
 -- Taking splits back: what stands at each index, that a well-formed row is as it was, and that a split leaves no trace. Assumes nothing.
-use Rattle.std.proofs.Common.{ℕ, zero, suc, ◌+◌, ◌*◌, ◌/◌, ◌%◌, ◌<◌, ◌≤◌, ◌≡◌, refl, sym, ap, ◌∙◌, Bool, true, false, cond, List, [], ◌∷◌, ◌++◌, append-nil, ◌≢◌, inl, arith, add-zero, add-one, ℤ, pos, length, get_or, set, take, drop, ext_get_or, take_all, take-suc, drop-cons, length-take-le, le-leb, eq-eqb, ne_eqb, eqb-true}
+use Rattle.std.proofs.Common.{zero-add, ℕ, suc, ◌+◌, ◌*◌, ◌/◌, ◌%◌, ◌<◌, ◌≤◌, ◌≡◌, refl, sym, ap, ◌∙◌, Bool, true, false, cond, List, [], ◌∷◌, ◌++◌, append-nil, ◌≢◌, inl, arith, add-one, ℤ, pos, length, get_or, set, take, drop, ext_get_or, take_all, take-suc, drop-cons, length-take-le, le-leb, eq-eqb, ne_eqb, eqb-true}
 use mathlib.Core.Logic.{by_cases}
 use native.Mathlib.Decide.{dec_lt, ℕ_discrete}
 use lib.Signed.{le_z}
@@ -19,33 +19,23 @@ use Rattle.table.proofs.Cells.{length-table, at_table}
 use Rattle.table.proofs.Wellformed.{opt-some}
 use Rattle.table.proofs.Splits.{length-split_row, split_row-self, split_row-old-held}
 use Rattle.table.proofs.Exact.{exact}
-use Rattle.even.specs.Undo.{undone_at, map_from, undone}
+use Rattle.std.specs.List.{enumerate_from}
+use Rattle.std.proofs.lemmas.List.{length-map, get_or-map}
+use Rattle.std.proofs.lemmas.List.FromFn.{length-enumerate_from, get_or-enumerate_from}
+use Rattle.even.specs.Undo.{undone_at, undone}
 
 -- ---- number by number
 
-module _ (f : ℕ → ℤ → ℤ) where
-  length_from : (j : ℕ) (t : List ℤ) → length (map_from f j t) ≡ length t
-  unfolding map_from
-  length_from j [] = refl
-  length_from j (z ∷ zs) = ap suc (length_from (suc j) zs)
-
-  from_at : (j : ℕ) (t : List ℤ) (i : ℕ) → i < length t → get_or (map_from f j t) i (pos 0) ≡ f (j + i) (get_or t i (pos 0))
-  unfolding map_from
-  from_at j [] i h = absurd (let l : i < 0 = h in omega arith)
-  from_at j (z ∷ zs) zero h = ap (λ (k : ℕ). f k z) (sym (add-zero j))
-  from_at j (z ∷ zs) (suc i) h =
-      let e : suc j + i ≡ j + suc i = omega arith in
-      from_at (suc j) zs i (omega arith) ∙ ap (λ (k : ℕ). f k (get_or zs i (pos 0))) e
-
 pub length-undone : (n : ℕ) (t : List ℤ) → length (undone n t) ≡ length t
 unfolding undone
-length-undone n t = length_from (undone_at n) 0 t
+length-undone n t = length-map (enumerate_from 0 t) _ ∙ length-enumerate_from 0 t
 
 pub undone-at : (n : ℕ) (t : List ℤ) (j : ℕ) → j < length t → get_or (undone n t) j (pos 0) ≡ undone_at n j (get_or t j (pos 0))
 unfolding undone
 undone-at n t j h =
-    let e : 0 + j ≡ j = omega arith in
-    from_at (undone_at n) 0 t j h ∙ ap (λ (k : ℕ). undone_at n k (get_or t j (pos 0))) e
+    let each = λ (z : ℕ × ℤ). undone_at n z.0 z.1 in
+    get_or-map each (enumerate_from 0 t) j (0, pos 0) (pos 0) (omega (arith, length-enumerate_from 0 t))
+    ∙ ap each (get_or-enumerate_from 0 t j (0, pos 0) h ∙ ap (λ (k : ℕ). (k, get_or t j (pos 0))) (zero-add j))
 
 -- rows whose numbers are undone to the same are undone to the same row
 pub undone-same : (m : ℕ) (t u : List ℤ) → length u ≡ length t

@@ -2,7 +2,7 @@
 ghost use Rattle.std.specs.Prelude.{◌≡◌, ◌*◌, ◌<◌, ◌≤◌, length};
 ghost use Rattle.even.specs.Undo.{undone_at, undone};
 
-use cell::Cell;
+use table::slots::NO_CELL;
 
 #[tactic(auto, unfolding(crate::specs::Undo::undone_at))]
 fn undone_at(n: usize, j: usize, z: i64) -> i64
@@ -12,7 +12,7 @@ fn undone_at(n: usize, j: usize, z: i64) -> i64
     if n * 8 <= j {
         0
     } else if (j % 8 == 6) & (n as i64 <= z) {
-        Cell::NO_CELL as i64
+        NO_CELL
     } else {
         z
     }

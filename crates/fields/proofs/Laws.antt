@@ -239,15 +239,6 @@ many_length {A} item leaves seen (suc n) old e =
     let made : List A × Cursor = (p.0.0 ∷ q.0.0, q.0.1) in
     ap (λ (x : List A × Cursor). length x.0) (sym (ok_is {x = made} q.2)) ∙ ap suc (many_length item leaves (leaves p.0.0) n p.0.1 q.1)
 
--- what is read of a range lies in it
-pub ranged_within : (w : Width) (low high : ℕ) (old : Cursor) {n : ℕ} {new : Cursor} → (ranged w low high).reading old ≡ Ok (n, new) → (low ≤ n) × (n ≤ high)
-ranged_within w low high old {n} {new} e =
-    let b = bind_ok (number w old) (λ m. require (leb low m.0 && leb m.0 high) (OutOfRange old.at) (Ok m)) e in
-    let t = require_ok (leb low b.0.0 && leb b.0.0 high) (OutOfRange old.at) (Ok b.0) b.2 in
-    let f = each (leb low b.0.0) (leb b.0.0 high) t.0 in
-    let is : b.0.0 ≡ n = ap (λ (x : ℕ × Cursor). x.0) (ok_is t.1) in
-    subst (λ (m : ℕ). (low ≤ m) × (m ≤ high)) is (leb-true low b.0.0 f.0, leb-true b.0.0 high f.1)
-
 -- ---- what a field that was read is made of
 
 pub number_room : (w : Width) (old : Cursor) {x : ℕ × Cursor} → number w old ≡ Ok x → byte_len w ≤ length old.rest

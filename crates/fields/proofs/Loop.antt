@@ -20,13 +20,6 @@ regroup front x (Ok xs) = rw append_assoc refl
 regroup front x (Err e) = refl
 
 module _ {A S : Type 0} (item : S → Codec A) (leaves : A → S) (seen : S) (n : ℕ) (old : Cursor) where
-  pub begins : IsAt item leaves seen n old 0 [] seen old
-  begins = record { long = refl; still = let k : n - 0 ≡ n = omega arith in rw k (alone (many item leaves seen n old)) }
-    where
-      alone : (reading : Result (List A × Cursor) Refusal) → with_front [] reading ≡ reading
-      alone (Ok xs) = refl
-      alone (Err e) = refl
-
   module _ (i : ℕ) (front : List A) (state : S) (c : Cursor) (so_far : IsAt item leaves seen n old i front state c) where
     pub goes_on : (x : A) (next : Cursor) → i < n → (item state).reading c ≡ Ok (x, next) → IsAt item leaves seen n old (i + 1) (front ++ x ∷ []) (leaves x) next
     unfolding many

@@ -1,5 +1,6 @@
 -- One description of a field for who reads it and who writes it.
-use Rattle.std.specs.Prelude.{ℕ, zero, suc, ◌^◌, List, [], ◌∷◌, ◌++◌, length, Bool, true, ◌&&◌, nat_le, nat_lt, Result, Ok, ℤ}
+use Rattle.std.specs.Prelude.{ℕ, zero, suc, ◌^◌, List, [], ◌∷◌, ◌++◌, length, Bool, true, ◌&&◌}
+use Rattle.std.specs.Prelude.{nat_le, nat_lt, Result, Ok, ℤ}
 use Rattle.std.specs.List.{flat_map}
 use Rattle.std.specs.Int.{Width, byte_len, to_be_bytes, w64, cast_unsigned}
 use Rattle.refusals.specs.declared.Refusal.{Refusal}

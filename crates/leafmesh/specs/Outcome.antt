@@ -1,14 +1,14 @@
 -- An Outcome of what a call says: every field is settled, and one that does not apply is 0.
-use Rattle.std.specs.Prelude.{ℕ, get_or, ℤ}
+use Rattle.std.specs.Prelude.{ℕ, slice_index, ℤ}
 use Rattle.refusals.specs.Said.{Said, accepted, refused}
 use Rattle.build.specs.declared.Settings as Cutting
 use Rattle.record.specs.declared.board.Settings as Recorded
-use Rattle.contact.specs.declared.Rect.{Rect}
+use Rattle.cell.specs.declared.rectangles.Rect.{Rect}
 use Rattle.leafmesh.specs.declared.Outcome.{Outcome}
 
 -- an Outcome has one value: the first where an answer has more, 0 where it has none
 abbrev pub outcome_of : Said → Outcome
-outcome_of (accepted vs) = record { number = 0; place = 0; value = get_or vs 0 0 }
+outcome_of (accepted vs) = record { number = 0; place = 0; value = slice_index vs 0 }
 outcome_of (refused n p) = record { number = n; place = p; value = 0 }
 
 abbrev pub rect_of : ℤ → ℤ → ℤ → ℤ → Rect

@@ -1,5 +1,5 @@
 -- A ReadOutcome of what a read says: every field is settled, and one that does not apply is 0.
-use Rattle.std.specs.Prelude.{ℕ, List, [], get_or}
+use Rattle.std.specs.Prelude.{ℕ, List, [], slice_index}
 use Rattle.refusals.specs.Said.{Said, accepted, refused}
 use Rattle.leafmesh.specs.declared.boards.ReadOutcome.{ReadOutcome}
 
@@ -9,13 +9,13 @@ read_with n p vs =
     record {
       number = n;
       place = p;
-      level = get_or vs 0 0;
-      cap = get_or vs 1 0;
-      target = get_or vs 2 0;
-      layers = get_or vs 3 0;
-      polygons = get_or vs 4 0;
-      points = get_or vs 5 0;
-      splits = get_or vs 6 0;
+      level = slice_index vs 0;
+      cap = slice_index vs 1;
+      target = slice_index vs 2;
+      layers = slice_index vs 3;
+      polygons = slice_index vs 4;
+      points = slice_index vs 5;
+      splits = slice_index vs 6;
     }
 
 abbrev pub read_outcome_of : Said → ReadOutcome

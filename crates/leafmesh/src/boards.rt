@@ -1,4 +1,4 @@
-// Rings, boards and board records.
+//! Rings, boards and board records.
 ghost use Rattle.std.specs.Prelude.{◌≡◌, length};
 ghost use Rattle.refusals.specs.Said.{refusal};
 ghost use Rattle.strips.specs.Said.{strips_says, strips_leave};
@@ -15,7 +15,7 @@ use build::outlines::Outlines;
 use record::{BoardRows, BoardRowsMut, Read, Settings};
 use refusals::Refusal;
 
-// What a read answers: number and place as in an Outcome, then the settings and how many rows the board takes.
+/// What a read answers: number and place as in an Outcome, then the settings and how many rows the board takes.
 #[repr(C)]
 #[derive(Clone, Copy)]
 pub struct ReadOutcome {
@@ -66,7 +66,7 @@ fn of_read(answer: Result<Read, Refusal>) -> ReadOutcome
     }
 }
 
-// The strips of a ring: value is how many.
+/// The strips of a ring: value is how many.
 #[unsafe(no_mangle)]
 pub extern "C" fn leafmesh_strips(points: &[[i64; 2]], out: &mut [[i64; 4]]) -> Outcome
     ensures value { result ≡ outcome_of (strips_says points.now (length out.old)) }
@@ -75,7 +75,7 @@ pub extern "C" fn leafmesh_strips(points: &[[i64; 2]], out: &mut [[i64; 4]]) -> 
     of_count(strips::strips(points, out))
 }
 
-// The roots of a board: value is how many.
+/// The roots of a board: value is how many.
 #[unsafe(no_mangle)]
 pub extern "C" fn leafmesh_build(
     max_level: u64,
@@ -113,7 +113,7 @@ pub extern "C" fn leafmesh_build(
     of_count(build::build(s, list, &outlines, table))
 }
 
-// A board record into lent rows.
+/// A board record into lent rows.
 #[unsafe(no_mangle)]
 pub extern "C" fn leafmesh_read(
     bytes: &[u8],
@@ -138,7 +138,7 @@ pub extern "C" fn leafmesh_read(
     of_read(record::read(bytes, rows))
 }
 
-// Lent rows as a board record: value is its length in bytes.
+/// Lent rows as a board record: value is its length in bytes.
 #[unsafe(no_mangle)]
 pub extern "C" fn leafmesh_write(
     level: u64,

@@ -1,11 +1,11 @@
-// The public calls for programs in other languages: the C names of the static library, and nothing else.
-//
-// A slice is passed as a pointer and a length. Every call answers an Outcome by value.
+//! The public calls for programs in other languages: the C names of the static library, and nothing else.
+//!
+//! A slice is passed as a pointer and a length. Every call answers an Outcome by value.
 #![tactic(auto)]
 
 ghost use Rattle.std.specs.Prelude.{◌≡◌, [], ◌∷◌};
 ghost use Rattle.refusals.specs.Said.{accepted, refusal, said, bit};
-ghost use Rattle.contact.specs.Contact.{contact_said, contact_says};
+ghost use Rattle.cell.specs.Contact.{contact_said, contact_says};
 ghost use Rattle.table.specs.Rows.{head_of, leaves_in, order_in};
 ghost use Rattle.table.specs.Leaves.{leaf_count_says, list_says, listed_row};
 ghost use Rattle.table.specs.Refine.{refined_said, refine_says, refined_row};
@@ -17,13 +17,13 @@ pub mod boards;
 pub mod laws;
 pub mod nets;
 
-use contact::Rect;
+use cell::rectangles::{self, Rect};
 use even::Evening;
 use refusals::Refusal;
 use table::Head;
 
-// number is 0 where the call was accepted, and value then its answer; otherwise the refusal's number, with its place.
-// In every answer of this library a field that does not apply is 0.
+/// What a call answers: number is 0 where it was accepted, and value then its answer; otherwise number and place are
+/// those of the refusal. In every answer of this library a field that does not apply is 0.
 #[repr(C)]
 #[derive(Clone, Copy)]
 pub struct Outcome {
@@ -32,6 +32,7 @@ pub struct Outcome {
     pub value: u64,
 }
 
+/// An accepted call's answer.
 pub fn accept(value: u64) -> Outcome
     ensures { result ≡ outcome_of (accepted (value ∷ [])) }
 {
@@ -42,6 +43,7 @@ pub fn accept(value: u64) -> Outcome
     }
 }
 
+/// A refused call's answer.
 pub fn refuse(why: Refusal) -> Outcome
     ensures { result ≡ outcome_of (refusal why) }
 {
@@ -53,7 +55,7 @@ pub fn refuse(why: Refusal) -> Outcome
     }
 }
 
-// A call that answers with one number.
+/// A call that answers with one number.
 pub fn of_count(answer: Result<usize, Refusal>) -> Outcome
     ensures { result ≡ outcome_of (said (λ n. n ∷ []) answer) }
 {
@@ -90,7 +92,7 @@ fn of_evening(answer: Result<Evening, Refusal>) -> Outcome
     }
 }
 
-// Whether two rectangles share an edge: value 1 or 0.
+/// Whether two rectangles share an edge: value 1 or 0.
 #[unsafe(no_mangle)]
 pub extern "C" fn leafmesh_contact(
     ax0: i64,
@@ -116,10 +118,10 @@ pub extern "C" fn leafmesh_contact(
         x1: bx1,
         y1: by1,
     };
-    of_contact(contact::between(a, b))
+    of_contact(rectangles::between(a, b))
 }
 
-// How many leaves the table has.
+/// How many leaves the table has.
 #[unsafe(no_mangle)]
 pub extern "C" fn leafmesh_leaf_count(table: &[i64], count: usize, max_level: u64) -> Outcome
     ensures { result ≡ outcome_of (leaf_count_says table.now (head_of count max_level)) }
@@ -127,7 +129,7 @@ pub extern "C" fn leafmesh_leaf_count(table: &[i64], count: usize, max_level: u6
     of_count(table::leaves::leaf_count(table, Head { count, max_level }))
 }
 
-// The leaves' ids, rising, into the front of out: value is how many.
+/// The leaves' ids, rising, into the front of out: value is how many.
 #[unsafe(no_mangle)]
 pub extern "C" fn leafmesh_leaves(
     table: &[i64],
@@ -143,7 +145,7 @@ pub extern "C" fn leafmesh_leaves(
     of_count(table::leaves::leaves(table, Head { count, max_level }, out))
 }
 
-// The same by polygon, then id.
+/// The same by polygon, then id.
 #[unsafe(no_mangle)]
 pub extern "C" fn leafmesh_leaf_order(
     table: &[i64],
@@ -159,7 +161,7 @@ pub extern "C" fn leafmesh_leaf_order(
     of_count(table::leaves::leaf_order(table, Head { count, max_level }, out))
 }
 
-// Splits the leaf with this id: value is the new count.
+/// Splits the leaf with this id: value is the new count.
 #[unsafe(no_mangle)]
 pub extern "C" fn leafmesh_refine(
     table: &mut [i64],
@@ -173,24 +175,20 @@ pub extern "C" fn leafmesh_refine(
     of_refined(table::refine::refine(table, Head { count, max_level }, id))
 }
 
-// Balances the table: value is the number of splits, each four cells more.
+/// Balances the table: value is the number of splits, each four cells more.
 #[unsafe(no_mangle)]
 pub extern "C" fn leafmesh_balance(table: &mut [i64], count: usize, max_level: u64) -> Outcome
-    ensures value { result ≡ outcome_of (even_says Balancing 1 table.old
-        (record { count = count; max_level = max_level })) }
-    ensures table_after { table.new ≡ even_row Balancing 1 table.old
-        (record { count = count; max_level = max_level }) }
+    ensures value { result ≡ outcome_of (even_says Balancing 1 table.old (head_of count max_level)) }
+    ensures table_after { table.new ≡ even_row Balancing 1 table.old (head_of count max_level) }
 {
     of_evening(even::balance(table, Head { count, max_level }))
 }
 
-// The same until no two neighbours differ in level.
+/// The same until no two neighbours differ in level.
 #[unsafe(no_mangle)]
 pub extern "C" fn leafmesh_conform(table: &mut [i64], count: usize, max_level: u64) -> Outcome
-    ensures value { result ≡ outcome_of (even_says Conforming 0 table.old
-        (record { count = count; max_level = max_level })) }
-    ensures table_after { table.new ≡ even_row Conforming 0 table.old
-        (record { count = count; max_level = max_level }) }
+    ensures value { result ≡ outcome_of (even_says Conforming 0 table.old (head_of count max_level)) }
+    ensures table_after { table.new ≡ even_row Conforming 0 table.old (head_of count max_level) }
 {
     of_evening(even::conform(table, Head { count, max_level }))
 }

@@ -1,5 +1,5 @@
 -- The rows that a record was read to give its board. Assumes nothing.
-use Rattle.std.proofs.Common.{ℕ, ◌+◌, ◌≤◌, ◌<◌, ◌≡◌, refl, sym, ap, ap₂, subst, ◌∙◌, true, ◌&&◌, List, [], ◌∷◌, map, leb, length, get_or, take, leb-true, Result, Ok, Err}
+use Rattle.std.proofs.Common.{ℕ, ◌≤◌, ◌<◌, ◌≡◌, refl, sym, ap, ap₂, subst, ◌∙◌, true, List, [], ◌∷◌, map, leb, length, get_or, take, leb-true, Result, Ok, Err}
 use mathlib.Core.List.{map-map}
 use lib.ListN.{length-map, length-replicate}
 use Rattle.refusals.specs.Said.{accepted, refusal}

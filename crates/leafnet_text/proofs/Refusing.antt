@@ -1,9 +1,10 @@
 -- What a refusal prints. Assumes nothing.
-use Rattle.std.proofs.Common.{◌<◌, ◌≤◌, ◌≡◌, refl, length, le-leb, sym, ap, subst, ◌∙◌, false, List, ℕ, [], Result, Err}
+use Rattle.std.proofs.Common.{◌<◌, ◌≤◌, ◌≡◌, refl, length, le-leb, sym, ap, subst, ◌∙◌, Bool, true, false, cond, List, ℕ, [], Result, Err}
 use Rattle.refusals.specs.declared.Refusal.{Refusal}
 use borrow.Author.Tests.{lt-leb}
-use Rattle.refusals.specs.Said.{Said, refused, refusal, is_accepted}
+use Rattle.refusals.specs.Said.{Said, accepted, refused, refusal, is_accepted}
 use Rattle.refusals.proofs.Settled.{as-refused}
+use Rattle.build.proofs.Fitting.{refused-accepted}
 use Rattle.leafnet_text.specs.declared.stop.Stop.{Stop}
 use Rattle.leafnet_text.specs.declared.stop.Stop.TheVariants.{Refused, OutOfMemory}
 use Rattle.leafnet_text.specs.Lines.{refusal_line}
@@ -26,6 +27,11 @@ refused-line why =
 -- a refusal is not accepted
 pub not-accepted : (why : Refusal) → is_accepted (refusal why) ≡ false
 not-accepted why = let r = as-refused why in ap is_accepted r.2
+
+-- a step that is accepted by a test has passed it
+pub accepted-if : (b : Bool) (passed : Said) (why : Refusal) (vs : List ℕ) → accepted vs ≡ cond b passed (refusal why) → (b ≡ true) × (accepted vs ≡ passed)
+accepted-if true passed why vs e = (refl, e)
+accepted-if false passed why vs e = let r = as-refused why in absurd (refused-accepted r.0 r.1 vs (sym (e ∙ r.2)))
 
 -- an answer that is this refusal
 pub prints-refused : {A : Type 0} (r : Result A Refusal) (why : Refusal) (next : A → List ℕ) (text : List ℕ)

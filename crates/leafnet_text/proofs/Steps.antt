@@ -1,5 +1,5 @@
 -- From a board to its balanced table: what is printed where a step refuses, and what an accepted step leaves. Assumes nothing.
-use Rattle.std.proofs.Common.{ℕ, ◌-◌, ◌/◌, ◌≡◌, sym, ap, ◌∙◌, Bool, true, false, cond, List, [], ◌∷◌, leb, ℤ, length}
+use Rattle.std.proofs.Common.{ℕ, ◌-◌, ◌/◌, ◌≡◌, sym, ap, ◌∙◌, List, [], ◌∷◌, leb, ℤ, length}
 use Rattle.refusals.specs.declared.Refusal.{Refusal}
 use Rattle.refusals.specs.declared.Refusal.TheVariants.{BadTable, NoRoom}
 use Rattle.refusals.specs.Said.{Said, accepted, refusal}
@@ -7,38 +7,28 @@ use Rattle.strips.specs.Said.{if_accepted}
 use Rattle.table.specs.declared.Head.{Head}
 use Rattle.table.specs.Rows.{head_of}
 use Rattle.table.specs.Formed.{well_formed}
-use Rattle.build.proofs.Fitting.{refused-accepted}
 use Rattle.build.proofs.Formed.{passed-size}
 use Rattle.coarsest.specs.declared.Engine.TheVariants.{Balancing}
 use Rattle.even.specs.Even.{even_cells, even_says}
 use Rattle.leafnet_text.specs.Rooms.{table_room}
-use Rattle.leafnet_text.specs.Boards.{Given, polygons_of}
+use Rattle.leafnet_text.specs.Boards.{Given}
 use Rattle.leafnet_text.specs.Growing.{roots_say, roots_row, roots_head, splits_say, split_row, split_head, balance_says, balanced_row, balanced_head, balance_splits}
 use Rattle.leafnet_text.specs.Output.{unless_refused, table_text, board_text}
-use Rattle.leafnet_text.proofs.Refusing.{refused-text}
+use Rattle.leafnet_text.proofs.Refusing.{accepted-if, refused-text}
 use Rattle.leafnet_text.proofs.Refining.{all-values}
 
 -- the values of an accepted balance
 even-values : (row : List ℤ) (head : Head) (vs : List ℕ) → accepted vs ≡ even_says Balancing 1 row head
     → let cells = length (even_cells Balancing 1 row head) in accepted vs ≡ accepted ((cells - head.count) / 4 ∷ cells ∷ head.max_level ∷ [])
 unfolding even_says
-even-values row head vs e = by (well_formed row head.count head.max_level) (leb cells (length row / 8)) e
-  where
-    cells : ℕ
-    cells = length (even_cells Balancing 1 row head)
-
-    done : Said
-    done = accepted ((cells - head.count) / 4 ∷ cells ∷ head.max_level ∷ [])
-
-    by : (p q : Bool) → accepted vs ≡ cond p (cond q done (refusal NoRoom)) (refusal BadTable) → accepted vs ≡ done
-    by true true e = e
-    by true false e = absurd (refused-accepted 6 0 vs (sym e))
-    by false q e = absurd (refused-accepted 7 0 vs (sym e))
+even-values row head vs e =
+    let cells = length (even_cells Balancing 1 row head) in
+    (accepted-if (leb cells (length row / 8)) _ NoRoom vs (accepted-if (well_formed row head.count head.max_level) _ BadTable vs e).1).1
 
 module _ (g : Given) where
   -- what is printed once nothing refuses, and from each step on
   abbrev last : List ℕ
-  last = table_text (balanced_row g) (balanced_head g) (balance_splits g) (polygons_of g)
+  last = table_text g (balanced_row g) (balanced_head g) (balance_splits g)
 
   abbrev from_balance : List ℕ
   from_balance = unless_refused (balance_says g) last
@@ -83,7 +73,7 @@ module _ (g : Given) where
   -- nothing refuses
   pub grown-text : (n k m splits : ℕ) (head : Head) (row : List ℤ) → accepted (n ∷ []) ≡ roots_say g → accepted (k ∷ m ∷ []) ≡ splits_say g
       → accepted (splits ∷ head.count ∷ head.max_level ∷ []) ≡ balance_says g → row ≡ balanced_row g
-      → board_text g ≡ table_text row head splits (polygons_of g)
+      → board_text g ≡ table_text g row head splits
   unfolding board_text
   grown-text n k m splits head row e f h r =
       let v = even-values (split_row g) (split_head g) (splits ∷ head.count ∷ head.max_level ∷ []) h in
@@ -94,4 +84,4 @@ module _ (g : Given) where
       ap (λ (s : Said). unless_refused s from_splits) (sym e)
       ∙ ap (λ (s : Said). unless_refused s from_balance) (sym f)
       ∙ ap (λ (s : Said). unless_refused s last) (sym h)
-      ∙ sym (λ i. table_text (r i) (same i) (s i) (polygons_of g))
+      ∙ sym (λ i. table_text g (r i) (same i) (s i))

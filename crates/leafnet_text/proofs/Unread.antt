@@ -1,12 +1,13 @@
 -- Of input that is too long no more is read than shows it. Assumes nothing.
-use Rattle.std.proofs.Common.{ℕ, ◌+◌, ◌<◌, ◌≡◌, refl, sym, ap, ◌∙◌, Bool, true, false, List, arith, leb, leb-true, length, take, length-take-le}
+use Rattle.std.proofs.Common.{ℕ, ◌+◌, ◌<◌, ◌≡◌, refl, sym, ap, ◌∙◌, Bool, true, false, List, arith, leb, leb-true, length, take, length-take-le, Option, Some, None}
 use borrow.Author.Tests.{leb-false}
+use Rattle.std.specs.Prelude.{IfSome}
 use Rattle.std.proofs.lemmas.List.{take_all}
 use Rattle.leafnet_text.specs.Rooms.{input_room}
 use Rattle.leafnet_text.specs.Output.{output_text}
 use Rattle.leafnet_text.proofs.Refusing.{too_long}
 
-pub unread : (s : List ℕ) → output_text (take (input_room + 1) s) ≡ output_text s
+unread : (s : List ℕ) → output_text (take (input_room + 1) s) ≡ output_text s
 unread s = by (leb (length s) input_room) refl
   where
     by : (b : Bool) → leb (length s) input_room ≡ b → output_text (take (input_room + 1) s) ≡ output_text s
@@ -15,3 +16,9 @@ unread s = by (leb (length s) input_room) refl
         let more : input_room < length s = leb-false (length s) input_room e in
         let longer : input_room < length (take (input_room + 1) s) = omega (arith, length-take-le (input_room + 1) s (omega arith)) in
         too_long (take (input_room + 1) s) longer ∙ sym (too_long s more)
+
+-- so the front that is read prints what all of it would
+pub front-text : (known : Option (List ℕ)) (front : List ℕ) (n : ℕ) → n ≡ input_room + 1 → IfSome known (λ s. front ≡ take n s)
+    → IfSome known (λ s. output_text front ≡ output_text s)
+front-text (Some s) front n room read = ap output_text (read ∙ ap (λ k. take k s) room) ∙ unread s
+front-text None front n room read = tt

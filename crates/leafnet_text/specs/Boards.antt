@@ -1,4 +1,5 @@
 -- A record's board as the calls behind the reader take it.
+use denote.Ref.{Bor}
 use Rattle.std.specs.Prelude.{ℕ, ◌^◌, ◌<◌, List, map, All, ℤ, Float, slice_index, Result}
 use Rattle.build.specs.declared.Settings as Build
 use Rattle.build.specs.Board as Outline
@@ -7,7 +8,7 @@ use Rattle.record.specs.declared.board.Settings.{Settings}
 use Rattle.record.specs.Board.{Board, points_in}
 use Rattle.record.specs.Rows.{entry_row, sheet_of, point_row, rings}
 use Rattle.record.specs.Reading.{reading}
-use Rattle.network.specs.Says as Network
+use Rattle.net_rows.specs.declared.rows.Polygons.{Polygons}
 use Rattle.leafnet_text.specs.declared.input.Board as Held
 use Rattle.leafnet_text.specs.Rooms.{record_rows}
 
@@ -37,8 +38,16 @@ abbrev pub given_of : Held.Board → Given
 given_of b =
     given b.settings b.list.items b.layers.items b.components.items b.sheets.items b.counts.items b.points.items b.splits.items
 
-abbrev pub polygons_of : Given → Network.Polygons
-polygons_of g = Network.polygons g.board.layers g.components g.sheets
+-- numbers as a row that lies anywhere
+abbrev lent : List ℕ → Bor (List ℕ)
+lent numbers = record { ref_ptr = (0, 0); now = numbers }
+
+-- the polygons in rows as the network call is lent them
+abbrev pub polygons_in : List ℕ → List ℕ → Polygons
+polygons_in layers components = record { layers = lent layers; components = lent components }
+
+abbrev pub polygons_of : Given → Polygons
+polygons_of g = polygons_in g.board.layers g.components
 
 -- the board of a record, or the refusal: 6 for one that has more than there is room for, once all of it is judged
 abbrev pub board_in : List ℕ → Result Board Refusal

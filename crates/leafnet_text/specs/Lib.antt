@@ -4,9 +4,7 @@ pub mod Rooms
 pub mod Boards
 pub mod Refining
 pub mod Growing
-pub mod Nets
 pub mod Output
-pub mod Listed
 pub mod Held
 pub mod Worked
 pub mod Fronts

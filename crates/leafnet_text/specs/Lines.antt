@@ -1,13 +1,14 @@
 -- The rules' lines of `leafnet`, each without its newline.
-use Rattle.std.specs.Prelude.{ℕ, ◌-◌, List, [], ◌++◌, codes, decimal, false, length, replicate, Float}
+use Rattle.std.specs.Prelude.{ℕ, ◌-◌, List, [], ◌++◌, codes, decimal, false, length, replicate}
 use Rattle.std.specs.Fmt.{signed_decimal, digits}
 use Rattle.std.specs.Float.{binary64}
 use Rattle.std.specs.Float.Ieee.{to_bits}
 use Rattle.refusals.specs.Said.{Said, accepted, refused}
+use Rattle.net_rows.specs.declared.rows.Node.{Node}
+use Rattle.net_rows.specs.declared.rows.Edge.{Edge}
 use Rattle.leafnet_text.specs.declared.lines.Totals.{Totals}
 use Rattle.leafnet_text.specs.declared.lines.Corners.{Corners}
 use Rattle.leafnet_text.specs.declared.lines.Leaf.{Leaf}
-use Rattle.leafnet_text.specs.declared.lines.Node.{Node}
 
 abbrev pub space : List ℕ
 space = codes " "
@@ -31,9 +32,9 @@ leaf_line l =
     codes "leaf " ++ (decimal l.id ++ (space ++ (decimal l.polygon ++ (space ++ (decimal l.level ++ (space ++ corners_text l.corners))))))
 
 -- number layer component x y
-abbrev pub node_line : Node → List ℕ
-node_line n =
-    codes "node " ++ (decimal n.number ++ (space ++ (signed_decimal n.layer ++ (space ++ (signed_decimal n.component
+abbrev pub node_line : ℕ → Node → List ℕ
+node_line number n =
+    codes "node " ++ (decimal number ++ (space ++ (decimal n.layer ++ (space ++ (decimal n.component
     ++ (space ++ (signed_decimal n.x ++ (space ++ signed_decimal n.y))))))))
 
 -- 64 bits as 16 lower-case digits in base 16: zeros stand in front of a number of fewer
@@ -41,9 +42,9 @@ abbrev pub hex_16 : ℕ → List ℕ
 hex_16 n = replicate (16 - length (digits 16 false n)) 48 ++ digits 16 false n
 
 -- the two ends, and the conductance's binary64 bits
-abbrev pub edge_line : ℕ → ℕ → Float → List ℕ
-edge_line from to conductance =
-    codes "edge " ++ (decimal from ++ (space ++ (decimal to ++ (space ++ hex_16 (to_bits binary64 conductance)))))
+abbrev pub edge_line : Edge → List ℕ
+edge_line e =
+    codes "edge " ++ (decimal e.from ++ (space ++ (decimal e.to ++ (space ++ hex_16 (to_bits binary64 e.conductance)))))
 
 -- number and place of a refusal
 abbrev pub refusal_line : Said → List ℕ

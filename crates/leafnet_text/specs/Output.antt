@@ -1,5 +1,5 @@
 -- What `leafnet` prints for a record: totals, leaves, nodes and edges, each on a line; or the first refusal of any step, on a line, and nothing else.
-use Rattle.std.specs.Prelude.{ℕ, List, [], ◌++◌, codes, ◌≡◌, ⊤, if◌then◌else◌, nat_le, ℤ, pos, length, replicate, Result, Ok, Err}
+use Rattle.std.specs.Prelude.{ℕ, List, [], ◌++◌, codes, ◌≡◌, ⊤, if◌then◌else◌, nat_le, ℤ, length, map, replicate, Result, Ok, Err}
 use Rattle.std.specs.List.{flat_map, enumerate_from}
 use Rattle.refusals.specs.declared.Refusal.{Refusal}
 use Rattle.refusals.specs.Said.{Said, accepted, refused, refusal}
@@ -9,11 +9,12 @@ use Rattle.table.specs.Slots.{cell_at}
 use Rattle.table.specs.Rows.{order_in}
 use Rattle.table.specs.Leaves.{list_says}
 use Rattle.record.specs.Board.{Board}
-use Rattle.net.specs.Net as Net
-use Rattle.network.specs.Says.{Polygons, net_of, network_says}
+use Rattle.net_rows.specs.declared.rows.Node.{Node}
+use Rattle.net_rows.specs.declared.rows.Edge.{Edge}
+use Rattle.net_rows.specs.Nodes.{in_ticks}
+use Rattle.network.specs.Says.{net_of, network_says}
 use Rattle.leafnet_text.specs.declared.lines.Totals.{Totals}
 use Rattle.leafnet_text.specs.declared.lines.Leaf.{Leaf}
-use Rattle.leafnet_text.specs.declared.lines.Node.{Node}
 use Rattle.leafnet_text.specs.declared.stop.Stop.{Stop}
 use Rattle.leafnet_text.specs.declared.stop.Stop.TheVariants.{Refused, OutOfMemory}
 use Rattle.leafnet_text.specs.Lines.{totals_line, leaf_line, node_line, edge_line, refusal_line}
@@ -41,31 +42,17 @@ leaf_at row id =
 abbrev pub leaf_lines : List ℤ → List ℕ → List ℕ
 leaf_lines row = flat_map (λ id. ended (leaf_line (leaf_at row id)))
 
--- a node with its number
-abbrev pub node_of : ℕ × Net.Node → Node
-node_of n = record { number = n.0; layer = pos n.1.layer; component = pos n.1.component; x = on n.1.x; y = on n.1.y }
+abbrev pub node_lines : List Node → List ℕ
+node_lines nodes = flat_map (λ n. ended (node_line n.0 n.1)) (enumerate_from 0 nodes)
 
-abbrev pub node_lines : List Net.Node → List ℕ
-node_lines nodes = flat_map (λ n. ended (node_line (node_of n))) (enumerate_from 0 nodes)
+abbrev pub edge_lines : List Edge → List ℕ
+edge_lines = flat_map (λ e. ended (edge_line e))
 
-abbrev pub edge_lines : List Net.Edge → List ℕ
-edge_lines = flat_map (λ e. ended (edge_line e.a e.b e.g))
-
-abbrev pub totals_of : List ℤ → Head → ℕ → Net.Net → Totals
-totals_of row head splits net =
-    record {
-      cells = head.count;
-      leaves = length (order_in row head);
-      nodes = length net.nodes;
-      edges = length net.edges;
-      splits = splits;
-    }
-
--- of a table, what balance split, and its net
-unfoldable pub lines_text : List ℤ → Head → ℕ → Net.Net → List ℕ
-lines_text row head splits net =
-    ended (totals_line (totals_of row head splits net))
-    ++ (leaf_lines row (order_in row head) ++ (node_lines net.nodes ++ edge_lines net.edges))
+-- of a table, what balance split, the leaves in order, and the net
+unfoldable pub lines_text : List ℤ → Head → ℕ → List ℕ → List Node → List Edge → List ℕ
+lines_text row head splits order nodes edges =
+    let totals : Totals = record { cells = head.count; leaves = length order; nodes = length nodes; edges = length edges; splits = splits } in
+    ended (totals_line totals) ++ (leaf_lines row order ++ (node_lines nodes ++ edge_lines edges))
 
 -- ---- the steps
 
@@ -74,12 +61,15 @@ abbrev pub unless_refused : Said → List ℕ → List ℕ
 unless_refused (accepted values) text = text
 unless_refused (refused number place) text = ended (refusal_line (refused number place))
 
--- a balanced table: its leaf order, and its net
-unfoldable pub table_text : List ℤ → Head → ℕ → Polygons → List ℕ
-table_text row head splits p =
-    unless_refused (list_says row head (order_in row head) (replicate leaf_room 0))
-    (unless_refused (network_says row head.count head.max_level p net_rows)
-    (lines_text row head splits (net_of row head.count p)))
+-- of a board's table and what balance split: its net
+unfoldable pub net_text : Given → List ℤ → Head → ℕ → List ℕ
+net_text g row head splits =
+    let net = net_of row head (polygons_of g) g.sheets in
+    unless_refused (network_says row head (polygons_of g) g.sheets net_rows) (lines_text row head splits (order_in row head) (map in_ticks net.nodes) net.edges)
+
+-- its leaf order, and its net
+unfoldable pub table_text : Given → List ℤ → Head → ℕ → List ℕ
+table_text g row head splits = unless_refused (list_says row head (order_in row head) (replicate leaf_room 0)) (net_text g row head splits)
 
 -- a board: its roots, the record's splits one by one, balance
 unfoldable pub board_text : Given → List ℕ
@@ -87,7 +77,7 @@ board_text g =
     unless_refused (roots_say g)
     (unless_refused (splits_say g)
     (unless_refused (balance_says g)
-    (table_text (balanced_row g) (balanced_head g) (balance_splits g) (polygons_of g))))
+    (table_text g (balanced_row g) (balanced_head g) (balance_splits g))))
 
 abbrev pub record_text : Result Board Refusal → List ℕ
 record_text (Ok b) = board_text (given_by b)

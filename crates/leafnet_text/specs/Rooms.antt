@@ -3,7 +3,8 @@ use Rattle.std.specs.Prelude.{ℕ, ◌*◌, pos, replicate}
 use Rattle.std.specs.Float.{binary64}
 use Rattle.std.specs.Float.Ieee.{of_bits}
 use Rattle.record.specs.Rows as Record
-use Rattle.network.specs.Says as Net
+use Rattle.net_rows.specs.declared.rows.Corners.{Corners}
+use Rattle.network.specs.Says as Network
 
 -- bytes of input
 abbrev pub input_room : ℕ
@@ -37,9 +38,12 @@ record_rows =
     Record.rows_of (replicate layer_room (replicate 2 0)) (replicate polygon_room (replicate 3 0)) (replicate polygon_room (of_bits binary64 0))
     (replicate point_room (replicate 2 (pos 0))) (replicate split_room 0)
 
+abbrev no_corners : Corners
+no_corners = record { southwest = 0; southeast = 0; northeast = 0; northwest = 0 }
+
 -- the rows of a net of as many leaves as there is room for, and the work room
-abbrev pub net_rows : Net.Rows
+abbrev pub net_rows : Network.Rows
 net_rows =
-    Net.rows (replicate (16 * leaf_room) (pos 0)) (replicate (16 * leaf_room) 0)
-    (replicate (8 * leaf_room) (of_bits binary64 0)) (replicate (4 * leaf_room) 0)
-    (replicate leaf_room (of_bits binary64 0)) (replicate (64 * leaf_room) 0)
+    Network.rows (replicate (4 * leaf_room) (record { layer = 0; component = 0; x = pos 0; y = pos 0 }))
+    (replicate (8 * leaf_room) (record { from = 0; to = 0; conductance = of_bits binary64 0 }))
+    (replicate leaf_room (record { corners = no_corners; sheet = of_bits binary64 0 })) (replicate (64 * leaf_room) 0)

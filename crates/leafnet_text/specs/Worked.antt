@@ -4,7 +4,8 @@ use Rattle.std.specs.Float.{fin}
 use Rattle.refusals.specs.Said.{refused}
 use Rattle.leafnet_text.specs.declared.lines.Totals.{Totals}
 use Rattle.leafnet_text.specs.declared.lines.Leaf.{Leaf}
-use Rattle.leafnet_text.specs.declared.lines.Node.{Node}
+use Rattle.net_rows.specs.declared.rows.Node.{Node}
+use Rattle.net_rows.specs.declared.rows.Edge.{Edge}
 use Rattle.leafnet_text.specs.Lines.{totals_line, leaf_line, node_line, edge_line, refusal_line}
 
 abbrev totals : ℕ → ℕ → ℕ → ℕ → ℕ → Totals
@@ -13,8 +14,11 @@ totals cells leaves nodes edges splits = record { cells = cells; leaves = leaves
 abbrev leaf : ℕ → ℕ → ℕ → ℤ → ℤ → ℤ → ℤ → Leaf
 leaf id polygon level x0 y0 x1 y1 = record { id = id; polygon = polygon; level = level; corners = record { x0 = x0; y0 = y0; x1 = x1; y1 = y1 } }
 
-abbrev node : ℕ → ℤ → ℤ → ℤ → ℤ → Node
-node number layer component x y = record { number = number; layer = layer; component = component; x = x; y = y }
+abbrev node : ℕ → ℕ → ℤ → ℤ → Node
+node layer component x y = record { layer = layer; component = component; x = x; y = y }
+
+abbrev edge : ℕ → ℕ → Float → Edge
+edge from to conductance = record { from = from; to = to; conductance = conductance }
 
 abbrev half : Float
 half = fin false 1 (negsuc 0)
@@ -24,14 +28,14 @@ abbrev pub WorkedBoardIsPrinted : Type 0
 WorkedBoardIsPrinted =
     (totals_line (totals 1 1 4 4 0)
     ∷ leaf_line (leaf 0 0 0 (pos 0) (pos 0) (pos 4) (pos 4))
-    ∷ node_line (node 0 (pos 1) (pos 0) (pos 0) (pos 0))
-    ∷ node_line (node 1 (pos 1) (pos 0) (pos 4) (pos 0))
-    ∷ node_line (node 2 (pos 1) (pos 0) (pos 4) (pos 4))
-    ∷ node_line (node 3 (pos 1) (pos 0) (pos 0) (pos 4))
-    ∷ edge_line 0 1 half
-    ∷ edge_line 3 2 half
-    ∷ edge_line 0 3 half
-    ∷ edge_line 1 2 half
+    ∷ node_line 0 (node 1 0 (pos 0) (pos 0))
+    ∷ node_line 1 (node 1 0 (pos 4) (pos 0))
+    ∷ node_line 2 (node 1 0 (pos 4) (pos 4))
+    ∷ node_line 3 (node 1 0 (pos 0) (pos 4))
+    ∷ edge_line (edge 0 1 half)
+    ∷ edge_line (edge 3 2 half)
+    ∷ edge_line (edge 0 3 half)
+    ∷ edge_line (edge 1 2 half)
     ∷ [])
     ≡ (codes "cells 1 leaves 1 nodes 4 edges 4 splits 0"
     ∷ codes "leaf 0 0 0 0 0 4 4"
@@ -52,8 +56,8 @@ RefusalIsPrinted = refusal_line (refused 3 28) ≡ codes "refused 3 28"
 -- numbers at the ends of their ranges and below 0, and bits with zeros in front
 abbrev pub RangesArePrinted : Type 0
 RangesArePrinted =
-    (node_line (node 10 (pos 65535) (pos 4294967295) (negsuc 68719476735) (pos 90))
-    ∷ edge_line 255 1023 (fin false 1 (negsuc 1021))
+    (node_line 10 (node 65535 4294967295 (negsuc 68719476735) (pos 90))
+    ∷ edge_line (edge 255 1023 (fin false 1 (negsuc 1021)))
     ∷ [])
     ≡ (codes "node 10 65535 4294967295 -68719476736 90"
     ∷ codes "edge 255 1023 0010000000000000"

@@ -1,10 +1,11 @@
 //! leafnet from a record's bytes to its text, over any reader and any writer.
 #![tactic(auto)]
 
-ghost use Rattle.std.specs.Prelude.{◌≡◌, IfOk, IfSome, OnOk, string_bytes};
+ghost use Rattle.std.specs.Prelude.{◌≡◌, ◌+◌, IfOk, IfSome, OnOk, Some, drop, string_bytes};
 ghost use Rattle.std.specs.Io.KnownBytes.{Appends};
 ghost use Rattle.leafnet_text.specs.Output.{Prints, output_text};
-ghost use Rattle.leafnet_text.specs.Fronts.{AppendsFront};
+ghost use Rattle.leafnet_text.specs.declared.rooms.TheConstants.{INPUT};
+ghost use Rattle.leafnet_text.specs.Fronts.{AppendsFront, ConsumesFront};
 
 pub mod input;
 pub mod laws;
@@ -14,6 +15,7 @@ pub mod mesh;
 pub mod netlist;
 pub mod output;
 pub mod rooms;
+pub mod source;
 pub mod stop;
 
 use input::Board;
@@ -54,26 +56,30 @@ pub fn text_of(alloc: Global, record: &[u8]) -> Result<String, AllocError>
 
 // As much of the input as its text depends on: one byte more than a record may have shows that it is too long.
 fn read_input<R: Read>(alloc: Global, reader: &mut R) -> io::Result<Vec<u8>>
-    ensures { IfOk result (λ input. IfSome (R.remaining reader.old) (λ all.
-        output_text input.items ≡ output_text all)) }
+    ensures text { IfOk result (λ front. IfSome (R.remaining reader.old) (λ input.
+        output_text front.items ≡ output_text input)) }
+    ensures left { OnOk result (IfSome (R.remaining reader.old) (λ input.
+        R.remaining reader.new ≡ Some (drop (INPUT + 1) input))) }
+    ensures gone { ConsumesFront (R.remaining reader.old) (R.remaining reader.new) }
 {
-    let mut input = Vec::new(alloc);
-    reader.take(INPUT as u64 + 1).read_to_end(&mut input)?;
-    Ok(input)
+    let mut room = [0; INPUT + 1];
+    let count = source::read_front(reader, &mut room)?;
+    Ok(room[..count].to_vec(alloc)?)
 }
 
-/// Reads a record and writes its text. An error of the reader, of the writer or of the memory is handed on; what is
-/// written by then is a front of that text, and nothing before the input is read.
+/// Reads a record and writes its text. An error of the reader, of the writer or of the memory is handed on: what is
+/// written by then is a front of that text, and nothing before the input is read, and what was read by then is gone. Of
+/// input that is too long no more is read than the one byte that shows it.
 pub fn leafnet<R: Read, W: Write>(alloc: Global, reader: &mut R, writer: &mut W) -> io::Result<()>
     ensures text { OnOk result (IfSome (R.remaining reader.old) (λ input.
         Appends (W.contents writer.old) (W.contents writer.new) (output_text input))) }
     ensures front { IfSome (R.remaining reader.old) (λ input.
         AppendsFront (W.contents writer.old) (W.contents writer.new) (output_text input)) }
+    ensures left { OnOk result (IfSome (R.remaining reader.old) (λ input.
+        R.remaining reader.new ≡ Some (drop (INPUT + 1) input))) }
+    ensures gone { ConsumesFront (R.remaining reader.old) (R.remaining reader.new) }
 {
     let input = read_input(alloc, reader)?;
     let text = text_of(alloc, &input)?;
     output::write_text(writer, text.as_bytes())
 }
-
-#[cfg(test)]
-mod tests;

@@ -2,6 +2,7 @@
 
 ghost use Rattle.std.specs.Float.{NotNan};
 
+use net_rows::{Edge, Node};
 use refusals::{Code, Refusal};
 use std::fmt;
 
@@ -82,53 +83,48 @@ impl fmt::Display for Leaf {
     }
 }
 
-/// A node of the net, its numbers as the net's rows have them.
+/// A node of the net, with its number.
 #[derive(Clone, Copy, Debug, PartialEq, Eq)]
-pub struct Node {
+pub struct NodeLine {
     pub number: usize,
-    pub layer: i64,
-    pub component: i64,
-    pub x: i64,
-    pub y: i64,
+    pub node: Node,
 }
 
-impl fmt::Display for Node {
+impl fmt::Display for NodeLine {
     ghost use Rattle.std.specs.Prelude.{Some};
     ghost use Rattle.leafnet_text.specs.Lines.{node_line};
 
-    ghost output = { λ n. Some (node_line n) };
+    ghost output = { λ l. Some (node_line l.number l.node) };
 
     fn fmt<W: fmt::Write>(&self, f: &mut fmt::Formatter<W>) -> fmt::Result {
+        let number = self.number;
         let Node {
-            number,
             layer,
             component,
             x,
             y,
-        } = *self;
+        } = self.node;
         write!(f, "node {number} {layer} {component} {x} {y}")
     }
 }
 
-/// An edge between two nodes, by their numbers. Its conductance is a number, and so has bits that can be printed.
+/// An edge of the net. Its conductance is a number, and so has bits that can be printed.
 #[derive(Clone, Copy, Debug)]
-pub struct Edge {
-    pub from: u64,
-    pub to: u64,
-    pub conductance: f64,
-    ghost conducts: { NotNan conductance },
+pub struct EdgeLine {
+    pub edge: Edge,
+    ghost conducts: { NotNan edge.conductance },
 }
 
-impl fmt::Display for Edge {
+impl fmt::Display for EdgeLine {
     ghost use Rattle.std.specs.Prelude.{Some};
     ghost use Rattle.leafnet_text.specs.Lines.{edge_line};
 
-    ghost output = { λ e. Some (edge_line e.from e.to e.conductance) };
+    ghost output = { λ l. Some (edge_line l.edge) };
 
     fn fmt<W: fmt::Write>(&self, f: &mut fmt::Formatter<W>) -> fmt::Result {
-        let from = self.from;
-        let to = self.to;
-        let bits = self.conductance.to_bits();
+        let from = self.edge.from;
+        let to = self.edge.to;
+        let bits = self.edge.conductance.to_bits();
         write!(f, "edge {from} {to} {bits:016x}")
     }
 }

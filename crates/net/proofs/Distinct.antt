@@ -1,11 +1,11 @@
 -- The nodes have no duplicates: each is the first that is the same as itself. Assumes nothing.
-use Rattle.std.proofs.Common.{◌≡◌, sym, ap, ◌∙◌, subst, Bool, true, false, ◌⊎◌, ⊎_elim, List, [], ◌∷◌, ◌++◌, ℕ, ◌+◌, ◌≤◌, ◌<◌, arith, length, get_or, length-append, ltb-false}
+use Rattle.std.proofs.Common.{◌≡◌, Bool, true, false, List, [], ◌∷◌, ◌++◌, ℕ, ◌<◌, arith, length, get_or, length-append}
 use lib.ListN.{get_or-append}
 use lib.Seq.{get_or-append_seam}
 use Rattle.table.specs.Mesh.{Cell}
-use Rattle.net.specs.Net.{find, has, weld, Poly, Node, Piece, same_node, nth, nowhere, number, pieces, corners_of, nodes_from, bare, weigh, network}
-use Rattle.net.proofs.Find.{order, test, find-left, find-right, find-yes}
-use Rattle.net.proofs.Weld.{weld-nil, weld-old, weld-new}
+use Rattle.net.specs.Net.{find, has, weld, Poly, MeshNode, Piece, same_node, nth, nowhere, number, pieces, corners_of, nodes_from, bare, weigh, network}
+use Rattle.net.proofs.Find.{finding}
+use Rattle.net.proofs.Weld.{welding}
 use Rattle.net.proofs.Sound.{node-self}
 
 module _ {A : Type 0} (same : A → A → Bool) (d : A) (self : (a : A) → same a a ≡ true) where
@@ -13,29 +13,13 @@ module _ {A : Type 0} (same : A → A → Bool) (d : A) (self : (a : A) → same
   Distinct l = (i : ℕ) → i < length l → find same l (get_or l i d) ≡ i
 
   distinct_snoc : (l : List A) (x : A) → Distinct l → has same l x ≡ false → Distinct (l ++ (x ∷ []))
-  distinct_snoc l x D e i h =
-      let n = length-append l (x ∷ []) in
-      let f = ltb-false (find same l x) (length l) e in
-      ⊎_elim
-      (λ (p : i < length l).
-      (let q = D i p in
-      let g = get_or-append l (x ∷ []) d i p in
-      ap (find same (l ++ (x ∷ []))) g ∙ (find-left same l (x ∷ []) (get_or l i d) (omega arith) ∙ q)))
-      (λ (p : length l ≤ i).
-      (let z : i ≡ length l = omega arith in
-      let g : get_or (l ++ (x ∷ [])) i d ≡ x = ap (λ (k : ℕ). get_or (l ++ (x ∷ [])) k d) z ∙ get_or-append_seam l x [] d in
-      ap (find same (l ++ (x ∷ []))) g ∙ (find-right same l (x ∷ []) x f ∙ omega (arith, find-yes same x [] x (self x)))))
-      (order i (length l))
+  distinct_snoc l x D e i h = grind (arith, finding, D i, length-append l (x ∷ []), get_or-append l (x ∷ []) d i, get_or-append_seam l x [] d, self x)
 
   distinct-weld : (l xs : List A) → Distinct l → Distinct (weld same l xs)
-  distinct-weld l [] D = subst Distinct (sym (weld-nil same l)) D
-  distinct-weld l (x ∷ xs) D =
-      ⊎_elim
-      (λ e. subst Distinct (sym (weld-old same l x xs e)) (distinct-weld l xs D))
-      (λ e. subst Distinct (sym (weld-new same l x xs e)) (distinct-weld (l ++ (x ∷ [])) xs (distinct_snoc l x D e)))
-      (test (has same l x))
+  distinct-weld l [] D = grind (arith, welding)
+  distinct-weld l (x ∷ xs) D = grind (arith, welding, distinct-weld l xs D, distinct-weld (l ++ (x ∷ [])) xs, distinct_snoc l x D)
 
-distinct-nodes : (n : List Node) (qs : List Piece) → Distinct same_node nowhere node-self n → Distinct same_node nowhere node-self (nodes_from n qs)
+distinct-nodes : (n : List MeshNode) (qs : List Piece) → Distinct same_node nowhere node-self n → Distinct same_node nowhere node-self (nodes_from n qs)
 unfolding nodes_from
 distinct-nodes n [] D = D
 distinct-nodes n (q ∷ qs) D = distinct-nodes (weld same_node n (corners_of q)) qs (distinct-weld same_node nowhere node-self n (corners_of q) D)

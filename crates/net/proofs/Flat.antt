@@ -1,184 +1,194 @@
 -- The net before the weights from one list of leaves. Assumes nothing.
+use Rattle.std.proofs.lemmas.Bool.Decides.{nat_tests}
 use lib.Ieee.{Float}
-use Rattle.std.proofs.Common.{◌≡◌, refl, sym, ap, ap₂, ◌∙◌, subst, Bool, true, false, ⊎_elim, List, [], ◌∷◌, ◌++◌, map, append_assoc, ℕ, suc, ◌+◌, ◌*◌, ◌≤◌, ◌<◌, arith, ltb, length, get_or, length-append, lt-ltb, eq-eqb}
-use lib.ListN.{length-map}
+use Rattle.std.proofs.Common.{◌≡◌, refl, sym, ap, ◌∙◌, subst, true, List, [], ◌∷◌, ◌++◌, map, append_assoc, append-nil, ℕ, suc, ◌+◌, ◌*◌, ◌≤◌, ◌<◌, arith, ltb, length, get_or, take, drop, take_at, drop_at, drop-cons, length-append, length-drop, get_or-append-add, eq-eqb}
+use Rattle.std.proofs.lemmas.List.{map-append}
+use lib.ListN.{length-map, get_or-append}
 use Rattle.cell.specs.Boxes.{Box}
-use Rattle.net.specs.Net.{find, has, weld, each, Poly, Node, Edge, Patch, Piece, same_node, nth, nowhere, corners_at, corners_of, nodes_from, edges_from, patches_from, leaf_sum, across, upright, One, Half, ◌·◌, ◌÷◌}
-use Rattle.net.specs.First.{first_of, number_by, patch_by, mids_at, mids_of, places, side_by, sides_by, Part, part, same_part, news, row_parts, board_parts, row_patches, board_patches}
-use Rattle.net.specs.Flat.{Leaf, leaf, leaves_from, flat_places, side_twice, slots_by, flat_slots, flat_patches}
-use Rattle.net.proofs.Find.{test, order, find-right, find-left, find-yes}
-use Rattle.net.proofs.Weld.{Keyed, weld-old, weld-new, weld-append, welded-all}
-use Rattle.net.proofs.Pieces.{edge_of, each_append, map-append, edges-parts}
-use Rattle.net.proofs.Board.{board-nodes, board-parts, board-patches}
+use Rattle.net.specs.Net.{weld, each, Poly, MeshNode, Edge, NetCell, Piece, same_node, same_pair, nth, nowhere, number, corners_at, corners_of, nodes_from, side_of, sides_at, patch_at, edges_from, edges_of, patches_from, across, upright}
+use Rattle.net.specs.First.{first_of, number_by, patch_by, Part, part, same_part, news}
+use Rattle.net.specs.Flat.{Leaf, leaf, no_leaf, leaf_at, leaves_from, corners_in, mids_in, flat_places, side_twice, slots_by, flat_slots, flat_patches}
+use Rattle.net.proofs.Find.{finding}
+use Rattle.net.proofs.Weld.{welding, Keyed, weld-nil, weld-append, welded, place-has, place-number, corner-number}
+use Rattle.net.proofs.All.{All, all_append, all_map, all-by, all_nil}
+use Rattle.net.proofs.Board.{each-length, each_at}
+use Rattle.net.proofs.Pieces.{edge_of, each_append, map_back, parts-own}
 
--- ---- a thing twice
+-- ---- lists of parts that weld alike
 
-weld-twice : {A : Type 0} (same : A → A → Bool) → ((a : A) → same a a ≡ true) → (l : List A) (x : A) (xs : List A) → weld same l (x ∷ x ∷ xs) ≡ weld same l (x ∷ xs)
-weld-twice {A} same self l x xs =
-    ⊎_elim
-    (λ e. weld-old same l x (x ∷ xs) e)
-    (λ e. weld-new same l x (x ∷ xs) e ∙ (weld-old same (l ++ (x ∷ [])) x xs there ∙ sym (weld-new same l x xs e)))
-    (test (has same l x))
-  where
-    there : has same (l ++ (x ∷ [])) x ≡ true
-    there =
-        let n = length-append l (x ∷ []) in
-        ⊎_elim
-        (λ (p : find same l x < length l). lt-ltb (find same (l ++ (x ∷ [])) x) (length (l ++ (x ∷ []))) (omega (arith, find-left same l (x ∷ []) x p)))
-        (λ (p : length l ≤ find same l x). lt-ltb (find same (l ++ (x ∷ [])) x) (length (l ++ (x ∷ []))) (omega (arith, find-right same l (x ∷ []) x p, find-yes same x [] x (self x))))
-        (order (find same l x) (length l))
+weld-both : (l a a' b b' : List Part) → ((z : List Part) → weld same_part z a ≡ weld same_part z a') → ((z : List Part) → weld same_part z b ≡ weld same_part z b')
+    → weld same_part l (a ++ b) ≡ weld same_part l (a' ++ b')
+weld-both l a a' b b' e f = weld-append same_part l a b ∙ (ap (λ (z : List Part). weld same_part z b) (e l) ∙ (f (weld same_part l a') ∙ sym (weld-append same_part l a' b')))
 
-part-self : (p : Part) → same_part p p ≡ true
-part-self p = rw (eq-eqb p.piece p.piece refl, eq-eqb p.edge.a p.edge.a refl, eq-eqb p.edge.b p.edge.b refl)
-
--- a side of one or two parts, welded, is its two slots, welded
-side-twice : (acc : List Part) (k : ℕ) (ks : List ℕ) (n a m b : ℕ) (r : Float) → weld same_part acc (map (part k) (side_by ks n a m b r)) ≡ weld same_part acc (map (part k) (side_twice ks (ltb (first_of ks m) n) a m b r))
-side-twice acc k ks n a m b r = by (ltb (first_of ks m) n)
-  where
-    by : (hit : Bool) → weld same_part acc (map (part k) (elim hit [ true ↦ record { a = number_by ks a; b = number_by ks m; g = One ÷ (r · Half) } ∷ record { a = number_by ks m; b = number_by ks b; g = One ÷ (r · Half) } ∷ [] | false ↦ record { a = number_by ks a; b = number_by ks b; g = One ÷ r } ∷ [] ]))
-        ≡ weld same_part acc (map (part k) (side_twice ks hit a m b r))
-    by true = refl
-    by false = sym (weld-twice same_part part-self acc (part k (record { a = number_by ks a; b = number_by ks b; g = One ÷ r })) [])
-
--- two lists for two lists
-weld-both : (acc a a' b b' : List Part) → ((l : List Part) → weld same_part l a ≡ weld same_part l a') → ((l : List Part) → weld same_part l b ≡ weld same_part l b') → weld same_part acc (a ++ b) ≡ weld same_part acc (a' ++ b')
-weld-both acc a a' b b' e f =
-    weld-append same_part acc a b ∙ (ap (λ (z : List Part). weld same_part z b) (e acc) ∙ (f (weld same_part acc a') ∙ sym (weld-append same_part acc a' b')))
-
--- two lists of edges of one polygon that weld alike
+-- of one polygon
 record Alike (k : ℕ) (a b : List Edge) : Type 0 where
   by : (l : List Part) → weld same_part l (map (part k) a) ≡ weld same_part l (map (part k) b)
 
 alike_both : {k : ℕ} {a a' b b' : List Edge} → Alike k a a' → Alike k b b' → Alike k (a ++ b) (a' ++ b')
-alike_both {k} {a} {a'} {b} {b'} e f =
+alike_both {k} {a} {a'} {b} {b'} e f = record { by = λ l. simp map-append (weld-both l (map (part k) a) (map (part k) a') (map (part k) b) (map (part k) b') e.by f.by) }
+
+alike_same : (k : ℕ) (a : List Edge) → Alike k a a
+alike_same k a = record { by = λ l. refl }
+
+-- a thing twice
+alike_twice : (k : ℕ) (e : Edge) → Alike k (e ∷ []) (e ∷ e ∷ [])
+alike_twice k edge =
     record {
-      by = λ l. ap (weld same_part l) (map-append (part k) a b)
-          ∙ (weld-both l (map (part k) a) (map (part k) a') (map (part k) b) (map (part k) b') e.by f.by ∙ ap (weld same_part l) (sym (map-append (part k) a' b')));
+      by = λ l. grind (arith, welding, finding, length-append l (x ∷ []), self);
     }
-
-leaf-twice : (acc : List Part) (k : ℕ) (ks : List ℕ) (n c m : ℕ) (f t : Float) → weld same_part acc (map (part k) (sides_by ks n c m f t)) ≡ weld same_part acc (map (part k) (slots_by ks n c m f t))
-unfolding sides_by slots_by
-leaf-twice acc k ks n c m f t =
-    (alike_both (side c m (c + 1) f) (alike_both (side (c + 3) (m + 1) (c + 2) f) (alike_both (side c (m + 2) (c + 3) t) (side (c + 1) (m + 3) (c + 2) t)))).by acc
   where
-    side : (a m b : ℕ) (r : Float) → Alike k (side_by ks n a m b r) (side_twice ks (ltb (first_of ks m) n) a m b r)
-    side a m b r = record { by = λ l. side-twice l k ks n a m b r }
+    x : Part
+    x = part k edge
 
--- ---- the polygons one after the other are the leaves one after the other
-
--- how many leaves there are in the polygons up to k
-unfoldable pub Upto : (ℕ → ℕ) → ℕ → List Piece → ℕ → Type 0
-Upto up t [] k = Unit {0}
-Upto up t (q ∷ qs) k = (up k ≡ t + length q.leaves) × Upto up (t + length q.leaves) qs (suc k)
-
-slots-append : (ks : List ℕ) (z : ℕ) (up : ℕ → ℕ) (t : ℕ) (a b : List Leaf) → flat_slots ks z up t (a ++ b) ≡ flat_slots ks z up t a ++ flat_slots ks z up (t + length a) b
-unfolding flat_slots
-slots-append ks z up t [] b = ap (λ (x : ℕ). flat_slots ks z up x b) (plus t)
-  where
-    plus : (t : ℕ) → t ≡ t + 0
-    plus t = omega arith
-slots-append ks z up t (l ∷ a) b =
-    ap (λ (x : List Part). map (part l.piece) (slots_by ks (4 * up l.piece) (4 * t) (4 * z + 4 * t) (across l.poly l.box) (upright l.poly l.box)) ++ x)
-    (slots-append ks z up (suc t) a b ∙ ap (λ (x : ℕ). flat_slots ks z up (suc t) a ++ flat_slots ks z up x b) (over t (length a)))
-    ∙ sym (append_assoc (map (part l.piece) (slots_by ks (4 * up l.piece) (4 * t) (4 * z + 4 * t) (across l.poly l.box) (upright l.poly l.box))) (flat_slots ks z up (suc t) a) (flat_slots ks z up (t + suc (length a)) b))
-  where
-    over : (t n : ℕ) → suc t + n ≡ t + suc n
-    over t n = omega arith
-
-module _ (ks : List ℕ) (z : ℕ) (up : ℕ → ℕ) where
-  row-slots : (acc : List Part) (n k : ℕ) (p : Poly) (t : ℕ) (rs : List Box) → n ≡ 4 * up k → weld same_part acc (row_parts ks z n k p t rs) ≡ weld same_part acc (flat_slots ks z up t (map (leaf k p) rs))
-  unfolding row_parts flat_slots
-  row-slots acc n k p t [] e = refl
-  row-slots acc n k p t (r ∷ rs) e =
-      weld-both acc (map (part k) (sides_by ks n (4 * t) (4 * z + 4 * t) (across p r) (upright p r))) (map (part k) (slots_by ks (4 * up k) (4 * t) (4 * z + 4 * t) (across p r) (upright p r)))
-      (row_parts ks z n k p (suc t) rs) (flat_slots ks z up (suc t) (map (leaf k p) rs))
-      (λ l. leaf-twice l k ks n (4 * t) (4 * z + 4 * t) (across p r) (upright p r) ∙ ap (λ (x : ℕ). weld same_part l (map (part k) (slots_by ks x (4 * t) (4 * z + 4 * t) (across p r) (upright p r)))) e)
-      (λ l. row-slots l n k p (suc t) rs e)
-
-  board-slots : (acc : List Part) (t : ℕ) (qs : List Piece) (k : ℕ) → Upto up t qs k → weld same_part acc (board_parts ks z t qs k) ≡ weld same_part acc (flat_slots ks z up t (leaves_from qs k))
-  unfolding board_parts leaves_from flat_slots Upto
-  board-slots acc t [] k u = refl
-  board-slots acc t (q ∷ qs) k u =
-      weld-both acc (row_parts ks z (4 * (t + length q.leaves)) k q.poly t q.leaves) (flat_slots ks z up t (map (leaf k q.poly) q.leaves))
-      (board_parts ks z (t + length q.leaves) qs (suc k)) (flat_slots ks z up (t + length q.leaves) (leaves_from qs (suc k)))
-      (λ l. row-slots l (4 * (t + length q.leaves)) k q.poly t q.leaves (ap (λ (x : ℕ). 4 * x) (sym u.0)))
-      (λ l. board-slots l (t + length q.leaves) qs (suc k) u.1)
-      ∙ ap (weld same_part acc)
-      (ap (λ (x : ℕ). flat_slots ks z up t (map (leaf k q.poly) q.leaves) ++ flat_slots ks z up (t + x) (leaves_from qs (suc k))) (sym (length-map q.leaves (leaf k q.poly)))
-      ∙ sym (slots-append ks z up t (map (leaf k q.poly) q.leaves) (leaves_from qs (suc k))))
+    self : same_part x x ≡ true
+    self = rw (eq-eqb x.piece x.piece refl, eq-eqb x.edge.from x.edge.from refl, eq-eqb x.edge.to x.edge.to refl)
 
 each_map : {A B C : Type 0} (f : B → List C) (g : A → B) (l : List A) → each f (map g l) ≡ each (λ (a : A). f (g a)) l
 unfolding each
 each_map f g [] = refl
 each_map {C} f g (a ∷ l) = ap (λ (x : List C). f (g a) ++ x) (each_map f g l)
 
--- the corners, and likewise the middles
-flat-each : (f : Poly → Box → List Node) (h : Piece → List Node) → ((q : Piece) → h q ≡ each (f q.poly) q.leaves) → (qs : List Piece) (k : ℕ) → each h qs ≡ each (λ (l : Leaf). f l.poly l.box) (leaves_from qs k)
-unfolding each leaves_from
-flat-each f h e [] k = refl
-flat-each f h e (q ∷ qs) k =
-    ap₂ {C = List Node} (λ u w. u ++ w) (e q ∙ sym (each_map (λ (l : Leaf). f l.poly l.box) (leaf k q.poly) q.leaves)) (flat-each f h e qs (suc k))
-    ∙ sym (each_append (λ (l : Leaf). f l.poly l.box) (map (leaf k q.poly) q.leaves) (leaves_from qs (suc k)))
+-- how many leaves there are in the polygons up to k
+unfoldable pub Upto : (ℕ → ℕ) → ℕ → List Piece → ℕ → Type 0
+Upto up t [] k = Unit {0}
+Upto up t (q ∷ qs) k = (up k ≡ t + length q.leaves) × Upto up (t + length q.leaves) qs (suc k)
 
-pub flat-places : (qs : List Piece) (k : ℕ) → places qs ≡ flat_places (leaves_from qs k)
-unfolding places flat_places corners_of mids_of
-flat-places qs k = ap₂ {C = List Node} (λ u w. u ++ w) (flat-each corners_at corners_of (λ q. refl) qs k) (flat-each mids_at mids_of (λ q. refl) qs k)
+module _ (ls : List Leaf) (ks : List ℕ) (K : Keyed same_node nowhere (flat_places ls) ks) where
+  abbrev P : List MeshNode
+  P = flat_places ls
 
-pub flat-sum : (qs : List Piece) (k : ℕ) → leaf_sum qs ≡ length (leaves_from qs k)
-unfolding leaf_sum leaves_from
-flat-sum [] k = refl
-flat-sum (q ∷ qs) k = omega (arith, length-append (map (leaf k q.poly) q.leaves) (leaves_from qs (suc k)), length-map q.leaves (leaf k q.poly), flat-sum qs (suc k))
+  -- the nodes so far
+  abbrev N : ℕ → List MeshNode
+  N n = weld same_node [] (take n P)
 
-patches-append : (ks : List ℕ) (t : ℕ) (a b : List Leaf) → flat_patches ks t (a ++ b) ≡ flat_patches ks t a ++ flat_patches ks (t + length a) b
-unfolding flat_patches
-patches-append ks t [] b = ap (λ (x : ℕ). flat_patches ks x b) (plus t)
-  where
-    plus : (t : ℕ) → t ≡ t + 0
-    plus t = omega arith
-patches-append ks t (l ∷ a) b = ap (λ (x : List Patch). patch_by ks (4 * t) l.poly.sheet ∷ x) (patches-append ks (suc t) a b ∙ ap (λ (x : ℕ). flat_patches ks (suc t) a ++ flat_patches ks x b) (over t (length a)))
-  where
-    over : (t n : ℕ) → suc t + n ≡ t + suc n
-    over t n = omega arith
+  places-length : length P ≡ 8 * length ls
+  unfolding flat_places
+  places-length = omega (arith, length-append (each corners_in ls) (each mids_in ls), each-length corners_in (λ l. refl) ls, each-length mids_in (λ l. refl) ls)
 
-row-patches : (ks : List ℕ) (k : ℕ) (p : Poly) (t : ℕ) (rs : List Box) → row_patches ks p t rs ≡ flat_patches ks t (map (leaf k p) rs)
-unfolding row_patches flat_patches
-row-patches ks k p t [] = refl
-row-patches ks k p t (r ∷ rs) = ap (λ (x : List Patch). patch_by ks (4 * t) p.sheet ∷ x) (row-patches ks k p (suc t) rs)
+  -- ---- one leaf
 
-flat-patches : (ks : List ℕ) (t : ℕ) (qs : List Piece) (k : ℕ) → board_patches ks t qs ≡ flat_patches ks t (leaves_from qs k)
-unfolding board_patches leaves_from flat_patches
-flat-patches ks t [] k = refl
-flat-patches ks t (q ∷ qs) k =
-    ap₂ {C = List Patch} (λ u w. u ++ w) (row-patches ks k q.poly t q.leaves) (flat-patches ks (t + length q.leaves) qs (suc k))
-    ∙ (ap (λ (x : ℕ). flat_patches ks t (map (leaf k q.poly) q.leaves) ++ flat_patches ks (t + x) (leaves_from qs (suc k))) (sym (length-map q.leaves (leaf k q.poly)))
-    ∙ sym (patches-append ks t (map (leaf k q.poly) q.leaves) (leaves_from qs (suc k))))
+  module _ (t : ℕ) (l : Leaf) (here : leaf_at ls t ≡ l) (h : t < length ls) where
+    corner : (i s : ℕ) → i ≡ 4 * t + s → s < 4 → nth P i ≡ get_or (corners_in l) s nowhere
+    unfolding flat_places
+    corner i s e k = grind (arith, each-length corners_in (λ l. refl) ls, get_or-append (each corners_in ls) (each mids_in ls) nowhere i, each_at corners_in (λ l. refl) ls t s no_leaf nowhere h k)
+
+    middle : (i s : ℕ) → i ≡ 4 * length ls + 4 * t + s → s < 4 → nth P i ≡ get_or (mids_in l) s nowhere
+    unfolding flat_places
+    middle i s e k = grind (arith, each-length corners_in (λ l. refl) ls, get_or-append-add (each corners_in ls) (each mids_in ls) (4 * t + s) nowhere, each_at mids_in (λ l. refl) ls t s no_leaf nowhere h k)
+
+    module _ (n : ℕ) (low : 4 * t + 4 ≤ n) (high : n ≤ 4 * length ls) where
+      number-is : (i s : ℕ) → i ≡ 4 * t + s → s < 4 → number (N n) (get_or (corners_in l) s nowhere) ≡ number_by ks i
+      number-is i s e k = grind (arith, places-length, corner i s e k, corner-number same_node nowhere P ks K n i)
+
+      -- a side, by its corners and its middle
+      side : (k a m b : ℕ) (sa sm sb : ℕ) (r : Float) → a ≡ 4 * t + sa → sa < 4 → m ≡ 4 * length ls + 4 * t + sm → sm < 4 → b ≡ 4 * t + sb → sb < 4
+          → Alike k (side_of (N n) (get_or (corners_in l) sa nowhere) (get_or (mids_in l) sm nowhere) (get_or (corners_in l) sb nowhere) r) (side_twice ks (ltb (first_of ks m) n) a m b r)
+      side k a m b sa sm sb r ea ha em hm eb hb =
+          let long = places-length in
+          let A = number-is a sa ea ha in
+          let B = number-is b sb eb hb in
+          let h : m < length P = omega arith in
+          grind (arith, middle m sm em hm, place-has same_node nowhere P ks K n m (omega arith) h, place-number same_node nowhere P ks K n m (omega arith) h, nat_tests, alike_same k, alike_twice k)
+
+      leaf-slots : (k : ℕ) → Alike k (sides_at (N n) l.poly l.box) (slots_by ks n (4 * t) (4 * length ls + 4 * t) (across l.poly l.box) (upright l.poly l.box))
+      unfolding sides_at slots_by
+      leaf-slots k =
+          let c = 4 * t in
+          let m = 4 * length ls + 4 * t in
+          let f = across l.poly l.box in
+          let g = upright l.poly l.box in
+          alike_both (side k c m (c + 1) 0 0 1 f (omega arith) (omega arith) (omega arith) (omega arith) (omega arith) (omega arith))
+          (alike_both (side k (c + 3) (m + 1) (c + 2) 3 1 2 f (omega arith) (omega arith) (omega arith) (omega arith) (omega arith) (omega arith))
+          (alike_both (side k c (m + 2) (c + 3) 0 2 3 g (omega arith) (omega arith) (omega arith) (omega arith) (omega arith) (omega arith))
+          (side k (c + 1) (m + 3) (c + 2) 1 3 2 g (omega arith) (omega arith) (omega arith) (omega arith) (omega arith) (omega arith))))
+
+      leaf-patch : patch_at (N n) l.poly l.box ≡ patch_by ks (4 * t) l.poly.sheet
+      leaf-patch = grind (arith, number-is (4 * t) 0, number-is (4 * t + 1) 1, number-is (4 * t + 2) 2, number-is (4 * t + 3) 3)
+
+  -- ---- the leaves of one polygon, up to the leaf u
+
+  module _ (k u : ℕ) (p : Poly) (rest : List Leaf) where
+    -- the first of these leaves, and the others
+    first : (t : ℕ) (r : Box) (rs : List Box) → drop t ls ≡ leaf k p r ∷ (map (leaf k p) rs ++ rest) → t + suc (length rs) ≡ u
+        → (t < length ls) × (u ≤ length ls) × (leaf_at ls t ≡ leaf k p r) × (drop (suc t) ls ≡ map (leaf k p) rs ++ rest)
+    first t r rs e q =
+        grind (arith, length-append (map (leaf k p) rs) rest, length-map rs (leaf k p), ap length e, length-drop t ls, drop-cons ls t no_leaf)
+
+    row-slots : (up : ℕ → ℕ) → up k ≡ u
+        → (t : ℕ) (rs : List Box) → drop t ls ≡ map (leaf k p) rs ++ rest → t + length rs ≡ u
+        → (l : List Part) → weld same_part l (map (part k) (each (sides_at (N (4 * u)) p) rs) ++ flat_slots ks (length ls) up u rest) ≡ weld same_part l (flat_slots ks (length ls) up t (map (leaf k p) rs ++ rest))
+    unfolding each flat_slots
+    row-slots up x t [] e q l = let z : t ≡ u = omega arith in rw z
+    row-slots up x t (r ∷ rs) e q l =
+        let f = first t r rs e q in
+        let h = f.0 in
+        let g = f.1 in
+        rw (x, map-append, append_assoc)
+        (weld-both l _ _ _ _ (leaf-slots t (leaf k p r) f.2 h (4 * u) (omega arith) (omega arith) k).by (row-slots up x (suc t) rs f.3 (omega arith)))
+
+    row-patches : (more : List NetCell) → more ≡ flat_patches ks u rest → (t : ℕ) (rs : List Box) → drop t ls ≡ map (leaf k p) rs ++ rest → t + length rs ≡ u
+        → map (patch_at (N (4 * u)) p) rs ++ more ≡ flat_patches ks t (map (leaf k p) rs ++ rest)
+    unfolding flat_patches
+    row-patches more a t [] e q = grind arith
+    row-patches more a t (r ∷ rs) e q = let f = first t r rs e q in grind (arith, f, leaf-patch t (leaf k p r) f.2 f.0 (4 * u), row-patches more a (suc t) rs f.3)
+
+  -- ---- all polygons
+
+  -- the corners of the leaves so far are so many places
+  so-far : (done rest : List Leaf) → ls ≡ done ++ rest → N (4 * length done) ≡ weld same_node [] (each corners_in done)
+  unfolding flat_places
+  so-far done rest e = ap (weld same_node []) (rw (e, each_append, append_assoc) (take_at (each corners_in done) _ (4 * length done) (each-length corners_in (λ l. refl) done)))
+
+  -- the polygons qs, the first of which has the index k, behind t leaves
+  record Made (n : List MeshNode) (t : ℕ) (qs : List Piece) (k : ℕ) : Type 0 where
+    nodes : nodes_from n qs ≡ N (4 * length ls)
+    cells : patches_from n qs ≡ flat_patches ks t (leaves_from qs k)
+    edges : (up : ℕ → ℕ) → Upto up t qs k → (l : List Part) → All (λ (p : Part). p.piece < k) l → map edge_of (weld same_part l (flat_slots ks (length ls) up t (leaves_from qs k))) ≡ map edge_of l ++ edges_from n qs
+
+  made : (done : List Leaf) (qs : List Piece) (k : ℕ) → ls ≡ done ++ leaves_from qs k → Made (N (4 * length done)) (length done) qs k
+  unfolding nodes_from patches_from edges_from edges_of leaves_from flat_patches flat_slots Upto corners_of
+  made done [] k e = record { nodes = ap (λ (z : List Leaf). N (4 * length z)) (sym (e ∙ append-nil done)); cells = refl; edges = λ up u l a. cc (weld-nil same_part l, append-nil (map edge_of l)) }
+  made done (q ∷ qs) k e =
+      let here = map (leaf k q.poly) q.leaves in
+      let rest = leaves_from qs (suc k) in
+      let e' : ls ≡ (done ++ here) ++ rest = e ∙ sym (append_assoc done here rest) in
+      let r = made (done ++ here) qs (suc k) e' in
+      let u : length done + length q.leaves ≡ length (done ++ here) = omega (arith, length-append done here, length-map q.leaves (leaf k q.poly)) in
+      let d : drop (length done) ls ≡ here ++ rest = ap (drop (length done)) e ∙ drop_at done (here ++ rest) (length done) refl in
+      let n : weld same_node (N (4 * length done)) (each (corners_at q.poly) q.leaves) ≡ N (4 * length (done ++ here)) =
+      cc (so-far done (here ++ rest) e, so-far (done ++ here) rest e', weld-append same_node [] (each corners_in done) (each (corners_at q.poly) q.leaves), each_append corners_in done here, each_map corners_in (leaf k q.poly) q.leaves) in
+      record {
+        nodes = rw n r.nodes;
+        cells = rw n (row-patches k (length (done ++ here)) q.poly rest _ r.cells (length done) q.leaves d u);
+        edges = λ up U l a.
+            (let parts = each (sides_at (N (4 * length (done ++ here))) q.poly) q.leaves in
+            let once = weld same_pair [] parts in
+            let own = map (part k) once in
+            let later = all_append (λ (p : Part). p.piece < suc k) l own (all-by (λ (p : Part). p.piece < k) (λ (p : Part). p.piece < suc k) l (λ p h. omega arith) a) (all_map (λ (p : Part). p.piece < suc k) (part k) once (λ e. omega arith)) in
+            let slots = row-slots k (length (done ++ here)) q.poly rest up (U.0 ∙ u) (length done) q.leaves d u l in
+            let others = r.edges up (subst (λ (z : ℕ). Upto up z qs (suc k)) u U.1) (l ++ own) later in
+            rw n (cc (weld-append same_part l (map (part k) parts) (flat_slots ks (length ls) up (length (done ++ here)) rest), parts-own k l parts a, map-append edge_of l own, map_back k once, append_assoc (map edge_of l) once (edges_from (N (4 * length (done ++ here))) qs))));
+      }
 
 -- ---- what the code computes
 
 -- the nodes, the cells and the edges, by the keys of the places and of the slots
 module _ (qs : List Piece) (ks : List ℕ) (K : Keyed same_node nowhere (flat_places (leaves_from qs 0)) ks) where
-  abbrev ls : List Leaf
-  ls = leaves_from qs 0
+  abbrev leaves : List Leaf
+  leaves = leaves_from qs 0
 
-  by-places : Keyed same_node nowhere (places qs) ks
-  by-places = subst (λ (z : List Node). Keyed same_node nowhere z ks) (sym (flat-places qs 0)) K
+  all : Made leaves ks K [] 0 qs 0
+  all = subst (λ (n : List MeshNode). Made leaves ks K n 0 qs 0) (weld-nil same_node []) (made leaves ks K [] qs 0 refl)
 
-  pub flat-nodes : nodes_from [] qs ≡ map (nth (flat_places ls)) (news ks (4 * length ls))
-  flat-nodes = board-nodes qs ks by-places ∙ ap₂ {C = List Node} (λ (u : List Node) (w : ℕ). map (nth u) (news ks (4 * w))) (flat-places qs 0) (flat-sum qs 0)
+  pub flat-nodes : nodes_from [] qs ≡ map (nth (flat_places leaves)) (news ks (4 * length leaves))
+  flat-nodes = all.nodes ∙ welded same_node nowhere (flat_places leaves) ks K (4 * length leaves) (omega (arith, places-length leaves ks K))
 
-  pub flat-cells : patches_from [] qs ≡ flat_patches ks 0 ls
-  flat-cells = board-patches qs ks by-places ∙ flat-patches ks 0 qs 0
+  pub flat-cells : patches_from [] qs ≡ flat_patches ks 0 leaves
+  flat-cells = all.cells
 
   module _ (up : ℕ → ℕ) (u : Upto up 0 qs 0) where
     abbrev slots : List Part
-    slots = flat_slots ks (length ls) up 0 ls
+    slots = flat_slots ks (length leaves) up 0 leaves
 
-    welded-slots : edges_from [] qs ≡ map edge_of (weld same_part [] slots)
-    welded-slots =
-        sym (edges-parts [] qs 0)
-        ∙ ap (map edge_of)
-        (ap (weld same_part []) (board-parts qs ks by-places)
-        ∙ (board-slots ks (leaf_sum qs) up [] 0 qs 0 u ∙ ap (λ (z : ℕ). weld same_part [] (flat_slots ks z up 0 ls)) (flat-sum qs 0)))
-
-    pub flat-edges : (d : Part) (pk : List ℕ) → Keyed same_part d slots pk → edges_from [] qs ≡ map edge_of (map (λ (i : ℕ). get_or slots i d) (news pk (length slots)))
-    flat-edges d pk S = welded-slots ∙ ap (map edge_of) (welded-all same_part d slots pk S)
+    pub flat-edges : edges_from [] qs ≡ map edge_of (weld same_part [] slots)
+    flat-edges = sym (all.edges up u [] (all_nil (λ (p : Part). p.piece < 0)))

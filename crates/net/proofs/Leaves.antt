@@ -1,12 +1,11 @@
 -- What holds of a table's leaves and of its polygons holds of the pieces, and of the nodes. Assumes nothing.
-use Rattle.std.proofs.Common.{◌≡◌, refl, sym, ap, subst, Bool, true, false, ◌&&◌, Option, None, Some, ◌∙◌, List, [], ◌∷◌, ◌++◌, ℕ, zero, suc, ◌+◌, ◌≤◌, ◌<◌, arith, eqb, length, get_or, take, drop, zero-add, length-take, slice_get}
+use Rattle.std.proofs.Common.{◌≡◌, refl, sym, subst, None, Some, List, [], ◌∷◌, ◌++◌, ℕ, zero, suc, ◌+◌, ◌≤◌, ◌<◌, arith, length, get_or, take, drop, length-take, slice_get}
 use Rattle.std.proofs.lemmas.Option.{slice_get_within}
 use Rattle.std.specs.List.{All as AllAt}
 use Rattle.cell.specs.Boxes.{Box}
-use Rattle.table.specs.Mesh.{Cell, is_none}
-use Rattle.net.specs.Net.{Poly, Node, Piece, same_node, corners_at, corners_of, leaves_of, pieces, nodes_from}
-use Rattle.net.proofs.Keys.{both}
-use Rattle.net.proofs.All.{All, all_nil, all-by, all-weld, all-each-by}
+use Rattle.table.specs.Mesh.{Cell}
+use Rattle.net.specs.Net.{Poly, MeshNode, Piece, same_node, corners_at, corners_of, leaves_of, pieces, nodes_from}
+use Rattle.net.proofs.All.{All, all_nil, all_cons, all-by, all-weld, all-each-by}
 use Rattle.net.proofs.Pieces.{all_corners, nodes-weld}
 use Rattle.net.proofs.Faces.{Within}
 
@@ -22,21 +21,12 @@ unfolding All
 all-of P [] h = tt
 all-of P (a ∷ l) h = (h 0 a (omega arith), all-of P l (λ i d q. h (suc i) d (omega arith)))
 
-no-kids : (k : Option ℕ) → is_none k ≡ true → k ≡ None
-no-kids None e = refl
-no-kids (Some f) e = cc
-
 module _ (P : Box → Type 0) where
   -- of the leaves of one polygon
   leaves_all : (cs : List Cell) (k : ℕ) → All (λ (c : Cell). c.kids ≡ None → P c.box) cs → All P (leaves_of cs k)
   unfolding All leaves_of
   leaves_all [] k h = tt
-  leaves_all (c ∷ cs) k h = by (is_none c.kids && eqb c.polygon k) refl (leaves_all cs k h.1)
-    where
-      by : (b : Bool) → (is_none c.kids && eqb c.polygon k) ≡ b → All P (leaves_of cs k)
-          → All P (elim b as (λ (z : Bool). List Box) [ true ↦ c.box ∷ leaves_of cs k | false ↦ leaves_of cs k ])
-      by true e r = (h.0 (no-kids c.kids (both (is_none c.kids) (eqb c.polygon k) e).0), r)
-      by false e r = r
+  leaves_all (c ∷ cs) k h = grind (arith, h.0, leaves_all cs k h.1, all_cons P c.box)
 
   pub leaves-pieces : (cs : List Cell) (ps : List Poly) (k : ℕ) → All (λ (c : Cell). c.kids ≡ None → P c.box) cs
       → All (λ (q : Piece). All P q.leaves) (pieces cs ps k)
@@ -63,24 +53,12 @@ pieces-split : (cs : List Cell) (ps : List Poly) (j k : ℕ) (p : Poly) → slic
     → pieces cs ps j ≡ pieces cs (take k ps) j ++ (piece_of cs p (j + k) ∷ pieces cs (drop (suc k) ps) (suc (j + k)))
 unfolding pieces
 pieces-split cs [] j k p h = absurd (cc h)
-pieces-split cs (r ∷ ps) j zero p h =
-    let e : r ≡ p = cc h in
-    let z : j ≡ j + 0 = omega arith in
-    subst (λ (q : Poly). pieces cs (r ∷ ps) j ≡ piece_of cs q (j + 0) ∷ pieces cs ps (suc (j + 0))) e
-    (ap (λ (z : ℕ). piece_of cs r z ∷ pieces cs ps (suc z)) z)
-pieces-split cs (r ∷ ps) j (suc k) p h =
-    ap {B = List Piece} (λ l. piece_of cs r j ∷ l)
-    (pieces-split cs ps (suc j) k p h
-    ∙ ap (λ (z : ℕ). pieces cs (take k ps) (suc j) ++ (piece_of cs p z ∷ pieces cs (drop (suc k) ps) (suc z))) (over j k))
-  where
-    over : (j k : ℕ) → suc j + k ≡ j + suc k
-    over j k = omega arith
+pieces-split cs (r ∷ ps) j zero p h = grind arith
+pieces-split cs (r ∷ ps) j (suc k) p h = grind (arith, pieces-split cs ps (suc j) k p h)
 
 pub pieces-at : (cs : List Cell) (ps : List Poly) (k : ℕ) (p : Poly) → slice_get ps k ≡ Some p
     → pieces cs ps 0 ≡ pieces cs (take k ps) 0 ++ (piece_of cs p k ∷ pieces cs (drop (suc k) ps) (suc k))
-pieces-at cs ps k p h =
-    pieces-split cs ps 0 k p h
-    ∙ ap (λ (z : ℕ). pieces cs (take k ps) 0 ++ (piece_of cs p z ∷ pieces cs (drop (suc k) ps) (suc z))) (zero-add k)
+pieces-at cs ps k p h = grind (arith, pieces-split cs ps 0 k p h)
 
 pub length-pieces : (cs : List Cell) (ps : List Poly) (j : ℕ) → length (pieces cs ps j) ≡ length ps
 unfolding pieces
@@ -89,14 +67,12 @@ length-pieces cs (p ∷ ps) j = omega (arith, length-pieces cs ps (suc j))
 
 -- so the pieces before the polygon k are k
 pub length-before : (cs : List Cell) (ps : List Poly) (k : ℕ) (p : Poly) → slice_get ps k ≡ Some p → length (pieces cs (take k ps) 0) ≡ k
-length-before cs ps k p h =
-    let l = slice_get_within ps k p h in
-    omega (arith, length-pieces cs (take k ps) 0, length-take k ps)
+length-before cs ps k p h = omega (arith, slice_get_within ps k p h, length-pieces cs (take k ps) 0, length-take k ps)
 
 -- ---- nodes
 
 -- what holds of the corners of every piece holds of every node
-pub nodes-all : (Q : Node → Type 0) (qs : List Piece) → All (λ (q : Piece). All Q (corners_of q)) qs → All Q (nodes_from [] qs)
+pub nodes-all : (Q : MeshNode → Type 0) (qs : List Piece) → All (λ (q : Piece). All Q (corners_of q)) qs → All Q (nodes_from [] qs)
 nodes-all Q qs h =
     subst (All Q) (sym (nodes-weld [] qs))
     (all-weld Q same_node [] (all_corners qs) (all_nil Q) (all-each-by (λ (q : Piece). All Q (corners_of q)) Q corners_of qs (λ q c. c) h))
@@ -110,7 +86,4 @@ unfolding corners_of
 nodes-within M qs h =
     nodes-all (Within M) qs
     (all-by (λ (q : Piece). All (BoxWithin M) q.leaves) (λ (q : Piece). All (Within M) (corners_of q)) qs
-    (λ q l. all-each-by (BoxWithin M) (Within M) (corners_at q.poly) q.leaves (λ r b. corners q.poly r b) l) h)
-  where
-    corners : (p : Poly) (r : Box) → BoxWithin M r → All (Within M) (corners_at p r)
-    corners p r b = unfold All in ((b.0, b.1), ((b.2, b.1), ((b.2, b.3), ((b.0, b.3), tt))))
+    (λ q l. all-each-by (BoxWithin M) (Within M) (corners_at q.poly) q.leaves (λ r b. unfold All in ((b.0, b.1), ((b.2, b.1), ((b.2, b.3), ((b.0, b.3), tt))))) l) h)

@@ -8,7 +8,6 @@ pub mod Faces
 pub mod Leaves
 pub mod Conductances
 pub mod Gaps
-pub mod Rows
 pub mod Last
 pub mod Numbers
 pub mod Board

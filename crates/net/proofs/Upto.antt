@@ -1,12 +1,11 @@
 -- How many leaves there are in the polygons up to k, in a list that goes polygon by polygon. Assumes nothing.
-use Rattle.std.proofs.Common.{◌≡◌, refl, sym, ap, ◌∙◌, subst, Bool, true, ◌&&◌, ◌⊎◌, ⊎_elim, List, [], ◌∷◌, ◌++◌, map, append_assoc, ℕ, zero, suc, ◌+◌, ◌*◌, ◌/◌, ◌≤◌, ◌<◌, arith, ltb, leb, length, length-append, lt-ltb, le-ltb, le-leb, ltb-true, leb-true}
+use Rattle.std.proofs.lemmas.Bool.Decides.{nat_tests}
+use Rattle.std.proofs.Common.{◌≡◌, refl, sym, ap, ◌∙◌, subst, ◌&&◌, List, [], ◌∷◌, ◌++◌, map, append_assoc, ℕ, zero, suc, ◌+◌, ◌*◌, ◌/◌, ◌≤◌, ◌<◌, arith, ltb, leb, length, length-append, le-leb}
 use lib.ListN.{length-map}
 use borrow.Author.Tests.{lt-leb}
 use Rattle.cell.specs.Boxes.{Box}
 use Rattle.net.specs.Net.{Poly, Piece, one_if}
-use Rattle.net.specs.Flat.{Leaf, leaf, leaf_at, no_leaf, leaves_from}
-use Rattle.net.proofs.Find.{order}
-use Rattle.net.proofs.Keys.{bool-ext, both, both_of}
+use Rattle.net.specs.Flat.{Leaf, leaf, leaf_at, leaves_from}
 use Rattle.net.proofs.All.{All, all_append, all-by}
 use Rattle.net.proofs.Flat.{Upto}
 
@@ -38,20 +37,25 @@ of-piece k p (r ∷ rs) Q q = (q, of-piece k p rs Q q)
 from-piece : (qs : List Piece) (k : ℕ) (m : ℕ) → m ≤ k → All (λ (x : Leaf). m ≤ x.piece) (leaves_from qs k)
 unfolding leaves_from All
 from-piece [] k m h = tt
-from-piece (q ∷ qs) k m h = all_append (λ (x : Leaf). m ≤ x.piece) (map (leaf k q.poly) q.leaves) (leaves_from qs (suc k)) (of-piece k q.poly q.leaves (λ z. m ≤ z) h) (from-piece qs (suc k) m (omega arith))
+from-piece (q ∷ qs) k m h = all_append (λ (x : Leaf). m ≤ x.piece) _ _ (of-piece k q.poly q.leaves (λ z. m ≤ z) h) (from-piece qs (suc k) m (omega arith))
 
 -- the polygons from k on, behind leaves of those before
 upto_from : (done : List Leaf) (qs : List Piece) (k : ℕ) → All (λ (x : Leaf). x.piece < k) done → (full : List Leaf) → full ≡ done ++ leaves_from qs k → Upto (count_up full) (length done) qs k
 unfolding Upto leaves_from
 upto_from done [] k h full e = tt
-upto_from done (q ∷ qs) k h full e = (
-  ap (λ (z : List Leaf). count_up z k) e
-      ∙ (count-append done (map (leaf k q.poly) q.leaves ++ leaves_from qs (suc k)) k
-      ∙ omega (arith, count-append (map (leaf k q.poly) q.leaves) (leaves_from qs (suc k)) k, count-all done k (all-by (λ (x : Leaf). x.piece < k) (λ (x : Leaf). x.piece ≤ k) done (λ x p. omega arith) h), count-all (map (leaf k q.poly) q.leaves) k (of-piece k q.poly q.leaves (λ z. z ≤ k) (omega arith)), count_none (leaves_from qs (suc k)) k (from-piece qs (suc k) (suc k) (omega arith)), length-map q.leaves (leaf k q.poly))),
-  subst (λ (n : ℕ). Upto (count_up full) n qs (suc k)) (length-append done (map (leaf k q.poly) q.leaves) ∙ ap (λ (n : ℕ). length done + n) (length-map q.leaves (leaf k q.poly)))
-      (upto_from (done ++ map (leaf k q.poly) q.leaves) qs (suc k) (all_append (λ (x : Leaf). x.piece < suc k) done (map (leaf k q.poly) q.leaves) (all-by (λ (x : Leaf). x.piece < k) (λ (x : Leaf). x.piece < suc k) done (λ x p. omega arith) h) (of-piece k q.poly q.leaves (λ z. z < suc k) (omega arith))) full
-      (e ∙ sym (append_assoc done (map (leaf k q.poly) q.leaves) (leaves_from qs (suc k))))),
-)
+upto_from done (q ∷ qs) k h full e =
+    let here = map (leaf k q.poly) q.leaves in
+    let rest = leaves_from qs (suc k) in
+    let n = length-map q.leaves (leaf k q.poly) in
+    let u : length (done ++ here) ≡ length done + length q.leaves = omega (arith, length-append done here) in
+    let a = count-all done k (all-by (λ (x : Leaf). x.piece < k) (λ (x : Leaf). x.piece ≤ k) done (λ x p. omega arith) h) in
+    let b = count-all here k (of-piece k q.poly q.leaves (λ z. z ≤ k) (omega arith)) in
+    let c = count_none rest k (from-piece qs (suc k) (suc k) (omega arith)) in
+    let d = all-by (λ (x : Leaf). x.piece < k) (λ (x : Leaf). x.piece < suc k) done (λ x p. omega arith) h in (
+      grind (arith, count-append done (here ++ rest) k, count-append here rest k),
+      subst (λ (z : ℕ). Upto (count_up full) z qs (suc k)) u
+          (upto_from (done ++ here) qs (suc k) (all_append (λ (x : Leaf). x.piece < suc k) done here d (of-piece k q.poly q.leaves (λ z. z < suc k) (omega arith))) full (e ∙ sym (append_assoc done here rest))),
+    )
 
 pub upto_all : (qs : List Piece) → Upto (count_up (leaves_from qs 0)) 0 qs 0
 upto_all qs = upto_from [] qs 0 (unfold All in tt) (leaves_from qs 0) refl
@@ -76,7 +80,7 @@ rising-at : (m : ℕ) (xs : List Leaf) (u : ℕ) → Rising m xs → u < length 
 unfolding Rising
 rising-at m [] u r h = absurd (omega arith)
 rising-at m (x ∷ xs) zero r h = r.0
-rising-at m (x ∷ xs) (suc u) r h = let a = r.0 in let b = rising-at x.piece xs u r.1 (omega arith) in omega arith
+rising-at m (x ∷ xs) (suc u) r h = grind (arith, r.0, rising-at x.piece xs u r.1)
 
 over : (k : ℕ) (ys : List Leaf) (m : ℕ) → Rising m ys → k < m → All (λ (y : Leaf). k < y.piece) ys
 unfolding Rising All
@@ -86,42 +90,10 @@ over k (y ∷ ys) m r h = let a = r.0 in (omega arith, over k ys y.piece r.1 (om
 -- the leaf u is of a polygon up to k if it is one of so many
 pub so-many : (xs : List Leaf) (m k u : ℕ) → Rising m xs → ltb u (count_up xs k) ≡ (ltb u (length xs) && leb (leaf_at xs u).piece k)
 unfolding count_up Rising
-so-many [] m k u r = le-ltb u 0 (omega arith) ∙ sym (ap (λ (b : Bool). b && leb no_leaf.piece k) (le-ltb u 0 (omega arith)))
-so-many (x ∷ xs) m k u r =
-    ⊎_elim
-    (λ (h : k < x.piece).
-    bool-ext (ltb u (one_if (leb x.piece k) + count_up xs k)) (ltb u (suc (length xs)) && leb (leaf_at (x ∷ xs) u).piece k)
-    (λ e. (let p = ltb-true u (one_if (leb x.piece k) + count_up xs k) e in
-    let z = count_none xs k (over k xs x.piece r.1 h) in
-    absurd (omega (arith, ap one_if (lt-leb x.piece k h)))))
-    (λ e. (let t = both (ltb u (suc (length xs))) (leb (leaf_at (x ∷ xs) u).piece k) e in
-    let p = ltb-true u (suc (length xs)) t.0 in
-    let q = leb-true (leaf_at (x ∷ xs) u).piece k t.1 in
-    let a = rising-at x.piece (x ∷ xs) u (own r.1) p in
-    absurd (omega arith))))
-    (λ (h : x.piece ≤ k). within u (le-leb x.piece k h) (λ v. so-many xs x.piece k v r.1))
-    (order k x.piece)
-  where
-    own : Rising x.piece xs → Rising x.piece (x ∷ xs)
-    own s = (omega arith, s)
-
-    within : (u : ℕ) → leb x.piece k ≡ true → ((v : ℕ) → ltb v (count_up xs k) ≡ (ltb v (length xs) && leb (leaf_at xs v).piece k)) → ltb u (one_if (leb x.piece k) + count_up xs k) ≡ (ltb u (suc (length xs)) && leb (leaf_at (x ∷ xs) u).piece k)
-    within zero e ih = rw (e, lt-ltb 0 (1 + count_up xs k) (omega arith), lt-ltb 0 (suc (length xs)) (omega arith))
-    within (suc u) e ih =
-        rw e
-        (bool-ext (ltb (suc u) (1 + count_up xs k)) (ltb (suc u) (suc (length xs)) && leb (leaf_at xs u).piece k)
-        (λ p. (let a = ltb-true (suc u) (1 + count_up xs k) p in
-        let b = both (ltb u (length xs)) (leb (leaf_at xs u).piece k) (sym (ih u) ∙ lt-ltb u (count_up xs k) (omega arith)) in
-        let d = ltb-true u (length xs) b.0 in
-        both_of (ltb (suc u) (suc (length xs))) (leb (leaf_at xs u).piece k) (lt-ltb (suc u) (suc (length xs)) (omega arith)) b.1))
-        (λ p. (let t = both (ltb (suc u) (suc (length xs))) (leb (leaf_at xs u).piece k) p in
-        let a = ltb-true (suc u) (suc (length xs)) t.0 in
-        let b = ltb-true u (count_up xs k) (ih u ∙ both_of (ltb u (length xs)) (leb (leaf_at xs u).piece k) (lt-ltb u (length xs) (omega arith)) t.1) in
-        lt-ltb (suc u) (1 + count_up xs k) (omega arith))))
+so-many [] m k u r = grind (arith, nat_tests)
+so-many (x ∷ xs) m k zero r = grind (arith, nat_tests, count_none xs k, over k xs x.piece r.1)
+so-many (x ∷ xs) m k (suc u) r = grind (arith, nat_tests, count_none xs k, over k xs x.piece r.1, rising-at x.piece xs u r.1, so-many xs x.piece k u r.1)
 
 -- four places to a leaf
 pub so-far-four : (xs : List Leaf) (m k f : ℕ) → Rising m xs → ltb f (4 * count_up xs k) ≡ (ltb f (4 * length xs) && leb (leaf_at xs (f / 4)).piece k)
-so-far-four xs m k f r = quarter f (count_up xs k) ∙ (so-many xs m k (f / 4) r ∙ ap (λ (b : Bool). b && leb (leaf_at xs (f / 4)).piece k) (sym (quarter f (length xs))))
-  where
-    quarter : (f n : ℕ) → ltb f (4 * n) ≡ ltb (f / 4) n
-    quarter f n = bool-ext (ltb f (4 * n)) (ltb (f / 4) n) (λ e. let p = ltb-true f (4 * n) e in lt-ltb (f / 4) n (omega arith)) (λ e. let p = ltb-true (f / 4) n e in lt-ltb f (4 * n) (omega arith))
+so-far-four xs m k f r = grind (arith, nat_tests, so-many xs m k (f / 4) r)

@@ -1,16 +1,16 @@
 -- Boards, with the net that the oracle (the original Rust, and the rules read on its own) makes of each; coordinates are 2 ^ 36 more than
 -- the oracle's. And the test that the definitions make the same, number for number and bit for bit.
-use Rattle.std.specs.Prelude.{Bool, true, false, ◌&&◌, List, [], ◌∷◌, map, ℕ, eqb, Option, None, Some, IsTrue}
+use Rattle.std.specs.Prelude.{Bool, true, false, ◌&&◌, List, [], ◌∷◌, map, ℕ, ◌==◌, Option, None, Some, IsTrue}
 use Rattle.std.specs.Float.{binary64}
 use Rattle.std.specs.Float.Ieee.{of_bits, to_bits}
 use Rattle.table.specs.Mesh.{Cell}
-use Rattle.net.specs.Net.{Poly, Node, Patch, Edge, Net, network}
+use Rattle.net.specs.Net.{Poly, MeshNode, NetCell, Edge, Net, network}
 
 pub record Board : Type 0 where
-  pub cells : List Cell
+  pub table : List Cell
   pub polys : List Poly
   pub nodes : List (List ℕ)
-  pub patches : List (List ℕ)
+  pub cells : List (List ℕ)
   pub edges : List (List ℕ)
 
 abbrev cell : ℕ → ℕ → ℕ → ℕ → ℕ → Option ℕ → Option ℕ → ℕ → Cell
@@ -29,20 +29,20 @@ abbrev edge : ℕ → ℕ → ℕ → List ℕ
 edge a b g = a ∷ b ∷ g ∷ []
 
 -- a net in numbers
-abbrev of_node : Node → List ℕ
+abbrev of_node : MeshNode → List ℕ
 of_node n = node n.layer n.component n.x n.y
 
-abbrev of_patch : Patch → List ℕ
-of_patch c = patch c.sw c.se c.ne c.nw (to_bits binary64 c.sheet)
+abbrev of_patch : NetCell → List ℕ
+of_patch c = patch c.corners.southwest c.corners.southeast c.corners.northeast c.corners.northwest (to_bits binary64 c.sheet)
 
 abbrev of_edge : Edge → List ℕ
-of_edge e = edge e.a e.b (to_bits binary64 e.g)
+of_edge e = edge e.from e.to (to_bits binary64 e.conductance)
 
 unfoldable pub alike : List ℕ → List ℕ → Bool
 alike [] [] = true
 alike [] (y ∷ ys) = false
 alike (x ∷ xs) [] = false
-alike (x ∷ xs) (y ∷ ys) = eqb x y && alike xs ys
+alike (x ∷ xs) (y ∷ ys) = (x == y) && alike xs ys
 
 unfoldable pub all_alike : List (List ℕ) → List (List ℕ) → Bool
 all_alike [] [] = true
@@ -51,67 +51,67 @@ all_alike (x ∷ xs) [] = false
 all_alike (x ∷ xs) (y ∷ ys) = alike x y && all_alike xs ys
 
 unfoldable pub agrees : Board → Net → Bool
-agrees b n = all_alike (map of_node n.nodes) b.nodes && (all_alike (map of_patch n.patches) b.patches && all_alike (map of_edge n.edges) b.edges)
+agrees b n = all_alike (map of_node n.nodes) b.nodes && (all_alike (map of_patch n.cells) b.cells && all_alike (map of_edge n.edges) b.edges)
 
 unfoldable pub all_agree : List Board → Bool
 all_agree [] = true
-all_agree (b ∷ bs) = agrees b (network b.cells b.polys) && all_agree bs
+all_agree (b ∷ bs) = agrees b (network b.table b.polys) && all_agree bs
 
 -- the rules' worked example
 unfoldable pub worked : Board
 worked = record {
-  cells =
+  table =
       cell 68719476736 68719476736 68719476740 68719476740 0 None None 0
       ∷ [];
   polys = poly 1 0 0x3ff0000000000000 ∷ [];
   nodes = node 1 0 68719476736 68719476736 ∷ node 1 0 68719476740 68719476736 ∷ node 1 0 68719476740 68719476740 ∷ node 1 0 68719476736 68719476740 ∷ [];
-  patches = patch 0 1 2 3 0x3ff0000000000000 ∷ [];
+  cells = patch 0 1 2 3 0x3ff0000000000000 ∷ [];
   edges = edge 0 1 0x3fe0000000000000 ∷ edge 3 2 0x3fe0000000000000 ∷ edge 0 3 0x3fe0000000000000 ∷ edge 1 2 0x3fe0000000000000 ∷ [];
 }
 
 -- two polygons of one layer and component, an odd gap; a later polygon's node leaves an earlier edge whole
 unfoldable pub odd_gaps : Board
 odd_gaps = record {
-  cells =
+  table =
       cell 68719476736 68719476736 68719476738 68719476738 0 None None 0
       ∷ cell 68719476736 68719476737 68719476738 68719476739 0 None None 1
       ∷ [];
   polys = poly 1 0 0x3ff0000000000000 ∷ poly 1 0 0x3ff0000000000000 ∷ [];
   nodes = node 1 0 68719476736 68719476736 ∷ node 1 0 68719476738 68719476736 ∷ node 1 0 68719476738 68719476738 ∷ node 1 0 68719476736 68719476738 ∷ node 1 0 68719476736 68719476737 ∷ node 1 0 68719476738 68719476737 ∷ node 1 0 68719476738 68719476739 ∷ node 1 0 68719476736 68719476739 ∷ [];
-  patches = patch 0 1 2 3 0x3ff0000000000000 ∷ patch 4 5 6 7 0x3ff0000000000000 ∷ [];
+  cells = patch 0 1 2 3 0x3ff0000000000000 ∷ patch 4 5 6 7 0x3ff0000000000000 ∷ [];
   edges = edge 0 1 0x3fd0000000000000 ∷ edge 3 2 0x3fe0000000000000 ∷ edge 0 3 0x3fe0000000000000 ∷ edge 1 2 0x3fe0000000000000 ∷ edge 4 5 0x3fe0000000000000 ∷ edge 7 6 0x3fd0000000000000 ∷ edge 4 3 0x4000000000000000 ∷ edge 3 7 0x4000000000000000 ∷ edge 5 2 0x4000000000000000 ∷ edge 2 6 0x4000000000000000 ∷ [];
 }
 
 -- two components of one layer side by side
 unfoldable pub components : Board
 components = record {
-  cells =
+  table =
       cell 68719476736 68719476736 68719476738 68719476738 0 None None 0
       ∷ cell 68719476738 68719476736 68719476740 68719476738 0 None None 1
       ∷ [];
   polys = poly 1 0 0x3ff0000000000000 ∷ poly 1 7 0x4008000000000000 ∷ [];
   nodes = node 1 0 68719476736 68719476736 ∷ node 1 0 68719476738 68719476736 ∷ node 1 0 68719476738 68719476738 ∷ node 1 0 68719476736 68719476738 ∷ node 1 7 68719476738 68719476736 ∷ node 1 7 68719476740 68719476736 ∷ node 1 7 68719476740 68719476738 ∷ node 1 7 68719476738 68719476738 ∷ [];
-  patches = patch 0 1 2 3 0x3ff0000000000000 ∷ patch 4 5 6 7 0x4008000000000000 ∷ [];
+  cells = patch 0 1 2 3 0x3ff0000000000000 ∷ patch 4 5 6 7 0x4008000000000000 ∷ [];
   edges = edge 0 1 0x3ff0000000000000 ∷ edge 3 2 0x3fe0000000000000 ∷ edge 0 3 0x3fe0000000000000 ∷ edge 1 2 0x3fe0000000000000 ∷ edge 4 5 0x3fc5555555555555 ∷ edge 7 6 0x3fd5555555555555 ∷ edge 4 7 0x3fc5555555555555 ∷ edge 5 6 0x3fc5555555555555 ∷ [];
 }
 
 -- one square in two polygons of one layer and component, of different sheet resistance
 unfoldable pub twice : Board
 twice = record {
-  cells =
+  table =
       cell 68719476734 68719476734 68719476736 68719476736 0 None None 0
       ∷ cell 68719476734 68719476734 68719476736 68719476736 0 None None 1
       ∷ [];
   polys = poly 1 0 0x3fe6666666666666 ∷ poly 1 0 0x3fd3333333333333 ∷ [];
   nodes = node 1 0 68719476734 68719476734 ∷ node 1 0 68719476736 68719476734 ∷ node 1 0 68719476736 68719476736 ∷ node 1 0 68719476734 68719476736 ∷ [];
-  patches = patch 0 1 2 3 0x3fe6666666666666 ∷ patch 0 1 2 3 0x3fd3333333333333 ∷ [];
+  cells = patch 0 1 2 3 0x3fe6666666666666 ∷ patch 0 1 2 3 0x3fd3333333333333 ∷ [];
   edges = edge 0 1 0x3fe6db6db6db6db7 ∷ edge 3 2 0x3fe6db6db6db6db7 ∷ edge 0 3 0x3fe6db6db6db6db7 ∷ edge 1 2 0x3fe6db6db6db6db7 ∷ edge 0 1 0x3fe6db6db6db6db7 ∷ edge 3 2 0x3fe6db6db6db6db7 ∷ edge 0 3 0x3fe6db6db6db6db7 ∷ edge 1 2 0x3fe6db6db6db6db7 ∷ [];
 }
 
 -- hanging nodes, and the same square on a second layer
 unfoldable pub hanging : Board
 hanging = record {
-  cells =
+  table =
       cell 68719476736 68719476736 68719476740 68719476740 0 None (Some 3) 0
       ∷ cell 68719476740 68719476736 68719476744 68719476740 0 None None 0
       ∷ cell 68719476736 68719476736 68719476740 68719476740 0 None None 1
@@ -122,14 +122,14 @@ hanging = record {
       ∷ [];
   polys = poly 1 0 0x3fb999999999999a ∷ poly 2 0 0x4014000000000000 ∷ [];
   nodes = node 1 0 68719476740 68719476736 ∷ node 1 0 68719476744 68719476736 ∷ node 1 0 68719476744 68719476740 ∷ node 1 0 68719476740 68719476740 ∷ node 1 0 68719476736 68719476736 ∷ node 1 0 68719476738 68719476736 ∷ node 1 0 68719476738 68719476738 ∷ node 1 0 68719476736 68719476738 ∷ node 1 0 68719476740 68719476738 ∷ node 1 0 68719476738 68719476740 ∷ node 1 0 68719476736 68719476740 ∷ node 2 0 68719476736 68719476736 ∷ node 2 0 68719476740 68719476736 ∷ node 2 0 68719476740 68719476740 ∷ node 2 0 68719476736 68719476740 ∷ [];
-  patches = patch 0 1 2 3 0x3fb999999999999a ∷ patch 4 5 6 7 0x3fb999999999999a ∷ patch 5 0 8 6 0x3fb999999999999a ∷ patch 7 6 9 10 0x3fb999999999999a ∷ patch 6 8 3 9 0x3fb999999999999a ∷ patch 11 12 13 14 0x4014000000000000 ∷ [];
+  cells = patch 0 1 2 3 0x3fb999999999999a ∷ patch 4 5 6 7 0x3fb999999999999a ∷ patch 5 0 8 6 0x3fb999999999999a ∷ patch 7 6 9 10 0x3fb999999999999a ∷ patch 6 8 3 9 0x3fb999999999999a ∷ patch 11 12 13 14 0x4014000000000000 ∷ [];
   edges = edge 0 1 0x4004000000000000 ∷ edge 3 2 0x4004000000000000 ∷ edge 0 8 0x402e000000000000 ∷ edge 8 3 0x402e000000000000 ∷ edge 1 2 0x4014000000000000 ∷ edge 4 5 0x4014000000000000 ∷ edge 7 6 0x4024000000000000 ∷ edge 4 7 0x4014000000000000 ∷ edge 5 6 0x4024000000000000 ∷ edge 5 0 0x4014000000000000 ∷ edge 6 8 0x4024000000000000 ∷ edge 10 9 0x4014000000000000 ∷ edge 7 10 0x4014000000000000 ∷ edge 6 9 0x4024000000000000 ∷ edge 9 3 0x4014000000000000 ∷ edge 11 12 0x3fb999999999999a ∷ edge 14 13 0x3fb999999999999a ∷ edge 11 14 0x3fb999999999999a ∷ edge 12 13 0x3fb999999999999a ∷ [];
 }
 
 -- two components at one place, the second one split: a midpoint's extent goes to the last numbered
 unfoldable pub one_place : Board
 one_place = record {
-  cells =
+  table =
       cell 68719476736 68719476736 68719476740 68719476744 0 None None 0
       ∷ cell 68719476736 68719476736 68719476740 68719476744 0 None (Some 3) 1
       ∷ cell 68719476740 68719476736 68719476748 68719476744 0 None None 1
@@ -140,14 +140,14 @@ one_place = record {
       ∷ [];
   polys = poly 3 1 0x3fb999999999999a ∷ poly 3 2 0x4014000000000000 ∷ [];
   nodes = node 3 1 68719476736 68719476736 ∷ node 3 1 68719476740 68719476736 ∷ node 3 1 68719476740 68719476744 ∷ node 3 1 68719476736 68719476744 ∷ node 3 2 68719476740 68719476736 ∷ node 3 2 68719476748 68719476736 ∷ node 3 2 68719476748 68719476744 ∷ node 3 2 68719476740 68719476744 ∷ node 3 2 68719476736 68719476736 ∷ node 3 2 68719476738 68719476736 ∷ node 3 2 68719476738 68719476740 ∷ node 3 2 68719476736 68719476740 ∷ node 3 2 68719476740 68719476740 ∷ node 3 2 68719476738 68719476744 ∷ node 3 2 68719476736 68719476744 ∷ [];
-  patches = patch 0 1 2 3 0x3fb999999999999a ∷ patch 4 5 6 7 0x4014000000000000 ∷ patch 8 9 10 11 0x4014000000000000 ∷ patch 9 4 12 10 0x4014000000000000 ∷ patch 11 10 13 14 0x4014000000000000 ∷ patch 10 12 7 13 0x4014000000000000 ∷ [];
+  cells = patch 0 1 2 3 0x3fb999999999999a ∷ patch 4 5 6 7 0x4014000000000000 ∷ patch 8 9 10 11 0x4014000000000000 ∷ patch 9 4 12 10 0x4014000000000000 ∷ patch 11 10 13 14 0x4014000000000000 ∷ patch 10 12 7 13 0x4014000000000000 ∷ [];
   edges = edge 0 1 0x4034000000000000 ∷ edge 3 2 0x4014000000000000 ∷ edge 0 3 0x4014000000000000 ∷ edge 1 2 0x3ff4000000000000 ∷ edge 4 5 0x3fa999999999999a ∷ edge 7 6 0x3fc999999999999a ∷ edge 4 12 0x3fc999999999999a ∷ edge 12 7 0x3fc999999999999a ∷ edge 5 6 0x3fb999999999999a ∷ edge 8 9 0x3fc999999999999a ∷ edge 11 10 0x3fd999999999999a ∷ edge 8 11 0x3fa999999999999a ∷ edge 9 10 0x3fb999999999999a ∷ edge 9 4 0x3fc999999999999a ∷ edge 10 12 0x3fd999999999999a ∷ edge 14 13 0x3fd999999999999a ∷ edge 11 14 0x3fa999999999999a ∷ edge 10 13 0x3fb999999999999a ∷ edge 13 7 0x3fd999999999999a ∷ [];
 }
 
 -- halves that are no cell's sides and keep their conductance, of leaves that are no squares: each operation is rounded once, in the order told
 unfoldable pub oblong : Board
 oblong = record {
-  cells =
+  table =
       cell 68719476736 68719476736 68719476746 68719476742 0 None None 0
       ∷ cell 68719476741 68719476736 68719476751 68719476742 0 None None 1
       ∷ cell 68719476736 68719476756 68719476742 68719476766 0 None None 2
@@ -155,55 +155,55 @@ oblong = record {
       ∷ [];
   polys = poly 1 0 0x404cf98870c7b542 ∷ poly 1 0 0x404cf98870c7b542 ∷ poly 1 0 0x404cf98870c7b542 ∷ poly 1 0 0x404cf98870c7b542 ∷ [];
   nodes = node 1 0 68719476736 68719476736 ∷ node 1 0 68719476746 68719476736 ∷ node 1 0 68719476746 68719476742 ∷ node 1 0 68719476736 68719476742 ∷ node 1 0 68719476741 68719476736 ∷ node 1 0 68719476751 68719476736 ∷ node 1 0 68719476751 68719476742 ∷ node 1 0 68719476741 68719476742 ∷ node 1 0 68719476736 68719476756 ∷ node 1 0 68719476742 68719476756 ∷ node 1 0 68719476742 68719476766 ∷ node 1 0 68719476736 68719476766 ∷ node 1 0 68719476736 68719476761 ∷ node 1 0 68719476742 68719476761 ∷ node 1 0 68719476742 68719476771 ∷ node 1 0 68719476736 68719476771 ∷ [];
-  patches = patch 0 1 2 3 0x404cf98870c7b542 ∷ patch 4 5 6 7 0x404cf98870c7b542 ∷ patch 8 9 10 11 0x404cf98870c7b542 ∷ patch 12 13 14 15 0x404cf98870c7b542 ∷ [];
+  cells = patch 0 1 2 3 0x404cf98870c7b542 ∷ patch 4 5 6 7 0x404cf98870c7b542 ∷ patch 8 9 10 11 0x404cf98870c7b542 ∷ patch 12 13 14 15 0x404cf98870c7b542 ∷ [];
   edges = edge 0 1 0x3f753465cb1544fc ∷ edge 3 2 0x3f753465cb1544fc ∷ edge 0 3 0x3f7d7370ef64a6eb ∷ edge 1 2 0x3f8d7370ef64a6eb ∷ edge 4 1 0x3f953465cb1544fc ∷ edge 1 5 0x3f953465cb1544fc ∷ edge 7 2 0x3f953465cb1544fc ∷ edge 2 6 0x3f953465cb1544fc ∷ edge 4 7 0x3f8d7370ef64a6eb ∷ edge 5 6 0x3f7d7370ef64a6eb ∷ edge 8 9 0x3f7d7370ef64a6eb ∷ edge 11 10 0x3f8d7370ef64a6eb ∷ edge 8 11 0x3f753465cb1544fc ∷ edge 9 10 0x3f753465cb1544fc ∷ edge 12 13 0x3f8d7370ef64a6eb ∷ edge 15 14 0x3f7d7370ef64a6eb ∷ edge 12 11 0x3f953465cb1544fc ∷ edge 11 15 0x3f953465cb1544fc ∷ edge 13 10 0x3f953465cb1544fc ∷ edge 10 14 0x3f953465cb1544fc ∷ [];
 }
 
 -- the midpoint's extent goes to the last numbered node only (random, seed 10201)
 unfoldable pub last_at_midpoint : Board
 last_at_midpoint = record {
-  cells =
+  table =
       cell 68719476756 68719476744 68719476760 68719476752 0 None None 0
       ∷ cell 68719476748 68719476748 68719476756 68719476756 0 None None 2
       ∷ cell 68719476748 68719476748 68719476756 68719476752 0 None None 0
       ∷ [];
   polys = poly 0 1 0x3f947ae147ae147b ∷ poly 1 0 0x3f947ae147ae147b ∷ poly 0 0 0x3fe0000000000000 ∷ poly 0 0 0x3f947ae147ae147b ∷ [];
   nodes = node 0 1 68719476756 68719476744 ∷ node 0 1 68719476760 68719476744 ∷ node 0 1 68719476760 68719476752 ∷ node 0 1 68719476756 68719476752 ∷ node 0 1 68719476748 68719476748 ∷ node 0 1 68719476756 68719476748 ∷ node 0 1 68719476748 68719476752 ∷ node 0 0 68719476748 68719476748 ∷ node 0 0 68719476756 68719476748 ∷ node 0 0 68719476756 68719476756 ∷ node 0 0 68719476748 68719476756 ∷ [];
-  patches = patch 0 1 2 3 0x3f947ae147ae147b ∷ patch 4 5 3 6 0x3f947ae147ae147b ∷ patch 7 8 9 10 0x3fe0000000000000 ∷ [];
+  cells = patch 0 1 2 3 0x3f947ae147ae147b ∷ patch 4 5 3 6 0x3f947ae147ae147b ∷ patch 7 8 9 10 0x3fe0000000000000 ∷ [];
   edges = edge 0 1 0x4039000000000000 ∷ edge 3 2 0x4039000000000000 ∷ edge 0 5 0x4049000000000000 ∷ edge 5 3 0x4049000000000000 ∷ edge 1 2 0x4029000000000000 ∷ edge 4 5 0x4039000000000000 ∷ edge 6 3 0x4039000000000000 ∷ edge 4 6 0x4059000000000000 ∷ edge 7 8 0x3fe0000000000000 ∷ edge 10 9 0x3fe0000000000000 ∷ edge 7 10 0x3ff0000000000000 ∷ edge 8 9 0x4000000000000000 ∷ [];
 }
 
 -- an extent is never made smaller (random, seed 1869)
 unfoldable pub extent_kept : Board
 extent_kept = record {
-  cells =
+  table =
       cell 68719476732 68719476740 68719476740 68719476748 0 None None 0
       ∷ cell 68719476728 68719476740 68719476736 68719476744 0 None None 2
       ∷ [];
   polys = poly 1 0 0x3d70000000000000 ∷ poly 1 0 0x3ff430fb0f446c2d ∷ poly 1 0 0x4047d18820bb727b ∷ poly 1 0 0x3ff0000000000000 ∷ [];
   nodes = node 1 0 68719476732 68719476740 ∷ node 1 0 68719476740 68719476740 ∷ node 1 0 68719476740 68719476748 ∷ node 1 0 68719476732 68719476748 ∷ node 1 0 68719476728 68719476740 ∷ node 1 0 68719476736 68719476740 ∷ node 1 0 68719476736 68719476744 ∷ node 1 0 68719476728 68719476744 ∷ [];
-  patches = patch 0 1 2 3 0x3d70000000000000 ∷ patch 4 5 6 7 0x4047d18820bb727b ∷ [];
+  cells = patch 0 1 2 3 0x3d70000000000000 ∷ patch 4 5 6 7 0x4047d18820bb727b ∷ [];
   edges = edge 0 1 0x4260000000000000 ∷ edge 3 2 0x4260000000000000 ∷ edge 0 3 0x4250000000000000 ∷ edge 1 2 0x4250000000000000 ∷ edge 4 0 0x3f957ef4067f6ba2 ∷ edge 0 5 0x3f957ef4067f6ba2 ∷ edge 7 6 0x3f757ef4067f6ba2 ∷ edge 4 7 0x3f857ef4067f6ba2 ∷ edge 5 6 0x3f857ef4067f6ba2 ∷ [];
 }
 
 -- a node of another layer hangs on no cell (random, seed 848)
 unfoldable pub other_layer : Board
 other_layer = record {
-  cells =
+  table =
       cell 68719476740 68719476728 68719476748 68719476736 0 None None 3
       ∷ cell 68719476740 68719476732 68719476748 68719476736 0 None None 2
       ∷ cell 68719476748 68719476732 68719476752 68719476740 0 None None 2
       ∷ [];
   polys = poly 0 0 0x3f947ae147ae147b ∷ poly 1 1 0x3f6e4f765fd8adac ∷ poly 0 1 0x3fe0000000000000 ∷ poly 1 0 0x3d70000000000000 ∷ [];
   nodes = node 0 1 68719476740 68719476732 ∷ node 0 1 68719476748 68719476732 ∷ node 0 1 68719476748 68719476736 ∷ node 0 1 68719476740 68719476736 ∷ node 0 1 68719476752 68719476732 ∷ node 0 1 68719476752 68719476740 ∷ node 0 1 68719476748 68719476740 ∷ node 1 0 68719476740 68719476728 ∷ node 1 0 68719476748 68719476728 ∷ node 1 0 68719476748 68719476736 ∷ node 1 0 68719476740 68719476736 ∷ [];
-  patches = patch 0 1 2 3 0x3fe0000000000000 ∷ patch 1 4 5 6 0x3fe0000000000000 ∷ patch 7 8 9 10 0x3d70000000000000 ∷ [];
+  cells = patch 0 1 2 3 0x3fe0000000000000 ∷ patch 1 4 5 6 0x3fe0000000000000 ∷ patch 7 8 9 10 0x3d70000000000000 ∷ [];
   edges = edge 0 1 0x3fe0000000000000 ∷ edge 3 2 0x3fe0000000000000 ∷ edge 0 3 0x4000000000000000 ∷ edge 1 2 0x4008000000000000 ∷ edge 1 4 0x3ff0000000000000 ∷ edge 6 5 0x3ff0000000000000 ∷ edge 2 6 0x4000000000000000 ∷ edge 4 5 0x3fe0000000000000 ∷ edge 7 8 0x4260000000000000 ∷ edge 10 9 0x4260000000000000 ∷ edge 7 10 0x4260000000000000 ∷ edge 8 9 0x4260000000000000 ∷ [];
 }
 
 -- a pair in two polygons, an odd coordinate (random, seed 1359)
 unfoldable pub shared_pair : Board
 shared_pair = record {
-  cells =
+  table =
       cell 68719476735 68719476741 68719476743 68719476749 0 None None 3
       ∷ cell 68719476740 68719476744 68719476744 68719476752 0 None (Some 3) 2
       ∷ cell 68719476732 68719476744 68719476736 68719476748 0 None None 1
@@ -216,7 +216,7 @@ shared_pair = record {
       ∷ [];
   polys = poly 1 1 0x3fda2e300139cf96 ∷ poly 1 0 0x3fe0000000000000 ∷ poly 1 1 0x407f4417f0915b03 ∷ poly 1 0 0x3f6e4f765fd8adac ∷ [];
   nodes = node 1 0 68719476732 68719476744 ∷ node 1 0 68719476736 68719476744 ∷ node 1 0 68719476736 68719476748 ∷ node 1 0 68719476732 68719476748 ∷ node 1 1 68719476740 68719476744 ∷ node 1 1 68719476742 68719476744 ∷ node 1 1 68719476742 68719476748 ∷ node 1 1 68719476740 68719476748 ∷ node 1 1 68719476744 68719476744 ∷ node 1 1 68719476744 68719476748 ∷ node 1 1 68719476742 68719476752 ∷ node 1 1 68719476740 68719476752 ∷ node 1 1 68719476744 68719476752 ∷ node 1 0 68719476735 68719476741 ∷ node 1 0 68719476743 68719476741 ∷ node 1 0 68719476743 68719476749 ∷ node 1 0 68719476735 68719476749 ∷ node 1 0 68719476745 68719476736 ∷ node 1 0 68719476749 68719476736 ∷ node 1 0 68719476749 68719476740 ∷ node 1 0 68719476745 68719476740 ∷ node 1 0 68719476728 68719476740 ∷ node 1 0 68719476736 68719476740 ∷ node 1 0 68719476728 68719476744 ∷ [];
-  patches = patch 0 1 2 3 0x3fe0000000000000 ∷ patch 4 5 6 7 0x407f4417f0915b03 ∷ patch 5 8 9 6 0x407f4417f0915b03 ∷ patch 7 6 10 11 0x407f4417f0915b03 ∷ patch 6 9 12 10 0x407f4417f0915b03 ∷ patch 13 14 15 16 0x3f6e4f765fd8adac ∷ patch 17 18 19 20 0x3f6e4f765fd8adac ∷ patch 21 22 1 23 0x3f6e4f765fd8adac ∷ [];
+  cells = patch 0 1 2 3 0x3fe0000000000000 ∷ patch 4 5 6 7 0x407f4417f0915b03 ∷ patch 5 8 9 6 0x407f4417f0915b03 ∷ patch 7 6 10 11 0x407f4417f0915b03 ∷ patch 6 9 12 10 0x407f4417f0915b03 ∷ patch 13 14 15 16 0x3f6e4f765fd8adac ∷ patch 17 18 19 20 0x3f6e4f765fd8adac ∷ patch 21 22 1 23 0x3f6e4f765fd8adac ∷ [];
   edges = edge 0 1 0x4000000000000000 ∷ edge 3 2 0x3ff0000000000000 ∷ edge 0 3 0x3ff0000000000000 ∷ edge 1 2 0x4000000000000000 ∷ edge 4 5 0x3f606028aeca121f ∷ edge 7 6 0x3f706028aeca121f ∷ edge 4 7 0x3f58903d062f1b2e ∷ edge 5 6 0x3f506028aeca121f ∷ edge 5 8 0x3f606028aeca121f ∷ edge 6 9 0x3f706028aeca121f ∷ edge 8 9 0x3f406028aeca121f ∷ edge 11 10 0x3f606028aeca121f ∷ edge 7 11 0x3f406028aeca121f ∷ edge 6 10 0x3f506028aeca121f ∷ edge 10 12 0x3f606028aeca121f ∷ edge 9 12 0x3f406028aeca121f ∷ edge 13 14 0x4060e45306eb3e45 ∷ edge 16 15 0x4060e45306eb3e45 ∷ edge 13 16 0x4060e45306eb3e45 ∷ edge 14 15 0x4060e45306eb3e45 ∷ edge 17 18 0x4060e45306eb3e45 ∷ edge 20 19 0x4060e45306eb3e45 ∷ edge 17 20 0x4060e45306eb3e45 ∷ edge 18 19 0x4060e45306eb3e45 ∷ edge 21 22 0x4050e45306eb3e45 ∷ edge 23 0 0x4070e45306eb3e45 ∷ edge 0 1 0x4000000000000000 ∷ edge 21 23 0x4060e45306eb3e45 ∷ edge 22 1 0x4070e45306eb3e45 ∷ [];
 }
 
@@ -225,14 +225,14 @@ shared_pair = record {
 -- in oracle/
 unfoldable pub largest_hangs : Board
 largest_hangs = record {
-  cells =
+  table =
       cell 68719476748 68719476738 68719476752 68719476742 0 None None 3
       ∷ cell 68719476748 68719476739 68719476750 68719476741 0 None None 1
       ∷ cell 68719476744 68719476740 68719476748 68719476742 0 None None 3
       ∷ [];
   polys = poly 0 0 0x3ff0000000000000 ∷ poly 1 0 0x3ff0000000000000 ∷ poly 0 0 0x3ff0000000000000 ∷ poly 1 1 0x3ff0000000000000 ∷ [];
   nodes = node 1 0 68719476748 68719476739 ∷ node 1 0 68719476750 68719476739 ∷ node 1 0 68719476750 68719476741 ∷ node 1 0 68719476748 68719476741 ∷ node 1 1 68719476748 68719476738 ∷ node 1 1 68719476752 68719476738 ∷ node 1 1 68719476752 68719476742 ∷ node 1 1 68719476748 68719476742 ∷ node 1 1 68719476744 68719476740 ∷ node 1 1 68719476748 68719476740 ∷ node 1 1 68719476744 68719476742 ∷ [];
-  patches = patch 0 1 2 3 0x3ff0000000000000 ∷ patch 4 5 6 7 0x3ff0000000000000 ∷ patch 8 9 7 10 0x3ff0000000000000 ∷ [];
+  cells = patch 0 1 2 3 0x3ff0000000000000 ∷ patch 4 5 6 7 0x3ff0000000000000 ∷ patch 8 9 7 10 0x3ff0000000000000 ∷ [];
   edges = edge 0 1 0x3fd0000000000000 ∷ edge 3 2 0x3fd0000000000000 ∷ edge 0 3 0x3fe0000000000000 ∷ edge 1 2 0x3fe0000000000000 ∷ edge 4 5 0x3fc0000000000000 ∷ edge 7 6 0x3fc0000000000000 ∷ edge 4 9 0x4000000000000000 ∷ edge 9 7 0x4000000000000000 ∷ edge 5 6 0x3fe0000000000000 ∷ edge 8 9 0x3fc0000000000000 ∷ edge 10 7 0x3fc0000000000000 ∷ edge 8 10 0x3ff0000000000000 ∷ [];
 }
 
@@ -241,14 +241,14 @@ largest_hangs = record {
 -- in oracle/
 unfoldable pub gap_and_hung : Board
 gap_and_hung = record {
-  cells =
+  table =
       cell 68719476736 68719476730 68719476740 68719476732 0 None None 2
       ∷ cell 68719476737 68719476732 68719476741 68719476736 0 None None 1
       ∷ cell 68719476736 68719476730 68719476738 68719476734 0 None None 0
       ∷ [];
   polys = poly 0 0 0x3ff0000000000000 ∷ poly 0 0 0x3ff0000000000000 ∷ poly 0 0 0x3ff0000000000000 ∷ [];
   nodes = node 0 0 68719476736 68719476730 ∷ node 0 0 68719476738 68719476730 ∷ node 0 0 68719476738 68719476734 ∷ node 0 0 68719476736 68719476734 ∷ node 0 0 68719476737 68719476732 ∷ node 0 0 68719476741 68719476732 ∷ node 0 0 68719476741 68719476736 ∷ node 0 0 68719476737 68719476736 ∷ node 0 0 68719476740 68719476730 ∷ node 0 0 68719476740 68719476732 ∷ node 0 0 68719476736 68719476732 ∷ [];
-  patches = patch 0 1 2 3 0x3ff0000000000000 ∷ patch 4 5 6 7 0x3ff0000000000000 ∷ patch 0 8 9 10 0x3ff0000000000000 ∷ [];
+  cells = patch 0 1 2 3 0x3ff0000000000000 ∷ patch 4 5 6 7 0x3ff0000000000000 ∷ patch 0 8 9 10 0x3ff0000000000000 ∷ [];
   edges = edge 0 1 0x3fe0000000000000 ∷ edge 3 2 0x3fe0000000000000 ∷ edge 0 3 0x3fd0000000000000 ∷ edge 1 2 0x3fd0000000000000 ∷ edge 4 5 0x3fe0000000000000 ∷ edge 7 6 0x3fe0000000000000 ∷ edge 4 7 0x3fd8000000000000 ∷ edge 5 6 0x3fc0000000000000 ∷ edge 0 1 0x3fe0000000000000 ∷ edge 1 8 0x3ff0000000000000 ∷ edge 10 9 0x3fd0000000000000 ∷ edge 0 10 0x3fe0000000000000 ∷ edge 8 9 0x3fe0000000000000 ∷ [];
 }
 

@@ -5,7 +5,7 @@ use Rattle.refusals.specs.Limits.{coordinate}
 use Rattle.cell.specs.Boxes.{Box}
 use Rattle.table.specs.Mesh.{Cell}
 use Rattle.floats.specs.Fractions.{in_sheet, nonneg}
-use Rattle.net.specs.Net.{Poly, Edge, Piece, pieces, network, leaf_count, Cornered, Ends}
+use Rattle.net.specs.Net.{Poly, Piece, pieces, network, leaf_count, Cornered, Ends}
 use Rattle.net.specs.Hang.{so_far, HalvedSides}
 
 -- ---- what a law asks of a table and its polygons
@@ -36,7 +36,7 @@ abbrev pub AtMostEightEdgesALeaf : Type 0
 AtMostEightEdgesALeaf = (t : List Cell) (ps : List Poly) → length (network t ps).edges ≤ 8 * leaf_count t
 
 abbrev pub AtMostOneCellALeaf : Type 0
-AtMostOneCellALeaf = (t : List Cell) (ps : List Poly) → length (network t ps).patches ≤ leaf_count t
+AtMostOneCellALeaf = (t : List Cell) (ps : List Poly) → length (network t ps).cells ≤ leaf_count t
 
 -- ---- nodes, edges and cells
 
@@ -50,7 +50,7 @@ EdgesJoinNodes = (t : List Cell) (ps : List Poly) → All (Ends (length (network
 
 -- where leaves have area, the corners of every cell are those of a rectangle, in their order
 abbrev pub CellsAreRectangles : Type 0
-CellsAreRectangles = (t : List Cell) (ps : List Poly) → AllLeaves HasArea t → All (Cornered (network t ps).nodes) (network t ps).patches
+CellsAreRectangles = (t : List Cell) (ps : List Poly) → AllLeaves HasArea t → All (Cornered (network t ps).nodes) (network t ps).cells
 
 -- where a node made so far stands at the middle of a leaf's side, both halves are edges
 abbrev pub NoHalfHangs : Type 0
@@ -69,10 +69,10 @@ pub record IsPositive (x : Float) : Type 0 where
 abbrev pub EdgesConduct : Type 0
 EdgesConduct =
     (t : List Cell) (ps : List Poly) → AllLeaves (IsWithin widest) t → All (λ p. IsTrue (in_sheet p.sheet)) ps
-    → All (λ e. IsPositive e.g) (network t ps).edges
+    → All (λ e. IsPositive e.conductance) (network t ps).edges
 
 -- far past them none is a NaN and none is negative
 abbrev pub NoConductanceIsNegative : Type 0
 NoConductanceIsNegative =
     (most : ℕ) (t : List Cell) (ps : List Poly) → most < 2 ^ 52 → AllLeaves (IsWithin most) t → All (λ p. IsPositive p.sheet) ps
-    → All (λ e. IsTrue (nonneg e.g)) (network t ps).edges
+    → All (λ e. IsTrue (nonneg e.conductance)) (network t ps).edges

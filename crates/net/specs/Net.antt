@@ -1,11 +1,14 @@
 -- The net of a table of leaves: nodes, cells, edges and weights, by the rules' "The net". Coordinates are whole ticks, from 0 up;
 -- extents and faces are whole half ticks. Nothing is sorted and nothing is looked up: each rule goes through the whole list. Definitions only.
-use Rattle.std.specs.Prelude.{Bool, true, false, ◌&&◌, ◌||◌, not, List, [], ◌∷◌, ◌++◌, map, ◌≡◌, ℕ, suc, ◌+◌, ◌-◌, ◌<◌, min, max, ltb, eqb, length, get_or, drop, pos, Float, Option, None, Some}
+use Rattle.std.specs.Prelude.{Bool, true, false, ◌&&◌, ◌||◌, not, List, [], ◌∷◌, ◌++◌, map, ◌≡◌, ℕ, suc, ◌+◌, ◌-◌, ◌<◌, min, max, nat_lt, ◌==◌, length, slice_index_or, drop, pos, Float, Option, None, Some}
 use Rattle.std.specs.Float.Ieee as Ieee
 use Rattle.std.specs.Float.{binary64}
 use Rattle.std.specs.Float.Ieee.{of_bits}
 use Rattle.cell.specs.Boxes.{Box, mid}
 use Rattle.table.specs.Mesh.{Cell, is_none}
+pub use Rattle.net_rows.specs.declared.rows.MeshNode.{MeshNode}
+pub use Rattle.net_rows.specs.declared.rows.Edge.{Edge}
+pub use Rattle.net_rows.specs.declared.rows.NetCell.{NetCell}
 
 -- ---- lists
 
@@ -16,7 +19,7 @@ module _ {A : Type 0} (same : A → A → Bool) where
   find (a ∷ l) x = elim (same a x) [ true ↦ 0 | false ↦ suc (find l x) ]
 
   abbrev pub has : List A → A → Bool
-  has l x = ltb (find l x) (length l)
+  has l x = nat_lt (find l x) (length l)
 
   -- each of the second list in turn goes behind the first, unless the same is there already
   unfoldable pub weld : List A → List A → List A
@@ -34,39 +37,19 @@ pub record Poly : Type 0 where
   pub component : ℕ
   pub sheet : Float
 
-pub record Node : Type 0 where
-  pub layer : ℕ
-  pub component : ℕ
-  pub x : ℕ
-  pub y : ℕ
-
--- two nodes by number, and the conductance
-pub record Edge : Type 0 where
-  pub a : ℕ
-  pub b : ℕ
-  pub g : Float
-
--- a cell: its corners by number, and its polygon's sheet resistance
-pub record Patch : Type 0 where
-  pub sw : ℕ
-  pub se : ℕ
-  pub ne : ℕ
-  pub nw : ℕ
-  pub sheet : Float
-
 pub record Net : Type 0 where
-  pub nodes : List Node
-  pub patches : List Patch
+  pub nodes : List MeshNode
+  pub cells : List NetCell
   pub edges : List Edge
 
-abbrev pub same_node : Node → Node → Bool
-same_node m n = eqb m.layer n.layer && (eqb m.component n.component && (eqb m.x n.x && eqb m.y n.y))
+abbrev pub same_node : MeshNode → MeshNode → Bool
+same_node m n = (m.layer == n.layer) && ((m.component == n.component) && ((m.x == n.x) && (m.y == n.y)))
 
 abbrev pub pair_is : ℕ → ℕ → ℕ → ℕ → Bool
-pair_is a b c d = (eqb a c && eqb b d) || (eqb a d && eqb b c)
+pair_is a b c d = ((a == c) && (b == d)) || ((a == d) && (b == c))
 
 abbrev pub same_pair : Edge → Edge → Bool
-same_pair e f = pair_is e.a e.b f.a f.b
+same_pair e f = pair_is e.from e.to f.from f.to
 
 -- ---- polygons and their leaves, by id
 
@@ -76,7 +59,7 @@ pub record Piece : Type 0 where
 
 unfoldable pub leaves_of : List Cell → ℕ → List Box
 leaves_of [] k = []
-leaves_of (c ∷ cs) k = elim (is_none c.kids && eqb c.polygon k) [ true ↦ c.box ∷ leaves_of cs k | false ↦ leaves_of cs k ]
+leaves_of (c ∷ cs) k = elim (is_none c.kids && (c.polygon == k)) [ true ↦ c.box ∷ leaves_of cs k | false ↦ leaves_of cs k ]
 
 -- the polygons ps, the first of which has the index k
 unfoldable pub pieces : List Cell → List Poly → ℕ → List Piece
@@ -85,39 +68,43 @@ pieces t (p ∷ ps) k = record { poly = p; leaves = leaves_of t k } ∷ pieces t
 
 -- ---- nodes
 
-abbrev pub node_at : Poly → ℕ → ℕ → Node
+abbrev pub node_at : Poly → ℕ → ℕ → MeshNode
 node_at p x y = record { layer = p.layer; component = p.component; x = x; y = y }
 
-abbrev pub sw_of : Poly → Box → Node
+abbrev pub sw_of : Poly → Box → MeshNode
 sw_of p r = node_at p r.x0 r.y0
 
-abbrev pub se_of : Poly → Box → Node
+abbrev pub se_of : Poly → Box → MeshNode
 se_of p r = node_at p r.x1 r.y0
 
-abbrev pub ne_of : Poly → Box → Node
+abbrev pub ne_of : Poly → Box → MeshNode
 ne_of p r = node_at p r.x1 r.y1
 
-abbrev pub nw_of : Poly → Box → Node
+abbrev pub nw_of : Poly → Box → MeshNode
 nw_of p r = node_at p r.x0 r.y1
 
-abbrev pub corners_at : Poly → Box → List Node
+abbrev pub corners_at : Poly → Box → List MeshNode
 corners_at p r = sw_of p r ∷ se_of p r ∷ ne_of p r ∷ nw_of p r ∷ []
 
-unfoldable pub corners_of : Piece → List Node
+unfoldable pub corners_of : Piece → List MeshNode
 corners_of q = each (corners_at q.poly) q.leaves
 
 -- the nodes, once the pieces are added to the nodes n
-unfoldable pub nodes_from : List Node → List Piece → List Node
+unfoldable pub nodes_from : List MeshNode → List Piece → List MeshNode
 nodes_from n [] = n
 nodes_from n (q ∷ qs) = nodes_from (weld same_node n (corners_of q)) qs
 
 -- ---- cells and edges, by the nodes so far
 
-abbrev pub number : List Node → Node → ℕ
+abbrev pub number : List MeshNode → MeshNode → ℕ
 number n m = find same_node n m
 
-abbrev pub patch_at : List Node → Poly → Box → Patch
-patch_at n p r = record { sw = number n (sw_of p r); se = number n (se_of p r); ne = number n (ne_of p r); nw = number n (nw_of p r); sheet = p.sheet }
+abbrev pub patch_at : List MeshNode → Poly → Box → NetCell
+patch_at n p r =
+    record {
+      corners = record { southwest = number n (sw_of p r); southeast = number n (se_of p r); northeast = number n (ne_of p r); northwest = number n (nw_of p r) };
+      sheet = p.sheet;
+    }
 
 abbrev pub ◌·◌ : Float → Float → Float
 x · y = Ieee.mul binary64 x y
@@ -152,14 +139,14 @@ across p r = p.sheet · num (width r) ÷ num (height r)
 abbrev pub upright : Poly → Box → Float
 upright p r = p.sheet · num (height r) ÷ num (width r)
 
-abbrev pub join : List Node → Node → Node → Float → Edge
-join n a b g = record { a = number n a; b = number n b; g = g }
+abbrev pub join : List MeshNode → MeshNode → MeshNode → Float → Edge
+join n a b g = record { from = number n a; to = number n b; conductance = g }
 
 -- one side of a leaf, of the resistance r: whole, or in halves. (A leaf's sides are even, so the midpoint m is neither end.)
-abbrev pub side_of : List Node → Node → Node → Node → Float → List Edge
+abbrev pub side_of : List MeshNode → MeshNode → MeshNode → MeshNode → Float → List Edge
 side_of n a m b r = elim (has same_node n m) [ true ↦ join n a m (One ÷ (r · Half)) ∷ join n m b (One ÷ (r · Half)) ∷ [] | false ↦ join n a b (One ÷ r) ∷ [] ]
 
-unfoldable pub sides_at : List Node → Poly → Box → List Edge
+unfoldable pub sides_at : List MeshNode → Poly → Box → List Edge
 sides_at n p r =
     side_of n (sw_of p r) (node_at p (mid r.x0 r.x1) r.y0) (se_of p r) (across p r)
     ++ (side_of n (nw_of p r) (node_at p (mid r.x0 r.x1) r.y1) (ne_of p r) (across p r)
@@ -167,29 +154,29 @@ sides_at n p r =
     ++ side_of n (se_of p r) (node_at p r.x1 (mid r.y0 r.y1)) (ne_of p r) (upright p r)))
 
 -- within a polygon a pair is emitted once
-unfoldable pub edges_of : List Node → Piece → List Edge
+unfoldable pub edges_of : List MeshNode → Piece → List Edge
 edges_of n q = weld same_pair [] (each (sides_at n q.poly) q.leaves)
 
-unfoldable pub edges_from : List Node → List Piece → List Edge
+unfoldable pub edges_from : List MeshNode → List Piece → List Edge
 edges_from n [] = []
 edges_from n (q ∷ qs) = let m = weld same_node n (corners_of q) in edges_of m q ++ edges_from m qs
 
-unfoldable pub patches_from : List Node → List Piece → List Patch
+unfoldable pub patches_from : List MeshNode → List Piece → List NetCell
 patches_from n [] = []
 patches_from n (q ∷ qs) = let m = weld same_node n (corners_of q) in map (patch_at m q.poly) q.leaves ++ patches_from m qs
 
 -- ---- weights: the extents
 
 -- the node past the end
-abbrev pub nowhere : Node
+abbrev pub nowhere : MeshNode
 nowhere = record { layer = 0; component = 0; x = 0; y = 0 }
 
-abbrev pub nth : List Node → ℕ → Node
-nth n i = get_or n i nowhere
+abbrev pub nth : List MeshNode → ℕ → MeshNode
+nth n i = slice_index_or n i nowhere
 
 -- the node b, numbered j, comes after the node a, numbered i, in a column of the layer
-abbrev pub after : Node → ℕ → Node → ℕ → Bool
-after a i b j = eqb a.layer b.layer && (eqb a.x b.x && (ltb a.y b.y || (eqb a.y b.y && ltb i j)))
+abbrev pub after : MeshNode → ℕ → MeshNode → ℕ → Bool
+after a i b j = (a.layer == b.layer) && ((a.x == b.x) && (nat_lt a.y b.y || ((a.y == b.y) && nat_lt i j)))
 
 abbrev pub lesser : ℕ → Option ℕ → Option ℕ
 lesser d None = Some d
@@ -200,33 +187,36 @@ or_zero None = 0
 or_zero (Some d) = d
 
 -- the least g of the nodes that pass the test p, which are numbered from j on
-unfoldable pub least : (Node → ℕ → Bool) → (Node → ℕ) → List Node → ℕ → Option ℕ
+unfoldable pub least : (MeshNode → ℕ → Bool) → (MeshNode → ℕ) → List MeshNode → ℕ → Option ℕ
 least p g [] j = None
 least p g (b ∷ bs) j = elim (p b j) [ true ↦ lesser (g b) (least p g bs (suc j)) | false ↦ least p g bs (suc j) ]
 
 -- the gap from the node i to the next in its column, and to the one before: 0 at the ends
-unfoldable pub next_gap : List Node → ℕ → ℕ
+unfoldable pub next_gap : List MeshNode → ℕ → ℕ
 next_gap n i = or_zero (least (λ b j. after (nth n i) i b j) (λ b. b.y - (nth n i).y) n 0)
 
-unfoldable pub prev_gap : List Node → ℕ → ℕ
+unfoldable pub prev_gap : List MeshNode → ℕ → ℕ
 prev_gap n i = or_zero (least (λ b j. after b j (nth n i) i) (λ b. (nth n i).y - b.y) n 0)
 
 -- x and y exchanged: rows for columns
-abbrev pub turned : Node → Node
+abbrev pub turned : MeshNode → MeshNode
 turned m = record { layer = m.layer; component = m.component; x = m.y; y = m.x }
 
 pub data Way : Type 0 where
   up down right left : Way
 
 -- half the gap in ticks, so the gap in half ticks
-unfoldable pub gap : Way → List Node → ℕ → ℕ
+unfoldable pub gap : Way → List MeshNode → ℕ → ℕ
 gap up n i = next_gap n i
 gap down n i = prev_gap n i
 gap right n i = next_gap (map turned n) i
 gap left n i = prev_gap (map turned n) i
 
-abbrev pub box_of : List Node → Patch → Box
-box_of n c = record { x0 = (nth n c.sw).x; y0 = (nth n c.sw).y; x1 = (nth n c.ne).x; y1 = (nth n c.ne).y }
+abbrev pub box_of : List MeshNode → NetCell → Box
+box_of n c =
+    let low = nth n c.corners.southwest in
+    let high = nth n c.corners.northeast in
+    record { x0 = low.x; y0 = low.y; x1 = high.x; y1 = high.y }
 
 -- the midpoint of the edge from which the cell lies that way, and the cell's size that way
 abbrev pub mid_x : Way → Box → ℕ
@@ -247,64 +237,67 @@ size_of down r = height r
 size_of right r = width r
 size_of left r = width r
 
-abbrev pub same_place : Node → Node → Bool
-same_place m n = eqb m.layer n.layer && (eqb m.x n.x && eqb m.y n.y)
+abbrev pub same_place : MeshNode → MeshNode → Bool
+same_place m n = (m.layer == n.layer) && ((m.x == n.x) && (m.y == n.y))
 
-abbrev pub hangs_at : Way → List Node → Patch → Node
-hangs_at w n c = record { layer = (nth n c.sw).layer; component = 0; x = mid_x w (box_of n c); y = mid_y w (box_of n c) }
+abbrev pub hangs_at : Way → List MeshNode → NetCell → MeshNode
+hangs_at w n c = record { layer = (nth n c.corners.southwest).layer; component = 0; x = mid_x w (box_of n c); y = mid_y w (box_of n c) }
 
 -- the node i is at the place m, whatever its component, and no later node is
-abbrev pub is_last : List Node → Node → ℕ → Bool
+abbrev pub is_last : List MeshNode → MeshNode → ℕ → Bool
 is_last n m i = same_place (nth n i) m && not (has same_place (drop (suc i) n) m)
 
 -- the most that a cell asks for the node i on its edge's midpoint: half the cell's size, so the size in half ticks
-unfoldable pub hung : Way → List Node → ℕ → List Patch → ℕ
+unfoldable pub hung : Way → List MeshNode → ℕ → List NetCell → ℕ
 hung w n i [] = 0
 hung w n i (c ∷ cs) = elim (is_last n (hangs_at w n c) i) [ true ↦ max (size_of w (box_of n c)) (hung w n i cs) | false ↦ hung w n i cs ]
 
-unfoldable pub extent : Way → List Node → List Patch → ℕ → ℕ
+unfoldable pub extent : Way → List MeshNode → List NetCell → ℕ → ℕ
 extent w n cs i = max (gap w n i) (hung w n i cs)
 
 -- ---- weights: the conductances
 
-abbrev pub lesser_of : Way → List Node → List Patch → Edge → ℕ
-lesser_of w n cs e = min (extent w n cs e.a) (extent w n cs e.b)
+abbrev pub lesser_of : Way → List MeshNode → List NetCell → Edge → ℕ
+lesser_of w n cs e = min (extent w n cs e.from) (extent w n cs e.to)
 
-abbrev pub flat : List Node → Edge → Bool
-flat n e = eqb (nth n e.a).y (nth n e.b).y
+abbrev pub flat : List MeshNode → Edge → Bool
+flat n e = (nth n e.from).y == (nth n e.to).y
 
 abbrev pub apart : ℕ → ℕ → ℕ
 apart a b = max a b - min a b
 
-unfoldable pub face : List Node → List Patch → Edge → ℕ
+unfoldable pub face : List MeshNode → List NetCell → Edge → ℕ
 face n cs e = elim (flat n e) [ true ↦ lesser_of up n cs e + lesser_of down n cs e | false ↦ lesser_of right n cs e + lesser_of left n cs e ]
 
-unfoldable pub distance : List Node → Edge → ℕ
-distance n e = elim (flat n e) [ true ↦ apart (nth n e.a).x (nth n e.b).x | false ↦ apart (nth n e.a).y (nth n e.b).y ]
+unfoldable pub distance : List MeshNode → Edge → ℕ
+distance n e = elim (flat n e) [ true ↦ apart (nth n e.from).x (nth n e.to).x | false ↦ apart (nth n e.from).y (nth n e.to).y ]
 
-abbrev pub is_side : Patch → ℕ → ℕ → Bool
-is_side c a b = pair_is c.sw c.se a b || (pair_is c.se c.ne a b || (pair_is c.ne c.nw a b || pair_is c.nw c.sw a b))
+abbrev pub is_side : NetCell → ℕ → ℕ → Bool
+is_side c a b =
+    let q = c.corners in
+    pair_is q.southwest q.southeast a b
+    || (pair_is q.southeast q.northeast a b || (pair_is q.northeast q.northwest a b || pair_is q.northwest q.southwest a b))
 
 -- the sheet resistance of the first cell with that pair
-unfoldable pub sheet_of : List Patch → ℕ → ℕ → Option Float
+unfoldable pub sheet_of : List NetCell → ℕ → ℕ → Option Float
 sheet_of [] a b = None
 sheet_of (c ∷ cs) a b = elim (is_side c a b) [ true ↦ Some c.sheet | false ↦ sheet_of cs a b ]
 
 -- of the conductance so far, the face, the distance and the sheet resistance
 abbrev pub weight : Float → ℕ → ℕ → Option Float → Float
 weight g f d None = g
-weight g f d (Some s) = elim (eqb f 0) [ true ↦ g | false ↦ halves f ÷ (s · num d) ]
+weight g f d (Some s) = elim (f == 0) [ true ↦ g | false ↦ halves f ÷ (s · num d) ]
 
-unfoldable pub weighed : List Node → List Patch → Edge → Edge
-weighed n cs e = record { a = e.a; b = e.b; g = weight e.g (face n cs e) (distance n e) (sheet_of cs e.a e.b) }
+unfoldable pub weighed : List MeshNode → List NetCell → Edge → Edge
+weighed n cs e = record { from = e.from; to = e.to; conductance = weight e.conductance (face n cs e) (distance n e) (sheet_of cs e.from e.to) }
 
 -- ---- the net
 
 unfoldable pub bare : List Piece → Net
-bare qs = record { nodes = nodes_from [] qs; patches = patches_from [] qs; edges = edges_from [] qs }
+bare qs = record { nodes = nodes_from [] qs; cells = patches_from [] qs; edges = edges_from [] qs }
 
 unfoldable pub weigh : Net → Net
-weigh n = record { nodes = n.nodes; patches = n.patches; edges = map (weighed n.nodes n.patches) n.edges }
+weigh n = record { nodes = n.nodes; cells = n.cells; edges = map (weighed n.nodes n.cells) n.edges }
 
 unfoldable pub network : List Cell → List Poly → Net
 network t ps = weigh (bare (pieces t ps 0))
@@ -312,24 +305,24 @@ network t ps = weigh (bare (pieces t ps 0))
 -- ---- what every net is
 
 -- a cell's corners are nodes of one layer: SW, SE, NE, NW of a rectangle with positive sides
-pub record Cornered (n : List Node) (c : Patch) : Type 0 where
-  pub sw-in : c.sw < length n
-  pub se-in : c.se < length n
-  pub ne-in : c.ne < length n
-  pub nw-in : c.nw < length n
-  pub south : (nth n c.sw).y ≡ (nth n c.se).y
-  pub north : (nth n c.nw).y ≡ (nth n c.ne).y
-  pub west : (nth n c.sw).x ≡ (nth n c.nw).x
-  pub east : (nth n c.se).x ≡ (nth n c.ne).x
-  pub wide : (nth n c.sw).x < (nth n c.se).x
-  pub high : (nth n c.sw).y < (nth n c.nw).y
-  pub layer-se : (nth n c.se).layer ≡ (nth n c.sw).layer
-  pub layer-ne : (nth n c.ne).layer ≡ (nth n c.sw).layer
-  pub layer-nw : (nth n c.nw).layer ≡ (nth n c.sw).layer
+pub record Cornered (n : List MeshNode) (c : NetCell) : Type 0 where
+  pub sw-in : c.corners.southwest < length n
+  pub se-in : c.corners.southeast < length n
+  pub ne-in : c.corners.northeast < length n
+  pub nw-in : c.corners.northwest < length n
+  pub south : (nth n c.corners.southwest).y ≡ (nth n c.corners.southeast).y
+  pub north : (nth n c.corners.northwest).y ≡ (nth n c.corners.northeast).y
+  pub west : (nth n c.corners.southwest).x ≡ (nth n c.corners.northwest).x
+  pub east : (nth n c.corners.southeast).x ≡ (nth n c.corners.northeast).x
+  pub wide : (nth n c.corners.southwest).x < (nth n c.corners.southeast).x
+  pub high : (nth n c.corners.southwest).y < (nth n c.corners.northwest).y
+  pub layer-se : (nth n c.corners.southeast).layer ≡ (nth n c.corners.southwest).layer
+  pub layer-ne : (nth n c.corners.northeast).layer ≡ (nth n c.corners.southwest).layer
+  pub layer-nw : (nth n c.corners.northwest).layer ≡ (nth n c.corners.southwest).layer
 
 pub record Ends (k : ℕ) (e : Edge) : Type 0 where
-  pub from : e.a < k
-  pub to : e.b < k
+  pub from : e.from < k
+  pub to : e.to < k
 
 -- how many leaves a table has, and the pieces
 abbrev pub one_if : Bool → ℕ

@@ -7,11 +7,13 @@ ghost use Rattle.net.specs.Laws.{NodesAreDistinct, EdgesJoinNodes, CellsAreRecta
 ghost use Rattle.net.specs.Laws.{EdgesConduct, NoConductanceIsNegative};
 
 /// The definitions agree with the original on the stored boards.
+#[tactic(auto, using(crate::proofs::Cases::boards_agree))]
 pub fn boards_agree()
     ensures { BoardsAgree }
 {}
 
 /// The room that the rules ask for is enough.
+#[tactic(auto, using(crate::proofs::Every::room))]
 pub fn nets_fit()
     ensures nodes { AtMostFourNodesALeaf }
     ensures edges { AtMostEightEdgesALeaf }
@@ -19,6 +21,7 @@ pub fn nets_fit()
 {}
 
 /// The rows of a net go together.
+#[tactic(auto, using(crate::proofs::Every::sound))]
 pub fn nets_are_sound()
     ensures nodes { NodesAreDistinct }
     ensures edges { EdgesJoinNodes }

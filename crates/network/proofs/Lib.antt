@@ -1,4 +1,3 @@
-pub mod Judging
-pub mod Whole
-pub mod Verdict
+pub mod Rows
+pub mod Bare
 pub mod Accepted

@@ -1,6 +1,6 @@
 -- Laws that belong to no one function.
+pub mod Within
+pub mod Board
 pub mod Places
+pub mod Firsts
 pub mod Numbers
-pub mod Numbered
-pub mod Keyed
-pub mod Writing

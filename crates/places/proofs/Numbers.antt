@@ -1,109 +1,134 @@
--- The numbers of places, in the row of their first places: a turn of the loop. And the two words for a first place. Assumes nothing.
-use Rattle.std.proofs.Common.{◌≡◌, sym, ap, ◌∙◌, Bool, true, false, List, [], ◌∷◌, ◌⊎◌, ⊎_elim, ℕ, suc, ◌+◌, ◌≤◌, ◌<◌, arith, add-one, zero-add, eqb, length, get_or, set, eq-eqb, ne_eqb, eqb-true}
+-- The numbers of the corners' nodes, and the row of nodes that is written from them.
+use Rattle.std.proofs.Common.{◌≡◌, refl, sym, ap, ap₂, ◌∙◌, append_assoc, true, false, ⊎_elim, List, [], ◌∷◌, ◌++◌, map, ℕ, zero, suc, ◌+◌, ◌-◌, ◌*◌, ◌<◌, ◌≤◌, arith, length, length-append, get_or, set, take, drop, eqb-true}
 use borrow.Author.Tests.{eqb-false}
-use Rattle.rows.specs.Order as Rows
-use Rattle.rows.specs.Parts.{put, tab}
-use Rattle.rows.proofs.Fill.{length-tab, fill_begins, fill-long, fill-turn, fill-above, fill_done, fill-ends, put_whole}
-use Rattle.net.specs.Net.{find}
-use Rattle.net.specs.First.{key, first_of, rank_in, Firsts}
-use Rattle.net.proofs.Find.{test, find-nil, find-yes, find-no}
-use Rattle.net.proofs.Numbers.{in-new, in-old, in-none}
+use Rattle.std.proofs.Math.Seq.{drop-cons}
+use Rattle.std.proofs.lemmas.List.{ext_get_or, length-map, get_or-map, map-append, get_or-take, get_or-drop, length-take-le, set-append_right}
+use Rattle.std.proofs.Math.Seq.{take-append_seam}
+use Rattle.net_rows.specs.declared.rows.Node.{Node}
+use Rattle.net_rows.specs.Nodes.{in_ticks}
+use Rattle.net_rows.specs.Written.{written}
+use Rattle.net.specs.Net.{find, MeshNode, Piece, same_node, nth, nowhere, weld, each, nodes_from}
+use Rattle.net.specs.First.{key, first_of, is_new, rank, rank_in, news, number_by, Firsts}
+use Rattle.net.specs.Flat.{Leaf, corners_in, mids_in, flat_places, leaves_from}
+use Rattle.net.proofs.Flat.{flat-nodes}
+use Rattle.net.proofs.Find.{test}
+use Rattle.net.proofs.Numbers.{rank-in}
+use Rattle.net.proofs.Weld.{rank-new, rank-old, news-new, news-old, length-news, rank_below, first-new, first-at-most, welded}
+use Rattle.places.specs.Places.{firsts, numbers_of}
+use Rattle.places.proofs.Places.{corners-length, places-length}
+use Rattle.places.proofs.Firsts.{first_at, first-most, first-node, firsts-length, firsts-at, firsts-keyed, first-of}
 
-abbrev pub number_in : List ℕ → ℕ → ℕ
-number_in fs j = rank_in fs (get_or fs j 0)
+pub rank-le : (ks : List ℕ) (i : ℕ) → rank ks i ≤ i
+unfolding rank
+rank-le ks zero = omega arith
+rank-le ks (suc i) =
+    let h = rank-le ks i in
+    ⊎_elim (λ e. omega (arith, rank-new ks i e)) (λ e. omega (arith, rank-old ks i e)) (test (is_new ks i))
 
-pub record Numbering (fs row : List ℕ) (count i : ℕ) : Type 0 where
-  pub inside : i ≤ length fs
-  pub counted : count ≡ rank_in fs i
-  pub few : count ≤ i
-  pub low : i < length fs → get_or row i 0 < length row
-  pub filled : row ≡ put fs 0 (tab (number_in fs) i)
-
-low-at : (fs row : List ℕ) (i : ℕ) → Firsts fs → row ≡ put fs 0 (tab (number_in fs) i) → i < length fs → get_or row i 0 < length row
-low-at fs row i F e h =
-    let l = fill-long 0 fs 0 (length fs) (number_in fs) (omega arith) row i e (omega arith) in
-    let a = fill-above 0 fs 0 (length fs) (number_in fs) (omega arith) row i e (omega arith) i (omega arith) in
-    let b = F.low i h in
-    omega arith
-
-pub numbering-begins : (fs : List ℕ) → Firsts fs → Numbering fs fs 0 0
-numbering-begins fs F = record { inside = omega arith; counted = sym (in-none fs); few = omega arith; low = λ h. let b = F.low 0 h in omega arith; filled = fill_begins 0 fs 0 (length fs) (number_in fs) (omega arith) }
-
-module _ (fs row : List ℕ) (count i : ℕ) (F : Firsts fs) (N : Numbering fs row count i) where
-  room : 0 + length fs ≤ length fs
-  room = omega arith
-
-  numbering-here : get_or row i 0 ≡ get_or fs i 0
-  numbering-here = fill-above 0 fs 0 (length fs) (number_in fs) room row i N.filled N.inside i (omega arith)
-
-  module _ (h : i < length fs) where
-    turned : (v : ℕ) → v ≡ number_in fs i → set row i v ≡ put fs 0 (tab (number_in fs) (i + 1))
-    turned v e = ap (λ (k : ℕ). set row k v) (sym (zero-add i)) ∙ fill-turn 0 fs 0 (length fs) (number_in fs) room row i N.filled h v e
-
-    pub numbering-new : get_or row i 0 ≡ i → Numbering fs (set row i count) (count + 1) (i + 1)
-    numbering-new e =
-        let c = N.counted in
-        let l = N.few in
-        let q : get_or fs i 0 ≡ i = sym numbering-here ∙ e in
-        let w = turned count (c ∙ ap (rank_in fs) (sym q)) in
-        record {
-          inside = omega arith;
-          counted = omega (arith, in-new fs i q, ap (rank_in fs) (add-one i));
-          few = omega arith;
-          low = low-at fs _ (i + 1) F w;
-          filled = w;
-        }
-
-    pub numbering-old : (get_or row i 0 ≡ i → ⊥) → Numbering fs (set row i (get_or row (get_or row i 0) 0)) count (i + 1)
-    numbering-old e =
-        let c = N.counted in
-        let l = N.few in
-        let b = F.low i h in
-        let q : get_or fs i 0 ≡ i → ⊥ = λ z. e (numbering-here ∙ z) in
-        let w = turned (get_or row (get_or row i 0) 0)
-        (ap (λ (k : ℕ). get_or row k 0) (numbering-here ∙ sym (zero-add (get_or fs i 0)))
-        ∙ fill_done 0 fs 0 (length fs) (number_in fs) room row i N.filled N.inside (get_or fs i 0) (below b q)
-        ∙ ap (rank_in fs) (F.own i h)) in
-        record {
-          inside = omega arith;
-          counted = omega (arith, in-old fs i q, ap (rank_in fs) (add-one i));
-          few = omega arith;
-          low = low-at fs _ (i + 1) F w;
-          filled = w;
-        }
-      where
-        below : {a : ℕ} → a ≤ i → (a ≡ i → ⊥) → a < i
-        below h e = omega arith
-
-  pub numbering-ends : length fs ≤ i → row ≡ tab (number_in fs) (length fs)
-  numbering-ends h =
-      fill-ends 0 fs 0 (length fs) (number_in fs) room row i N.filled N.inside h ∙ put_whole fs (tab (number_in fs) (length fs)) (length-tab (number_in fs) (length fs))
-
-  pub numbering-count : length fs ≤ i → count ≡ rank_in fs (length fs)
-  numbering-count h = let l = N.inside in N.counted ∙ ap (rank_in fs) (let e : i ≡ length fs = omega arith in e)
-
--- the sort's word for the first place, and the net's
-flip : (a b : ℕ) → eqb a b ≡ eqb b a
-flip a b = by (test (eqb a b))
-  where
-    open-case : eqb a b ≡ true → eqb a b ≡ eqb b a
-    open-case e = e ∙ sym (eq-eqb b a (sym (eqb-true a b e)))
-
-    shut-case : eqb a b ≡ false → eqb a b ≡ eqb b a
-    shut-case e = e ∙ sym (ne_eqb b a (λ q. eqb-false a b e (sym q)))
-
-    by : (eqb a b ≡ true) ⊎ (eqb a b ≡ false) → eqb a b ≡ eqb b a
-    by = ⊎_elim open-case shut-case
-
-pub first-at : (x : ℕ) (ks : List ℕ) → Rows.first_at x ks ≡ find eqb ks x
-unfolding Rows.first_at
-first-at x [] = sym (find-nil eqb x)
-first-at x (y ∷ ks) =
+-- a place is new if its number is the next one
+pub next-new : (ks : List ℕ) (i : ℕ) → number_by ks i ≡ rank ks i → i < length ks → is_new ks i ≡ true
+next-new ks i e h =
     ⊎_elim
-    (λ (e : eqb y x ≡ true). ap (λ (b : Bool). Rows.or_else b 0 (suc (Rows.first_at x ks))) (flip x y ∙ e) ∙ sym (find-yes eqb y ks x e))
-    (λ (e : eqb y x ≡ false). ap (λ (b : Bool). Rows.or_else b 0 (suc (Rows.first_at x ks))) (flip x y ∙ e) ∙ (ap suc (first-at x ks) ∙ sym (find-no eqb y ks x e)))
-    (test (eqb y x))
+    (λ t. t)
+    (λ t. (let f = first-at-most ks i in
+    let n = eqb-false (first_of ks i) i t in
+    absurd (omega (arith, rank_below ks (first_of ks i) i (first-new ks (key ks i) (omega arith)) (omega arith)))))
+    (test (is_new ks i))
 
-pub first-of : (ks : List ℕ) (i : ℕ) → Rows.first_of ks i ≡ first_of ks i
-unfolding Rows.first_of
-first-of ks i = first-at (key ks i) ks
+pub next-old : (ks : List ℕ) (i : ℕ) → (number_by ks i ≡ rank ks i → ⊥) → is_new ks i ≡ false
+next-old ks i e = ⊎_elim (λ t. absurd (e (ap (rank ks) (eqb-true (first_of ks i) i t)))) (λ t. t) (test (is_new ks i))
+
+-- one more behind a written front
+pub written-more : {A : Type 0} (new old : List A) (k : ℕ) (x : A) → k ≡ length new → k < length old → set (written new old) k x ≡ written (new ++ (x ∷ [])) old
+written-more {A} new old k x e h =
+    let n = length new in
+    let m : suc n ≡ length (new ++ (x ∷ [])) = omega (arith, length-append new (x ∷ [])) in
+    set-append_right new (drop n old) n k x refl (omega arith)
+    ∙ ap₂ {C = List A} (λ i l. new ++ set l i x) (let z : k - n ≡ 0 = omega arith in z) (drop-cons old n x (omega arith))
+    ∙ sym (append_assoc new (x ∷ []) (drop (length (new ++ (x ∷ []))) old) ∙ ap (λ i. new ++ (x ∷ drop i old)) (sym m))
+
+module _ (P : List MeshNode) where
+  abbrev fs : List ℕ
+  fs = firsts P
+
+  pub numbers-length : (n : ℕ) → n ≤ length P → length (numbers_of P n) ≡ n
+  numbers-length n l = let m = firsts-length P in length-map (take n fs) (rank fs) ∙ length-take-le n fs (omega arith)
+
+  pub number_at : (n i : ℕ) → n ≤ length P → i < n → get_or (numbers_of P n) i 0 ≡ number_by fs i
+  number_at n i l h =
+      let m = firsts-length P in
+      get_or-map (rank fs) (take n fs) i 0 0 (omega (arith, length-take-le n fs (omega arith)))
+      ∙ ap (rank fs) (get_or-take n fs i 0 h ∙ sym (first-of P i (omega arith)))
+
+  pub middle_first : (n j : ℕ) → n + j < length P → get_or (drop n fs) j 0 ≡ first_of fs (n + j)
+  middle_first n j h = get_or-drop n fs j 0 ∙ sym (first-of P (n + j) h)
+
+  -- the nodes of the new ones of the first i places
+  abbrev pub nodes_to : ℕ → List Node
+  nodes_to i = map in_ticks (map (nth P) (news fs i))
+
+  pub nodes-length : (i : ℕ) → length (nodes_to i) ≡ rank fs i
+  nodes-length i = length-map (map (nth P) (news fs i)) in_ticks ∙ length-map (news fs i) (nth P) ∙ length-news fs i
+
+  pub nodes-new : (i : ℕ) → is_new fs i ≡ true → nodes_to (suc i) ≡ nodes_to i ++ (in_ticks (nth P i) ∷ [])
+  nodes-new i e =
+      ap (λ l. map in_ticks (map (nth P) l)) (news-new fs i e)
+      ∙ ap (map in_ticks) (map-append (nth P) (news fs i) (i ∷ []))
+      ∙ map-append in_ticks (map (nth P) (news fs i)) (nth P i ∷ [])
+
+  pub nodes-old : (i : ℕ) → is_new fs i ≡ false → nodes_to (suc i) ≡ nodes_to i
+  nodes-old i e = ap (λ l. map in_ticks (map (nth P) l)) (news-old fs i e)
+
+corners_of : (ls : List Leaf) → take (4 * length ls) (flat_places ls) ≡ each corners_in ls
+unfolding flat_places
+corners_of ls = ap (λ n. take n (each corners_in ls ++ each mids_in ls)) (sym (corners-length ls)) ∙ take-append_seam (each corners_in ls) (each mids_in ls)
+
+-- the new ones of all corners are the nodes
+pub corners_new : (ls : List Leaf) → map (nth (flat_places ls)) (news (firsts (flat_places ls)) (4 * length ls)) ≡ weld same_node [] (each corners_in ls)
+corners_new ls =
+    let P = flat_places ls in
+    let n = places-length ls in
+    sym (welded same_node nowhere P (firsts P) (firsts-keyed P) (4 * length ls) (omega arith)) ∙ ap (weld same_node []) (corners_of ls)
+
+-- the net's
+pub nodes-from : (qs : List Piece) → nodes_from [] qs ≡ weld same_node [] (each corners_in (leaves_from qs 0))
+nodes-from qs = let ls = leaves_from qs 0 in flat-nodes qs (firsts (flat_places ls)) (firsts-keyed (flat_places ls)) ∙ corners_new ls
+
+-- ---- the corners' first places
+
+module _ (P : List MeshNode) (n : ℕ) (l : n ≤ length P) where
+  abbrev front : List ℕ
+  front = take n (firsts P)
+
+  front-length : length front ≡ n
+  front-length = let m = firsts-length P in length-take-le n (firsts P) (omega arith)
+
+  front_at : (i : ℕ) → i < n → get_or front i 0 ≡ first_at P i
+  front_at i h = get_or-take n (firsts P) i 0 h ∙ firsts-at P i (omega arith)
+
+  pub front-firsts : Firsts front
+  front-firsts =
+      let m = front-length in
+      record {
+        low = λ i h. omega (arith, front_at i (omega arith), first-most P i);
+        own = λ i h. (let f = first-most P i in
+            ap (λ k. get_or front k 0) (front_at i (omega arith))
+            ∙ front_at (first_at P i) (omega arith)
+            ∙ ap (find same_node P) (first-node P i (omega arith))
+            ∙ sym (front_at i (omega arith)));
+      }
+
+  ranked : (j : ℕ) → j ≤ n → rank_in front j ≡ rank (firsts P) j
+  ranked j h = rank-in (firsts P) front j (λ i k. front_at i (omega arith) ∙ sym (first-of P i (omega arith) ∙ firsts-at P i (omega arith)))
+
+  pub front-ranked : map (rank_in front) front ≡ numbers_of P n
+  front-ranked =
+      let m = front-length in
+      ext_get_or 0 (map (rank_in front) front) (numbers_of P n) (length-map front (rank_in front) ∙ sym (length-map front (rank (firsts P)))) (λ i h.
+      let k = length-map front (rank_in front) in
+      let f = front_at i (omega arith) in
+      let g = first-most P i in
+      get_or-map (rank_in front) front i 0 0 (omega arith) ∙ ranked (get_or front i 0) (omega arith) ∙ sym (get_or-map (rank (firsts P)) front i 0 0 (omega arith)))
+
+  pub front-count : rank_in front (length front) ≡ rank (firsts P) n
+  front-count = ap (rank_in front) front-length ∙ ranked n (omega arith)

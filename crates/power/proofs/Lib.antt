@@ -1,5 +1,4 @@
 -- Laws that belong to no one function.
-pub mod Listed
 pub mod Verdict
 pub mod Never
 pub mod One

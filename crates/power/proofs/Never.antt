@@ -1,27 +1,28 @@
 -- The power of a cell is never a NaN and never negative. Assumes nothing.
 use lib.Ieee.{Float}
-use Rattle.std.proofs.Common.{ℕ, ◌+◌, ◌<◌, ◌≤◌, ◌≡◌, refl, sym, subst, ◌∙◌, Bool, true, false, cond, List, [], arith, length, get_or, drop, T, leb, lit<}
-use lib.ListN.{get_or-append}
+use Rattle.std.proofs.Common.{ℕ, ◌+◌, ◌<◌, ◌≤◌, ◌≡◌, refl, sym, subst, Bool, true, false, List, map, arith, length, drop, T, IsTrue, All, lit<}
 use lib.Ieee.{nan, binary64, of_int, mul, round, le}
 use lib.Ieee.Positive.{positive}
+use Rattle.std.proofs.lemmas.List.{length-map, get_or_default, get_or_append_left}
+use Rattle.std.proofs.lemmas.List.Elements.{All-map}
 use Rattle.refusals.specs.Limits.{coordinate}
-use Rattle.refusals.specs.Said.{accepted, refused}
 use Rattle.cell.specs.Ticks.{tick, metres_of}
 use Rattle.floats.specs.Fractions.{◌·◌, ◌÷◌, ◌⊕◌, ◌⊖◌, float, in_potential, no_nan, nonneg}
 use Rattle.floats.proofs.Signs.{div-no-nan, square-nonneg, add-nonneg, mul-nonneg, div-nonneg}
 use Rattle.floats.proofs.Ranges.{In, in-positive, num-in, mul_in}
 use Rattle.floats.proofs.Sizes.{within-finite, finite-no-nan, add-within, sub_within}
 use Rattle.floats.proofs.Bounds.{sheet-positive, potential-within}
-use Rattle.sound_net.specs.Nets.{Net, corners_at, sound_net}
-use Rattle.sound_net.proofs.Tests.{yes}
-use Rattle.sound_net.proofs.Sound.{net-facts}
-use Rattle.sound_net.proofs.Gaps.{sides}
+use Rattle.net_rows.specs.declared.rows.Node.{Node}
+use Rattle.net_rows.specs.declared.rows.Edge.{Edge}
+use Rattle.net_rows.specs.declared.rows.NetCell.{NetCell}
+use Rattle.net_rows.specs.Nets.{blank_cell, nth_cell, sound_net}
+use Rattle.net_rows.proofs.Sound.{sound_facts}
+use Rattle.net_rows.proofs.Gaps.{sides}
 use Rattle.power.specs.declared.Slope.{Slope}
 use Rattle.power.specs.Formulas.{power_of}
-use Rattle.power.specs.Powers.{value_at, values_at, grad_at, power_at, listed, in_ranges, power_says, power_row}
+use Rattle.power.specs.Powers.{value_at, cell_values, cell_slope, cell_power, in_ranges, power_row}
 use Rattle.power.specs.Laws.{PowersAreNonNegative}
-use Rattle.power.proofs.Listed.{listed-length, listed_at}
-use Rattle.power.proofs.Verdict.{ranged, done}
+use Rattle.power.proofs.Verdict.{ranged, accepted-is}
 
 -- ---- a side in metres, and twice a side, are positive
 one-positive : T (positive (float 1))
@@ -91,63 +92,45 @@ power-nonneg s sheet a b c d e =
     e
 
 -- ---- the power of a cell of a sound net, its values in range
-pub cell-nonneg : (n : Net) (us : List Float) → T (sound_net n) → T (in_ranges n us) → (c : ℕ) → c < length n.sheets → T (nonneg (power_at n us c))
-unfolding power_at grad_at values_at
-cell-nonneg n us s r c h =
-    let f = net-facts n s in
-    let q = corners_at n.corners c in
-    let k = (f.cell c h).known in
-    let v = ranged n us r in
-    let e = v.count in
-    let sw = q.southwest in
-    let se = q.southeast in
-    let ne = q.northeast in
-    let nw = q.northwest in
-    let A = v.potential sw (omega (arith, k.southwest, e)) in
-    let B = v.potential se (omega (arith, k.southeast, e)) in
-    let C = v.potential ne (omega (arith, k.northeast, e)) in
-    let D = v.potential nw (omega (arith, k.northwest, e)) in
-    let w = (sides n f c h).width in
-    let t = (sides n f c h).height in
-    power-nonneg (grad_at n us c) (value_at n.sheets c)
-    (slope-no-nan (value_at us se) (value_at us ne) (value_at us sw) (value_at us nw) _ B C A D (twice-positive _ w.some w.most))
-    (slope-no-nan (value_at us ne) (value_at us nw) (value_at us sw) (value_at us se) _ C D A B (twice-positive _ t.some t.most))
-    (metres-positive _ w.some w.most)
-    (metres-positive _ t.some t.most)
-    (sheet-positive (value_at n.sheets c) (v.sheet c h))
-
--- ---- what an accepted call found
-pub record Accepted (n : Net) (us answers : List Float) : Type 0 where
-  pub sound : sound_net n ≡ true
-  pub fit : in_ranges n us ≡ true
-  pub enough : leb (length n.sheets) (length answers) ≡ true
-
-pub accepted-is : (n : Net) (us answers : List Float) → power_says n us answers ≡ accepted [] → Accepted n us answers
-unfolding power_says
-accepted-is n us answers = by (sound_net n) (in_ranges n us) (leb (length n.sheets) (length answers)) refl refl refl
-  where
-    by : (a b c : Bool) → sound_net n ≡ a → in_ranges n us ≡ b → leb (length n.sheets) (length answers) ≡ c
-        → cond a (cond b (cond c (accepted []) (refused 6 0)) (refused 3 0)) (refused 7 0) ≡ accepted []
-        → Accepted n us answers
-    by true true true p q r e = record { sound = p; fit = q; enough = r }
-    by true true false p q r e = let z : ◌≡◌ {A = ℕ} 0 1 = cc in absurd (omega arith)
-    by true false c p q r e = let z : ◌≡◌ {A = ℕ} 0 1 = cc in absurd (omega arith)
-    by false b c p q r e = let z : ◌≡◌ {A = ℕ} 0 1 = cc in absurd (omega arith)
-
--- The law: every answer of an accepted call is no NaN and has no minus sign.
-pub powers-nonneg : (n : Net) (us answers : List Float) → power_says n us answers ≡ accepted [] → (c : ℕ) → c < length n.sheets → T (nonneg (get_or (power_row n us answers) c nan))
-powers-nonneg n us answers a c h =
-    let k = accepted-is n us answers a in
-    let f = power_at n us in
-    let m = length n.sheets in
-    rw (← (done n us answers k.sound k.fit k.enough).1)
-    (subst (λ (x : Float). T (nonneg x))
-    (sym (get_or-append (listed f m) (drop m answers) nan c (rw (listed-length f m) h) ∙ listed_at f m c nan h))
-    (cell-nonneg n us (yes k.sound) (yes k.fit) c h))
-
 T-true : (b : Bool) → T b → b ≡ true
 T-true true h = refl
 T-true false h = absurd h
 
+yes : {b : Bool} → b ≡ true → T b
+yes e = subst T (sym e) tt
+
+module _ (nodes : List Node) (edges : List Edge) (cells : List NetCell) (potentials : List Float) where
+  cell-nonneg : IsTrue (sound_net nodes edges cells) → IsTrue (in_ranges nodes cells potentials) → All (λ c. IsTrue (nonneg (cell_power nodes potentials c))) cells
+  unfolding cell_power cell_slope cell_values
+  cell-nonneg s r i d h =
+      let f = sound_facts nodes edges cells s in
+      let c = nth_cell cells i in
+      let q = c.corners in
+      let k = (f.each_cell i blank_cell h).known in
+      let v = ranged nodes cells potentials r in
+      let e = v.count in
+      let A = yes (v.potential q.southwest nan (omega (arith, k.southwest, e))) in
+      let B = yes (v.potential q.southeast nan (omega (arith, k.southeast, e))) in
+      let C = yes (v.potential q.northeast nan (omega (arith, k.northeast, e))) in
+      let D = yes (v.potential q.northwest nan (omega (arith, k.northwest, e))) in
+      let g = sides nodes edges cells f i h in
+      let w = g.width in
+      let t = g.height in
+      rw (get_or_default cells i d blank_cell h)
+      (T-true _
+      (power-nonneg (cell_slope nodes potentials c) c.sheet
+      (slope-no-nan (value_at potentials q.southeast) (value_at potentials q.northeast) (value_at potentials q.southwest) (value_at potentials q.northwest) _ B C A D (twice-positive _ w.some w.most))
+      (slope-no-nan (value_at potentials q.northeast) (value_at potentials q.northwest) (value_at potentials q.southwest) (value_at potentials q.southeast) _ C D A B (twice-positive _ t.some t.most))
+      (metres-positive _ w.some w.most)
+      (metres-positive _ t.some t.most)
+      (sheet-positive c.sheet (yes (v.sheet i blank_cell h)))))
+
+-- The law: no answer of an accepted call is a NaN, and none has a minus sign.
 pub none-negative : PowersAreNonNegative
-none-negative n us lent a c h = T-true (nonneg (get_or (power_row n us lent) c nan)) (powers-nonneg n us lent a c h)
+unfolding power_row
+none-negative nodes edges cells potentials lent e cell h =
+    let k = accepted-is nodes edges cells potentials lent e in
+    let powers = map (cell_power nodes potentials) cells in
+    let inside : cell < length powers = rw (length-map cells (cell_power nodes potentials)) h in
+    rw (e, get_or_append_left powers (drop (length powers) lent) nan cell inside)
+    (All-map (λ power. IsTrue (nonneg power)) (cell_power nodes potentials) cells (cell-nonneg nodes edges cells potentials k.sound k.fit) cell nan inside)

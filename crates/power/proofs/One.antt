@@ -5,7 +5,7 @@ use Rattle.power.specs.Powers.{power_says}
 use Rattle.power.specs.Laws.{OneAnswer, OneContent}
 
 pub one-power : OneAnswer
-one-power n us lent = one-said (λ u. []) (λ vs. tt) (λ u. refl) (power_says n us lent)
+one-power nodes edges cells us lent = one-said (λ u. []) (λ vs. tt) (λ u. refl) (power_says nodes edges cells us lent)
 
 pub one-row : OneContent
-one-row n us lent left other p q = p ∙ sym q
+one-row nodes edges cells us lent left other p q = p ∙ sym q

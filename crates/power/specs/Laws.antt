@@ -1,24 +1,32 @@
 -- What the contract of `cell_power` comes to: the laws that src/laws.rt promises. Definitions only.
-use Rattle.std.specs.Prelude.{ℕ, ◌<◌, ◌≡◌, List, [], length, IsTrue, Float, Result}
+use Rattle.std.specs.Prelude.{ℕ, ◌<◌, ◌≡◌, List, [], length, slice_index_or, IsTrue, Float, Result}
+use Rattle.std.specs.Float.{nan}
 use Rattle.refusals.specs.declared.Refusal.{Refusal}
 use Rattle.refusals.specs.Said.{accepted}
 use Rattle.floats.specs.Fractions.{nonneg}
-use Rattle.sound_net.specs.Nets.{Net}
-use Rattle.power.specs.Powers.{value_at, power_said, power_says, power_row}
+use Rattle.net_rows.specs.declared.rows.Node.{Node}
+use Rattle.net_rows.specs.declared.rows.Edge.{Edge}
+use Rattle.net_rows.specs.declared.rows.NetCell.{NetCell}
+use Rattle.power.specs.Powers.{power_said, power_says, power_row}
 
--- after an accepted call no cell's power is a NaN, and none is negative
+-- after an accepted call each cell has a power in the row, which is no NaN and not negative
 abbrev pub PowersAreNonNegative : Type 0
 PowersAreNonNegative =
-    (n : Net) (potentials lent : List Float) → power_says n potentials lent ≡ accepted []
-    → (cell : ℕ) → cell < length n.sheets → IsTrue (nonneg (value_at (power_row n potentials lent) cell))
+    (nodes : List Node) (edges : List Edge) (cells : List NetCell) (potentials lent : List Float)
+    → power_says nodes edges cells potentials lent ≡ accepted []
+    → (cell : ℕ) → cell < length cells → IsTrue (nonneg (slice_index_or (power_row nodes edges cells potentials lent) cell nan))
 
 -- two answers that are permitted are one, and so are two contents of the row
 abbrev pub OneAnswer : Type 0
 OneAnswer =
-    (n : Net) (potentials lent : List Float) (answer other : Result Unit Refusal)
-    → power_said answer ≡ power_says n potentials lent → power_said other ≡ power_says n potentials lent → answer ≡ other
+    (nodes : List Node) (edges : List Edge) (cells : List NetCell) (potentials lent : List Float) (answer other : Result Unit Refusal)
+    → power_said answer ≡ power_says nodes edges cells potentials lent
+    → power_said other ≡ power_says nodes edges cells potentials lent
+    → answer ≡ other
 
 abbrev pub OneContent : Type 0
 OneContent =
-    (n : Net) (potentials lent left other : List Float)
-    → left ≡ power_row n potentials lent → other ≡ power_row n potentials lent → left ≡ other
+    (nodes : List Node) (edges : List Edge) (cells : List NetCell) (potentials lent left other : List Float)
+    → left ≡ power_row nodes edges cells potentials lent
+    → other ≡ power_row nodes edges cells potentials lent
+    → left ≡ other

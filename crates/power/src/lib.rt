@@ -2,17 +2,19 @@
 //! Lengths are in metres.
 #![tactic(auto)]
 
-ghost use Rattle.std.specs.Prelude.{◌≡◌, ◌^◌, ◌<◌, ◌≤◌, length};
+ghost use Rattle.std.specs.Prelude.{◌≡◌, ◌^◌, ◌<◌, ◌≤◌, map, length};
+ghost use Rattle.std.specs.List.{list_all};
 ghost use Rattle.cell.specs.Ticks.{metres_of};
 ghost use Rattle.floats.specs.Fractions.{in_sheet, in_potential};
-ghost use Rattle.sound_net.specs.Nets.{net_in, node_count, all_below};
+ghost use Rattle.net_rows.specs.Written.{written};
+ghost use Rattle.net_rows.specs.Nets.{nth_cell};
 ghost use Rattle.power.specs.Formulas.{slope_of, power_of};
-ghost use Rattle.power.specs.Powers.{value_at, values_at, powered, in_ranges, power_said, power_says, power_row};
+ghost use Rattle.power.specs.Powers.{cell_values, cell_power, in_ranges, power_said, power_says, power_row};
 
 pub mod laws;
 
+use net_rows::{NetCell, NetRows, SoundNet};
 use refusals::Refusal;
-use sound_net::{NetRows, SoundNet};
 
 // What a cell's slope is worked out from: the potentials at SW, SE, NE, NW and the sides in ticks.
 #[derive(Clone, Copy)]
@@ -61,16 +63,17 @@ impl Slope {
 }
 
 // The values of cell c. Internal: the cell is one of the net, with a potential for each node.
-#[tactic(auto, unfolding(crate::specs::Powers::values_at))]
+#[tactic(auto, unfolding(crate::specs::Powers::cell_values))]
 #[inline(always)]
 fn cell_values(net: &SoundNet, potentials: &[f64], c: usize) -> Values
-    requires inside { c < length net.now.rows.sheets.now }
-    requires a_potential_each { length potentials.now ≡ node_count net.now.rows.nodes.now }
-    ensures values { result ≡ values_at (net_in net.now.rows) potentials.now c }
+    requires inside { c < length net.now.rows.cells.now }
+    requires a_potential_each { length potentials.now ≡ length net.now.rows.nodes.now }
+    ensures values { result
+        ≡ cell_values net.now.rows.nodes.now potentials.now (nth_cell net.now.rows.cells.now c) }
     ensures width_in_range { result.width < 2 ^ 53 }
     ensures height_in_range { result.height < 2 ^ 53 }
 {
-    let at = net.corners(c);
+    let at = net.cell(c).corners;
     Values {
         u0: potentials[at.southwest],
         u1: potentials[at.southeast],
@@ -81,9 +84,8 @@ fn cell_values(net: &SoundNet, potentials: &[f64], c: usize) -> Values
     }
 }
 
-#[tactic(auto, unfolding(sound_net::specs::Nets::all_below))]
 fn potentials_in_range(potentials: &[f64]) -> bool
-    ensures { result ≡ all_below (λ i. in_potential (value_at potentials.now i)) (length potentials.now) }
+    ensures { result ≡ list_all in_potential potentials.now }
 {
     let mut good = true;
     for &u in potentials {
@@ -92,38 +94,37 @@ fn potentials_in_range(potentials: &[f64]) -> bool
     good
 }
 
-#[tactic(auto, unfolding(sound_net::specs::Nets::all_below))]
-fn sheets_in_range(sheets: &[f64]) -> bool
-    ensures { result ≡ all_below (λ i. in_sheet (value_at sheets.now i)) (length sheets.now) }
+fn sheets_in_range(cells: &[NetCell]) -> bool
+    ensures { result ≡ list_all (λ c. in_sheet c.sheet) cells.now }
 {
     let mut good = true;
-    for &r in sheets {
-        good &= floats::sheet_in_range(r);
+    for cell in cells {
+        good &= floats::sheet_in_range(cell.sheet);
     }
     good
 }
 
 // Puts the power of each cell in its answer, two cells a turn: both are loaded before either is divided, so that the
 // divisions go together. Internal: there is a potential for each node, and room for the answers.
-#[tactic(auto, unfolding(crate::specs::Powers::listed))]
 #[inline(always)]
 fn fill(net: &SoundNet, potentials: &[f64], answers: &mut [f64])
-    requires a_potential_each { length potentials.now ≡ node_count net.now.rows.nodes.now }
-    requires room { length net.now.rows.sheets.now ≤ length answers.old }
-    ensures { answers.new ≡ powered (net_in net.now.rows) potentials.now answers.old }
+    requires a_potential_each { length potentials.now ≡ length net.now.rows.nodes.now }
+    requires room { length net.now.rows.cells.now ≤ length answers.old }
+    ensures { answers.new
+        ≡ written (map (cell_power net.now.rows.nodes.now potentials.now) net.now.rows.cells.now) answers.old }
 {
-    let sheets = net.rows.sheets;
+    let cells = net.rows.cells;
     let mut c = 0usize;
-    while c < sheets.len() {
+    while c < cells.len() {
         let first = cell_values(net, potentials, c);
         // The last of an odd number.
-        if c + 1 == sheets.len() {
-            answers[c] = first.grad().power(sheets[c]);
+        if c + 1 == cells.len() {
+            answers[c] = first.grad().power(cells[c].sheet);
             return;
         }
         let second = cell_values(net, potentials, c + 1);
-        let p = first.grad().power(sheets[c]);
-        let q = second.grad().power(sheets[c + 1]);
+        let p = first.grad().power(cells[c].sheet);
+        let q = second.grad().power(cells[c + 1].sheet);
         answers[c] = p;
         answers[c + 1] = q;
         c += 2;
@@ -134,19 +135,21 @@ fn fill(net: &SoundNet, potentials: &[f64], answers: &mut [f64])
 #[tactic(auto, unfolding(crate::specs::Powers::in_ranges))]
 #[inline(always)]
 fn in_ranges(net: &SoundNet, potentials: &[f64]) -> bool
-    ensures { result ≡ in_ranges (net_in net.now.rows) potentials.now }
+    ensures { result ≡ in_ranges net.now.rows.nodes.now net.now.rows.cells.now potentials.now }
 {
-    (potentials.len() == net.node_count())
+    (potentials.len() == net.rows.nodes.len())
         & potentials_in_range(potentials)
-        & sheets_in_range(net.rows.sheets)
+        & sheets_in_range(net.rows.cells)
 }
 
 /// The rules' cell_power: refusal 7 for a bad net, 3 for a value out of range, 6 for fewer answers than cells.
 #[tactic(auto, unfolding(crate::specs::Powers::power_says, crate::specs::Powers::power_row))]
 #[inline(always)]
 pub fn cell_power(rows: &NetRows, potentials: &[f64], answers: &mut [f64]) -> Result<(), Refusal>
-    ensures answer { power_said result ≡ power_says (net_in rows.now) potentials.now answers.old }
-    ensures row { answers.new ≡ power_row (net_in rows.now) potentials.now answers.old }
+    ensures answer { power_said result
+        ≡ power_says rows.now.nodes.now rows.now.edges.now rows.now.cells.now potentials.now answers.old }
+    ensures row { answers.new
+        ≡ power_row rows.now.nodes.now rows.now.edges.now rows.now.cells.now potentials.now answers.old }
 {
     let Some(net) = SoundNet::judge(rows) else {
         return Err(Refusal::BadTable);
@@ -154,47 +157,9 @@ pub fn cell_power(rows: &NetRows, potentials: &[f64], answers: &mut [f64]) -> Re
     if !in_ranges(&net, potentials) {
         return Err(Refusal::OutOfRange(0));
     }
-    if answers.len() < net.cell_count() {
+    if answers.len() < net.rows.cells.len() {
         return Err(Refusal::NoRoom);
     }
     fill(&net, potentials, answers);
     Ok(())
-}
-
-#[cfg(test)]
-mod tests {
-    use super::*;
-
-    // A square of 4 ticks.
-    const ROWS: NetRows<'static> = NetRows {
-        nodes: &[1, 0, 0, 0, 1, 0, 4, 0, 1, 0, 4, 4, 1, 0, 0, 4],
-        ends: &[0, 1],
-        conductances: &[0.5],
-        corners: &[0, 1, 2, 3],
-        sheets: &[1.0],
-    };
-
-    #[test]
-    fn one_square(rt: HostRuntime) {
-        let mut answers = [7.0, 7.0];
-        assert_eq!(rt;
-            cell_power(&ROWS, &[0.0, 1.0, 1.0, 0.0], &mut answers),
-            Ok(())
-        );
-        assert_eq!(rt; answers, [1.0, 7.0]);
-    }
-
-    #[test]
-    fn refusals_in_their_order(rt: HostRuntime) {
-        let bad = NetRows {
-            corners: &[0, 1, 2, 2],
-            ..ROWS
-        };
-        assert_eq!(rt; cell_power(&bad, &[], &mut []), Err(Refusal::BadTable));
-        assert_eq!(rt;
-            cell_power(&ROWS, &[0.0], &mut []),
-            Err(Refusal::OutOfRange(0))
-        );
-        assert_eq!(rt; cell_power(&ROWS, &[0.0; 4], &mut []), Err(Refusal::NoRoom));
-    }
 }

@@ -1,5 +1,6 @@
 -- The rules' board record: one description of each field, over what a version allows.
-use Rattle.std.specs.Prelude.{ℕ, ◌-◌, ◌^◌, List, ◌∷◌, ◌++◌, length, Bool, true, Option, Some, None, nat_le, nat_lt, ◌==◌, Result, Ok, Err, ℤ, if◌then◌else◌}
+use Rattle.std.specs.Prelude.{ℕ, ◌-◌, ◌^◌, List, ◌∷◌, ◌++◌, length, Bool, true, Option, Some, None}
+use Rattle.std.specs.Prelude.{nat_le, nat_lt, ◌==◌, Result, Ok, Err, ℤ, if◌then◌else◌}
 use Rattle.std.specs.Int.{w8, w16, w32, w64, to_be_bytes}
 use Rattle.refusals.specs.declared.Refusal.{Refusal}
 use Rattle.refusals.specs.declared.Refusal.TheVariants.{WrongVersion, WrongLength, OutOfRange}
@@ -38,7 +39,15 @@ version_of byte = if byte == 1 then Ok One else Err WrongVersion
 
 -- the rules' table of ranges
 abbrev pub limits_of : Version → Limits
-limits_of One = record { max_level = widest_level; cap = max_cap; cell = max_cell; layers = max_layers; polygons = max_polygons; ring_points = max_points }
+limits_of One =
+    record {
+      max_level = widest_level;
+      cap = max_cap;
+      cell = max_cell;
+      layers = max_layers;
+      polygons = max_polygons;
+      ring_points = max_points;
+    }
 
 -- ---- "max_level (8 bits; 255 here means the default, 3); cap (16); target (64)"
 
@@ -52,7 +61,8 @@ abbrev pub level : ℕ → Codec ℕ
 level most = record {
   spelling = to_be_bytes w8;
   fits = λ n. nat_le n most;
-  reading = λ c. number w8 c >>= λ n. if n.0 == as_default then Ok (default_level, n.1) else require (nat_le n.0 most) (OutOfRange c.at) (Ok n);
+  reading = λ c. number w8 c >>= λ n.
+      if n.0 == as_default then Ok (default_level, n.1) else require (nat_le n.0 most) (OutOfRange c.at) (Ok n);
 }
 
 abbrev pub settings : Limits → Codec Settings
@@ -96,7 +106,8 @@ point = named (λ p. record { x = p.0; y = p.1 }) (λ p. (p.x, p.y)) (pair coord
 
 unfoldable pub polygon : Limits → Codec Polygon
 polygon l =
-    named (λ p. record { layer = p.0; component = p.1.0; sheet = p.1.1.0; points = p.1.1.1 }) (λ p. (p.layer, (p.component, (p.sheet, p.points))))
+    named (λ p. record { layer = p.0; component = p.1.0; sheet = p.1.1.0; points = p.1.1.1 })
+    (λ p. (p.layer, (p.component, (p.sheet, p.points))))
     (pair (any w16) (pair (any w32) (pair (ranged w64 sheet_low sheet_high) (counted w16 l.ring_points point))))
 
 abbrev pub polygon_list : Limits → Codec (List Polygon)
@@ -111,11 +122,12 @@ split_list = counted w16 (2 ^ 16 - 1) (any w32)
 
 unfoldable pub body : Limits → Codec Board
 body l =
-    named (λ b. record { settings = b.0; layers = b.1.0; polygons = b.1.1.0; splits = b.1.1.1 }) (λ b. (b.settings, (b.layers, (b.polygons, b.splits))))
+    named (λ b. record { settings = b.0; layers = b.1.0; polygons = b.1.1.0; splits = b.1.1.1 })
+    (λ b. (b.settings, (b.layers, (b.polygons, b.splits))))
     (pair (settings l) (pair (layer_list l) (pair (polygon_list l) split_list)))
 
--- "version 1 (8 bits); 32-bit length of all that follows". Refusal 1 has no place; 2 for a length that "differs from the
--- bytes behind it" has the length's; 2 for what remains behind the last list has its offset
+-- "version 1 (8 bits); 32-bit length of all that follows". Refusal 1 has no place; 2 for a length that "differs from
+-- the bytes behind it" has the length's; 2 for what remains behind the last list has its offset
 unfoldable pub board : List ℕ → Result Board Refusal
 board bytes = do
   first ← number w8 (start bytes)

@@ -24,11 +24,17 @@ ReadWrite = (b : Board) (out : List ℕ) → IsTrue (is_in_range b) → size_of 
 
 -- and no record is read as a board that is not in range
 abbrev pub ReadsInRange : Type 0
-ReadsInRange = (bytes : List ℕ) (b : Board) → ((i : ℕ) → slice_index_or bytes i 0 < 256) → board bytes ≡ Ok b → IsTrue (is_in_range b)
+ReadsInRange =
+    (bytes : List ℕ) (b : Board)
+    → ((i : ℕ) → slice_index_or bytes i 0 < 256) → board bytes ≡ Ok b → IsTrue (is_in_range b)
 
 -- whatever is to be said, two answers that are permitted are one
 abbrev pub OneRead : Type 0
-OneRead = (what : Said) (answer other : Result Read Refusal) → read_said answer ≡ what → read_said other ≡ what → answer ≡ other
+OneRead =
+    (what : Said) (answer other : Result Read Refusal)
+    → read_said answer ≡ what → read_said other ≡ what → answer ≡ other
 
 abbrev pub OneWritten : Type 0
-OneWritten = (what : Said) (answer other : Result ℕ Refusal) → write_said answer ≡ what → write_said other ≡ what → answer ≡ other
+OneWritten =
+    (what : Said) (answer other : Result ℕ Refusal)
+    → write_said answer ≡ what → write_said other ≡ what → answer ≡ other

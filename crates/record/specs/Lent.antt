@@ -12,6 +12,12 @@ lent_rows r = rows_of r.layers.now r.polygons.now r.sheets.now r.points.now r.sp
 abbrev pub rows_to_fill : BoardRowsMut → Rows
 rows_to_fill r = rows_of r.layers.now r.polygons.now r.sheets.now r.points.now r.splits.now
 
+-- what the call gives back of them: each row, in the order of the fields
+abbrev pub RowsBack : Type 0
+RowsBack =
+    MutBor (List (List ℕ))
+    × (MutBor (List (List ℕ)) × (MutBor (List Float) × (MutBor (List (List ℤ)) × (MutBor (List ℕ) × Unit {0}))))
+
 -- and as the call leaves them
-abbrev pub rows_left : MutBor (List (List ℕ)) × (MutBor (List (List ℕ)) × (MutBor (List Float) × (MutBor (List (List ℤ)) × (MutBor (List ℕ) × Unit {0})))) → Rows
+abbrev pub rows_left : RowsBack → Rows
 rows_left r = rows_of r.0.now r.1.0.now r.1.1.0.now r.1.1.1.0.now r.1.1.1.1.0.now

@@ -1,5 +1,5 @@
--- The bytes of the parts of a record, as they are put in place. All of this is internal: proofs/Records.antt has that they are
--- what the fields' descriptions spell.
+-- The bytes of the parts of a record, as they are put in place. All of this is internal: proofs/Records.antt has that
+-- they are what the fields' descriptions spell.
 use Rattle.std.specs.Prelude.{ℕ, List, ◌++◌, length, slice_index_or}
 use Rattle.std.specs.List.{flat_map}
 use Rattle.std.specs.Int.{w64, cast_unsigned, bytes_high_first}
@@ -17,13 +17,15 @@ point_bytes p = bytes_high_first 8 (cast_unsigned w64 p.x) ++ bytes_high_first 8
 abbrev pub polygon_bytes : Polygon → List ℕ
 polygon_bytes p =
     bytes_high_first 2 p.layer
-    ++ (bytes_high_first 4 p.component ++ (bytes_high_first 8 p.sheet ++ (bytes_high_first 2 (length p.points) ++ flat_map point_bytes p.points)))
+    ++ (bytes_high_first 4 p.component
+    ++ (bytes_high_first 8 p.sheet ++ (bytes_high_first 2 (length p.points) ++ flat_map point_bytes p.points)))
 
 -- a polygon but for its points
 abbrev pub head_bytes : List ℕ → ℕ → List ℕ
 head_bytes row sheet =
     bytes_high_first 2 (slice_index_or row 0 0)
-    ++ (bytes_high_first 4 (slice_index_or row 1 0) ++ (bytes_high_first 8 sheet ++ bytes_high_first 2 (slice_index_or row 2 0)))
+    ++ (bytes_high_first 4 (slice_index_or row 1 0)
+    ++ (bytes_high_first 8 sheet ++ bytes_high_first 2 (slice_index_or row 2 0)))
 
 abbrev pub settings_bytes : Settings → List ℕ
 settings_bytes g = bytes_high_first 1 g.level ++ (bytes_high_first 2 g.cap ++ bytes_high_first 8 g.target)
@@ -33,7 +35,9 @@ abbrev pub layers_bytes : List (List ℕ) → List ℕ
 layers_bytes row = bytes_high_first 2 (length row) ++ flat_map entry_bytes (entries_of row)
 
 abbrev pub polygons_bytes : Rows → List ℕ
-polygons_bytes rows = bytes_high_first 2 (length rows.polygons) ++ flat_map polygon_bytes (polygons_of rows.polygons rows.sheets rows.points)
+polygons_bytes rows =
+    bytes_high_first 2 (length rows.polygons)
+    ++ flat_map polygon_bytes (polygons_of rows.polygons rows.sheets rows.points)
 
 abbrev pub splits_bytes : List ℕ → List ℕ
 splits_bytes row = bytes_high_first 2 (length row) ++ flat_map (bytes_high_first 4) row

@@ -13,7 +13,12 @@ use Rattle.record.specs.Rows.{Rows, filled, rings}
 -- the rows that a board takes
 abbrev pub counts_of : Board → Counts
 counts_of b =
-    record { layers = length b.layers; polygons = length b.polygons; points = length (rings b.polygons); splits = length b.splits }
+    record {
+      layers = length b.layers;
+      polygons = length b.polygons;
+      points = length (rings b.polygons);
+      splits = length b.splits;
+    }
 
 abbrev pub summary_of : Board → Read
 summary_of b = record { settings = b.settings; counts = counts_of b }
@@ -39,7 +44,8 @@ abbrev pub has_room : Rows → Counts → Bool
 has_room rows n =
     nat_le n.layers (length rows.layers)
     && (nat_le n.polygons (length rows.polygons)
-    && (nat_le n.polygons (length rows.sheets) && (nat_le n.points (length rows.points) && nat_le n.splits (length rows.splits))))
+    && (nat_le n.polygons (length rows.sheets)
+    && (nat_le n.points (length rows.points) && nat_le n.splits (length rows.splits))))
 
 -- the board of a record that is read to these rows, or the refusal: "1, then 2 and 3 in byte order, .., then 6"
 unfoldable pub reading : List ℕ → Rows → Result Board Refusal

@@ -14,7 +14,8 @@ pub record Rows : Type 0 where
   pub splits : List ℕ
 
 abbrev pub rows_of : List (List ℕ) → List (List ℕ) → List Float → List (List ℤ) → List ℕ → Rows
-rows_of layers polygons sheets points splits = record { layers = layers; polygons = polygons; sheets = sheets; points = points; splits = splits }
+rows_of layers polygons sheets points splits =
+    record { layers = layers; polygons = polygons; sheets = sheets; points = points; splits = splits }
 
 -- an entry of the layer list: layer, cell
 abbrev pub entry_row : Entry → List ℕ
@@ -48,4 +49,5 @@ filled rows b =
 -- the rows of a board
 abbrev pub rows_for : Board → Rows
 rows_for b =
-    rows_of (map entry_row b.layers) (map polygon_row b.polygons) (map sheet_of b.polygons) (map point_row (rings b.polygons)) b.splits
+    rows_of (map entry_row b.layers) (map polygon_row b.polygons) (map sheet_of b.polygons)
+    (map point_row (rings b.polygons)) b.splits

@@ -1,12 +1,13 @@
 -- What `write` says and does.
-use Rattle.std.specs.Prelude.{ℕ, ◌+◌, ◌*◌, ◌-◌, ◌^◌, Bool, ◌&&◌, ◌==◌, nat_le, List, [], ◌∷◌, map, length, take, drop, slice_index_or, ℤ, pos, Float, Result, if◌then◌else◌}
+use Rattle.std.specs.Prelude.{ℕ, ◌+◌, ◌*◌, ◌-◌, ◌^◌, Bool, ◌&&◌, ◌==◌, nat_le, List, [], ◌∷◌, map, length, take, drop}
+use Rattle.std.specs.Prelude.{slice_index_or, ℤ, pos, Float, Result, if◌then◌else◌}
 use Rattle.std.specs.Float.Ieee as Ieee
 use Rattle.std.specs.Float.{binary64}
 use Rattle.std.specs.Float.Ieee.{to_bits}
 use Rattle.std.proofs.lemmas.List.Edits.{sets}
 use Rattle.refusals.specs.declared.Refusal.{Refusal}
 use Rattle.refusals.specs.declared.Refusal.TheVariants.{OutOfRange, NoRoom, BadTable}
-use Rattle.refusals.specs.Said.{Said, accepted, refusal, said}
+use Rattle.refusals.specs.Said.{Said, accepted, refusal, said, if_accepted}
 use Rattle.refusals.specs.Limits.{max_layers, max_polygons, max_points}
 use Rattle.record.specs.declared.board.Settings.{Settings}
 use Rattle.record.specs.declared.board.Version.TheVariants.{One}
@@ -40,7 +41,12 @@ unfoldable pub polygons_of : List (List ℕ) → List Float → List (List ℤ) 
 polygons_of [] rs qs = []
 polygons_of (p ∷ ps) [] qs = []
 polygons_of (p ∷ ps) (r ∷ rs) qs =
-    record { layer = slice_index_or p 0 0; component = slice_index_or p 1 0; sheet = sheet_bits r; points = ring_of (take (count_of p) qs) }
+    record {
+      layer = slice_index_or p 0 0;
+      component = slice_index_or p 1 0;
+      sheet = sheet_bits r;
+      points = ring_of (take (count_of p) qs);
+    }
     ∷ polygons_of ps rs (drop (count_of p) qs)
 
 -- whether the point counts add up to the points
@@ -50,7 +56,12 @@ add_up (p ∷ ps) n = nat_le (count_of p) n && add_up ps (n - count_of p)
 
 abbrev pub board_of : Settings → Rows → Board
 board_of g rows =
-    record { settings = g; layers = entries_of rows.layers; polygons = polygons_of rows.polygons rows.sheets rows.points; splits = rows.splits }
+    record {
+      settings = g;
+      layers = entries_of rows.layers;
+      polygons = polygons_of rows.polygons rows.sheets rows.points;
+      splits = rows.splits;
+    }
 
 -- ---- what `write` says and leaves
 
@@ -65,18 +76,23 @@ is_shaped rows = length rows.polygons == length rows.sheets && add_up rows.polyg
 abbrev pub is_countable : Rows → Bool
 is_countable rows =
     nat_le (length rows.layers) max_layers
-    && (nat_le (length rows.polygons) max_polygons && (nat_le (length rows.points) (max_polygons * max_points) && nat_le (length rows.splits) (2 ^ 16 - 1)))
+    && (nat_le (length rows.polygons) max_polygons
+    && (nat_le (length rows.points) (max_polygons * max_points) && nat_le (length rows.splits) (2 ^ 16 - 1)))
 
 -- the bytes that a record takes
 abbrev pub size_of : Rows → ℕ
-size_of rows = 22 + 10 * length rows.layers + 16 * length rows.polygons + 16 * length rows.points + 4 * length rows.splits
+size_of rows =
+    22 + 10 * length rows.layers + 16 * length rows.polygons + 16 * length rows.points + 4 * length rows.splits
 
 -- 7, then 3, then 6: "no room" where the output is too short
 abbrev pub write_says : Rows → ℕ → Said
 write_says rows room =
-    if is_shaped rows then (if is_countable rows then (if nat_le (size_of rows) room then accepted (size_of rows ∷ []) else refusal NoRoom) else refusal (OutOfRange 0)) else refusal BadTable
+    if is_shaped rows then
+    (if is_countable rows then (if nat_le (size_of rows) room then accepted (size_of rows ∷ []) else refusal NoRoom)
+    else refusal (OutOfRange 0))
+    else refusal BadTable
 
 -- the record of the rows' board, from the start of the output. A refused write has written nothing
 abbrev pub write_leaves : Settings → Rows → List ℕ → List ℕ
 write_leaves g rows out =
-    if is_shaped rows then (if is_countable rows then (if nat_le (size_of rows) (length out) then sets out 0 (record_of One (board_of g rows)) else out) else out) else out
+    if_accepted (write_says rows (length out)) (sets out 0 (record_of One (board_of g rows))) out

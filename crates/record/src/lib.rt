@@ -20,6 +20,3 @@ pub use board::{Counts, Read, Settings};
 pub use reading::{check, read};
 pub use rows::{BoardRows, BoardRowsMut};
 pub use writing::write;
-
-#[cfg(test)]
-mod tests;

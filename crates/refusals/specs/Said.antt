@@ -30,6 +30,11 @@ abbrev pub is_accepted : Said → Bool
 is_accepted (accepted values) = true
 is_accepted (refused number place) = false
 
+-- what stands after a call: something new if it is accepted, and what stood before if it is refused
+abbrev pub if_accepted : {A : Type 0} → Said → A → A → A
+if_accepted (accepted values) new old = new
+if_accepted (refused number place) new old = old
+
 -- yes and no as a value of an accepted call
 abbrev pub bit : Bool → ℕ
 bit true = 1

@@ -1,8 +1,8 @@
 //! replay_boards: what `leafnet` writes, for each of a sequence of records from standard input, each with its length in
 //! front as four bytes.
 //!
-//! `oracle/replay_boards.sh` made the records in `stdin`, those at the limits first, and had the original, not this port,
-//! write `stdout`.
+//! `oracle/replay_boards.sh` made the records in `stdin`, those at the limits first, and had the original, not this
+//! port, write `stdout`.
 #![tactic(auto)]
 
 use std::alloc::Global;

@@ -4,14 +4,15 @@
 //!     oracle/replays.sh
 #![tactic(auto)]
 
+use bare_net::Counts;
 use cases::{Cases, print};
-use checks::{Hanging, Polygons};
-use sound_net::NetRows;
+use checks::Hanging;
+use net_rows::{Corners, Edge, NetCell, NetRows, Node, Polygons};
+use refusals::Refusal;
 use std::alloc::{AllocError, Global};
 use std::fmt::Write;
 use std::io;
 use table::Head;
-use unweighted::Counts;
 
 const POWER: u64 = 1;
 
@@ -19,9 +20,9 @@ const NETWORK_CONFORMING: u64 = 2;
 
 const NETWORK: u64 = 4;
 
-// The rows of a net that a call takes.
+// The rows of a net as the stream has them: four numbers a node, two ends an edge, four corners a cell.
 #[derive(Drop)]
-struct Net {
+struct Numbers {
     nodes: Vec<i64>,
     ends: Vec<u64>,
     conductances: Vec<f64>,
@@ -29,31 +30,141 @@ struct Net {
     sheets: Vec<f64>,
 }
 
+// The rows of a net as a call takes them.
+#[derive(Drop)]
+struct Net {
+    nodes: Vec<Node>,
+    edges: Vec<Edge>,
+    cells: Vec<NetCell>,
+}
+
+fn node_of(numbers: [i64; 4]) -> Option<Node> {
+    let [layer, component, x, y] = numbers;
+    Some(Node {
+        layer: u16::try_from(layer).ok()?,
+        component: u32::try_from(component).ok()?,
+        x,
+        y,
+    })
+}
+
+impl Numbers {
+    fn read(alloc: Global, cases: &mut Cases) -> Result<Numbers, AllocError> {
+        let nodes = cases.row(alloc)?;
+        let ends = cases.row(alloc)?;
+        let conductances = cases.row(alloc)?;
+        let corners = cases.row(alloc)?;
+        let sheets = cases.row(alloc)?;
+        Ok(Numbers {
+            nodes,
+            ends,
+            conductances,
+            corners,
+            sheets,
+        })
+    }
+
+    // The rows with their types: refused as a bad net where their lengths don't fit together, or a layer or component
+    // has too many bits.
+    fn typed(&self, alloc: Global) -> Result<Result<Net, Refusal>, AllocError> {
+        let (nodes_in, no_node) = self.nodes.as_chunks::<4>();
+        let (ends_in, no_end) = self.ends.as_chunks::<2>();
+        let (corners_in, no_corner) = self.corners.as_chunks::<4>();
+        let whole = no_node.is_empty() && no_end.is_empty() && no_corner.is_empty();
+        if !whole
+            || ends_in.len() != self.conductances.len()
+            || corners_in.len() != self.sheets.len()
+        {
+            return Ok(Err(Refusal::BadTable));
+        }
+        let mut nodes = Vec::new(alloc);
+        for numbers in nodes_in {
+            match node_of(*numbers) {
+                Some(node) => nodes.push(node)?,
+                None => return Ok(Err(Refusal::BadTable)),
+            }
+        }
+        let mut edges = Vec::new(alloc);
+        for (ends, conductance) in ends_in.iter().zip(&self.conductances) {
+            edges.push(Edge {
+                from: ends[0] as usize,
+                to: ends[1] as usize,
+                conductance: *conductance,
+            })?;
+        }
+        let mut cells = Vec::new(alloc);
+        for (corners, sheet) in corners_in.iter().zip(&self.sheets) {
+            cells.push(NetCell {
+                corners: Corners {
+                    southwest: corners[0] as usize,
+                    southeast: corners[1] as usize,
+                    northeast: corners[2] as usize,
+                    northwest: corners[3] as usize,
+                },
+                sheet: *sheet,
+            })?;
+        }
+        Ok(Ok(Net {
+            nodes,
+            edges,
+            cells,
+        }))
+    }
+
+    fn print(&self, out: &mut String) -> Result<(), AllocError> {
+        print::row(out, &self.nodes)?;
+        print::row(out, &self.ends)?;
+        print::fractions(out, &self.conductances)?;
+        print::row(out, &self.corners)?;
+        print::fractions(out, &self.sheets)
+    }
+}
+
 impl Net {
     fn rows(&self) -> NetRows<'_> {
         NetRows {
             nodes: &self.nodes,
-            ends: &self.ends,
-            conductances: &self.conductances,
-            corners: &self.corners,
-            sheets: &self.sheets,
+            edges: &self.edges,
+            cells: &self.cells,
         }
     }
-}
 
-fn read_net(alloc: Global, cases: &mut Cases) -> Result<Net, AllocError> {
-    let nodes = cases.row(alloc)?;
-    let ends = cases.row(alloc)?;
-    let conductances = cases.row(alloc)?;
-    let corners = cases.row(alloc)?;
-    let sheets = cases.row(alloc)?;
-    Ok(Net {
-        nodes,
-        ends,
-        conductances,
-        corners,
-        sheets,
-    })
+    fn numbers(&self, alloc: Global) -> Result<Numbers, AllocError> {
+        let mut nodes = Vec::new(alloc);
+        for node in &self.nodes {
+            nodes.extend_from_slice(&[
+                i64::from(node.layer),
+                i64::from(node.component),
+                node.x,
+                node.y,
+            ])?;
+        }
+        let mut ends = Vec::new(alloc);
+        let mut conductances = Vec::new(alloc);
+        for edge in &self.edges {
+            ends.extend_from_slice(&[edge.from as u64, edge.to as u64])?;
+            conductances.push(edge.conductance)?;
+        }
+        let mut corners = Vec::new(alloc);
+        let mut sheets = Vec::new(alloc);
+        for cell in &self.cells {
+            let at = cell.corners;
+            corners.extend_from_slice(&[
+                at.southwest as u64,
+                at.southeast as u64,
+                at.northeast as u64,
+                at.northwest as u64,
+            ])?;
+            sheets.push(cell.sheet)?;
+        }
+        Ok(Numbers {
+            nodes,
+            ends,
+            conductances,
+            corners,
+            sheets,
+        })
+    }
 }
 
 fn read_head(cases: &mut Cases) -> Head {
@@ -78,13 +189,16 @@ fn print_counts(out: &mut String, n: Counts) -> Result<(), AllocError> {
 fn run_power(
     alloc: Global,
     cases: &mut Cases,
-    net: &Net,
+    net: &Result<Net, Refusal>,
     out: &mut String,
 ) -> Result<(), AllocError> {
     let potentials: Vec<f64> = cases.row(alloc)?;
     let mut answers: Vec<f64> = cases.row(alloc)?;
     write!(out, "power")?;
-    let answer = power::cell_power(&net.rows(), &potentials, &mut answers);
+    let answer = match net {
+        Ok(net) => power::cell_power(&net.rows(), &potentials, &mut answers),
+        Err(why) => Err(*why),
+    };
     print::answered(out, answer, |out, ()| writeln!(out))?;
     print::fractions(out, &answers)
 }
@@ -93,14 +207,17 @@ fn run_power(
 fn run_network_conforming(
     alloc: Global,
     cases: &mut Cases,
-    net: &Net,
+    net: &Result<Net, Refusal>,
     out: &mut String,
 ) -> Result<(), AllocError> {
     let head = read_head(cases);
     let t: Vec<i64> = cases.row(alloc)?;
     let mut work: Vec<u64> = cases.row(alloc)?;
     write!(out, "check_network_conforming")?;
-    let answer = checks::check_network_conforming(&t, head, &net.rows(), &mut work);
+    let answer = match net {
+        Ok(net) => checks::check_network_conforming(&t, head, &net.rows(), &mut work),
+        Err(why) => Err(*why),
+    };
     print::answered(out, answer, print_fault)?;
     print::work(out, &work)
 }
@@ -109,7 +226,7 @@ fn run_network_conforming(
 fn run_by_layer(
     alloc: Global,
     cases: &mut Cases,
-    net: &Net,
+    net: &Result<Net, Refusal>,
     out: &mut String,
 ) -> Result<(), AllocError> {
     let head = read_head(cases);
@@ -122,7 +239,10 @@ fn run_by_layer(
         layers: &layers,
         components: &components,
     };
-    let answer = checks::check_by_layer(&t, head, &net.rows(), &polygons, &mut work);
+    let answer = match net {
+        Ok(net) => checks::check_by_layer(&t, head, &net.rows(), &polygons, &mut work),
+        Err(why) => Err(*why),
+    };
     print::answered(out, answer, print_fault)?;
     print::work(out, &work)
 }
@@ -134,32 +254,33 @@ fn run_network(alloc: Global, cases: &mut Cases, out: &mut String) -> Result<(),
     let layers: Vec<u16> = cases.row(alloc)?;
     let components: Vec<u32> = cases.row(alloc)?;
     let sheets: Vec<f64> = cases.row(alloc)?;
-    let mut nodes: Vec<i64> = cases.row(alloc)?;
-    let mut ends: Vec<u64> = cases.row(alloc)?;
-    let mut conductances: Vec<f64> = cases.row(alloc)?;
-    let mut corners: Vec<u64> = cases.row(alloc)?;
-    let mut cells: Vec<f64> = cases.row(alloc)?;
+    let lent = Numbers::read(alloc, cases)?;
     let mut work: Vec<u64> = cases.row(alloc)?;
     write!(out, "network")?;
-    let answer = network::network(
-        &t,
-        head,
-        &layers,
-        &components,
-        &sheets,
-        &mut nodes,
-        &mut ends,
-        &mut conductances,
-        &mut corners,
-        &mut cells,
-        &mut work,
-    );
-    print::answered(out, answer, print_counts)?;
-    print::row(out, &nodes)?;
-    print::row(out, &ends)?;
-    print::fractions(out, &conductances)?;
-    print::row(out, &corners)?;
-    print::fractions(out, &cells)?;
+    let polygons = Polygons {
+        layers: &layers,
+        components: &components,
+    };
+    match lent.typed(alloc)? {
+        Ok(mut net) => {
+            let answer = network::network(
+                &t,
+                head,
+                &polygons,
+                &sheets,
+                &mut net.nodes,
+                &mut net.edges,
+                &mut net.cells,
+                &mut work,
+            );
+            print::answered(out, answer, print_counts)?;
+            net.numbers(alloc)?.print(out)?;
+        }
+        Err(why) => {
+            print::refused(out, why)?;
+            lent.print(out)?;
+        }
+    }
     print::work(out, &work)
 }
 
@@ -168,7 +289,7 @@ fn run(alloc: Global, cases: &mut Cases, out: &mut String) -> Result<(), AllocEr
     if kind == NETWORK {
         return run_network(alloc, cases, out);
     }
-    let net = read_net(alloc, cases)?;
+    let net = Numbers::read(alloc, cases)?.typed(alloc)?;
     match kind {
         POWER => run_power(alloc, cases, &net, out),
         NETWORK_CONFORMING => run_network_conforming(alloc, cases, &net, out),

@@ -7,11 +7,14 @@
 use build::Settings;
 use build::outlines::Outlines;
 use cases::{Cases, print};
+use refusals::Refusal;
 use std::alloc::{AllocError, Global};
 use std::fmt::Write;
 use std::io;
 
 const STRIPS: u64 = 1;
+
+const BUILD_IN_ZEROS: u64 = 3;
 
 // A ring and the row for its strips stand next.
 fn run_strips(alloc: Global, cases: &mut Cases, out: &mut String) -> Result<(), AllocError> {
@@ -33,27 +36,62 @@ fn read_settings(cases: &mut Cases) -> Settings {
     }
 }
 
-// The settings, the layer list, the polygons' rows and the table stand next.
+// A board as it is stored: the settings, the layer list and the polygons' rows.
+#[derive(Drop)]
+struct Board {
+    settings: Settings,
+    list: Vec<[u64; 2]>,
+    layers: Vec<u16>,
+    components: Vec<u32>,
+    sheets: Vec<f64>,
+    counts: Vec<u64>,
+    points: Vec<[i64; 2]>,
+}
+
+impl Board {
+    fn read(alloc: Global, cases: &mut Cases) -> Result<Board, AllocError> {
+        Ok(Board {
+            settings: read_settings(cases),
+            list: cases.row(alloc)?,
+            layers: cases.row(alloc)?,
+            components: cases.row(alloc)?,
+            sheets: cases.row(alloc)?,
+            counts: cases.row(alloc)?,
+            points: cases.row(alloc)?,
+        })
+    }
+
+    fn build(&self, table: &mut [i64]) -> Result<usize, Refusal> {
+        let outlines = Outlines {
+            layers: &self.layers,
+            components: &self.components,
+            sheets: &self.sheets,
+            counts: &self.counts,
+            points: &self.points,
+        };
+        build::build(self.settings, &self.list, &outlines, table)
+    }
+}
+
+// A board and the table stand next.
 fn run_build(alloc: Global, cases: &mut Cases, out: &mut String) -> Result<(), AllocError> {
-    let settings = read_settings(cases);
-    let list: Vec<[u64; 2]> = cases.row(alloc)?;
-    let layers: Vec<u16> = cases.row(alloc)?;
-    let components: Vec<u32> = cases.row(alloc)?;
-    let sheets: Vec<f64> = cases.row(alloc)?;
-    let counts: Vec<u64> = cases.row(alloc)?;
-    let points: Vec<[i64; 2]> = cases.row(alloc)?;
+    let board = Board::read(alloc, cases)?;
     let mut table: Vec<i64> = cases.row(alloc)?;
     write!(out, "build")?;
-    let outlines = Outlines {
-        layers: &layers,
-        components: &components,
-        sheets: &sheets,
-        counts: &counts,
-        points: &points,
-    };
-    let answer = build::build(settings, &list, &outlines, &mut table);
-    print::counted(out, answer)?;
+    print::counted(out, board.build(&mut table))?;
     print::row(out, &table)
+}
+
+// A table of zeros, which may be longer than a stream: its length stands behind the board.
+fn run_build_in_zeros(
+    alloc: Global,
+    cases: &mut Cases,
+    out: &mut String,
+) -> Result<(), AllocError> {
+    let board = Board::read(alloc, cases)?;
+    let mut table = vec![in alloc; 0i64; cases.index()]?;
+    write!(out, "build")?;
+    print::counted(out, board.build(&mut table))
 }
 
 // As many cases as the stream says.
@@ -63,6 +101,7 @@ fn main(rt: HostRuntime) -> io::Result<()> {
     for _ in 0..cases.word() {
         match cases.word() {
             STRIPS => run_strips(rt.alloc(), &mut cases, &mut out)?,
+            BUILD_IN_ZEROS => run_build_in_zeros(rt.alloc(), &mut cases, &mut out)?,
             _ => run_build(rt.alloc(), &mut cases, &mut out)?,
         }
     }

@@ -1,12 +1,12 @@
-//! Runs stored cases of contact, leaf count, leaves, leaf order, refine, balance and conform, and prints every answer with
-//! the row that was lent. `stdin` has the cases and `stdout` what the original answered. Both were written by
+//! Runs stored cases of contact, leaf count, leaves, leaf order, refine, balance and conform, and prints every answer
+//! with the row that was lent. `stdin` has the cases and `stdout` what the original answered. Both were written by
 //!
 //!     oracle/replays.sh
 #![tactic(auto)]
 
 use cases::stored::Stored;
 use cases::{Cases, print};
-use contact::Rect;
+use cell::rectangles::Rect;
 use even::Evening;
 use std::alloc::{AllocError, Global};
 use std::fmt::Write;
@@ -51,7 +51,7 @@ fn run_contact(cases: &mut Cases, out: &mut String) -> Result<(), AllocError> {
     let a = rectangle(cases);
     let b = rectangle(cases);
     write!(out, "contact")?;
-    print::answered(out, contact::between(a, b), print_shared)
+    print::answered(out, cell::rectangles::between(a, b), print_shared)
 }
 
 fn list_leaves(out: &mut String, t: &[i64], head: Head, ids: &mut [u64]) -> Result<(), AllocError> {

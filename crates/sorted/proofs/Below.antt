@@ -1,5 +1,5 @@
 -- Two rows of numbers, column by column.
-use Rattle.std.proofs.Common.{◌≡◌, ℕ, nat_eq, suc, ◌+◌, ◌<◌, ◌≤◌, Bool, true, false, ◌&&◌, ◌||◌, eqb, ltb, List, [], ◌∷◌, length, get_or, drop, refl, sym, ap, ap₂, ◌∙◌, arith, add-one}
+use Rattle.std.proofs.Common.{◌≡◌, ℕ, nat_eq, suc, ◌+◌, ◌<◌, ◌≤◌, Bool, true, false, ◌&&◌, ◌||◌, eqb, ltb, List, [], ◌∷◌, length, get_or, drop, refl, sym, ap, ◌∙◌, arith, add-one}
 use Rattle.std.specs.Ordering.{is_lt, nat_cmp}
 use Rattle.std.specs.List.{starts_with}
 use Rattle.std.specs.Cmp.Lexicographic.{slice_cmp}
@@ -7,7 +7,7 @@ use Rattle.std.proofs.Math.Seq.{drop-cons}
 use Rattle.std.proofs.lemmas.List.{drop_all}
 use Rattle.std.proofs.lemmas.Bool.Decides.{nat_tests}
 
-first_column : (x y : ℕ) (e k : List ℕ) → is_lt (slice_cmp nat_cmp (x ∷ e) (y ∷ k)) ≡ (ltb x y || (eqb x y && is_lt (slice_cmp nat_cmp e k)))
+pub first_column : (x y : ℕ) (e k : List ℕ) → is_lt (slice_cmp nat_cmp (x ∷ e) (y ∷ k)) ≡ (ltb x y || (eqb x y && is_lt (slice_cmp nat_cmp e k)))
 first_column x y e k = grind (arith, nat_tests)
 
 regroup : (b q l s r : Bool) → (b || (q && (l || (s && r)))) ≡ ((b || (q && l)) || ((q && s) && r))

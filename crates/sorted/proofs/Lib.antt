@@ -4,3 +4,4 @@ pub mod Order
 pub mod Beginning
 pub mod Ends
 pub mod Below
+pub mod Alike

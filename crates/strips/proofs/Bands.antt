@@ -1,7 +1,8 @@
 -- No point of a ring lies between two neighbouring heights.
 use Rattle.std.proofs.Common.{ℕ, zero, suc, ◌+◌, ◌<◌, ◌≤◌, ◌≡◌, sym, true, ◌&&◌, List, [], ◌∷◌, map, ◌⊎◌, inl, inr, ⊎_elim, arith, add-one, subst, ℤ, leb, ltb, length, get_or}
+use Rattle.std.specs.List.{range_with_len}
 use Rattle.refusals.specs.Limits.{coordinate}
-use Rattle.strips.specs.Sorted.{up_to, sorted}
+use Rattle.strips.specs.Sorted.{sorted}
 use Rattle.strips.specs.Rings.{y_at}
 use Rattle.strips.specs.Walk.{heights_of, IsBand}
 use Rattle.strips.proofs.Levels.{band-yes}
@@ -41,7 +42,7 @@ heights-band : (ps : List (List ℤ)) (k : ℕ) → suc k < length (heights_of p
     → (y_at ps i ≤ get_or (heights_of ps) k 0) ⊎ (get_or (heights_of ps) (suc k) 0 ≤ y_at ps i)
 unfolding heights_of
 heights-band ps k h i l =
-    let ys = map (y_at ps) (up_to (length ps)) in
+    let ys = map (y_at ps) (range_with_len 0 (length ps)) in
     beside (y_at ps i) (sorted ys) k (rising-sorted ys) h (in-sorted (y_at ps i) ys (in_map (y_at ps) (length ps) i l))
 
 -- two neighbouring heights that differ and are in range make a band

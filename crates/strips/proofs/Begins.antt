@@ -1,9 +1,10 @@
 -- Each vertical edge of a ring begins at a point of the ring.
-use Rattle.std.proofs.Common.{ℕ, zero, suc, ◌%◌, ◌<◌, ◌≤◌, List, [], ◌∷◌, ◌++◌, ℤ, leb, length, arith}
+use Rattle.std.proofs.Common.{subst, sym, ap, ◌∙◌, ℕ, zero, suc, ◌%◌, ◌<◌, ◌≤◌, List, [], ◌∷◌, ◌++◌, ℤ, leb, length, arith}
+use Rattle.std.specs.List.{range_with_len}
 use Rattle.refusals.specs.Limits.{max_points}
-use Rattle.strips.specs.Sorted.{up_to, picked, insert, sorted}
+use Rattle.strips.specs.Sorted.{insert, sorted}
 use Rattle.strips.specs.Walk.{key_of, vertical_at, unsorted_edges, edges_of, BeginAtPoints}
-use Rattle.strips.proofs.Picking.{split, picked-yes, picked-no, picked_none, picked-append}
+use Rattle.strips.proofs.Picking.{range-suc, picked, split, picked-append}
 
 -- the same, down the list
 Begin : ℕ → List ℕ → Type 0
@@ -32,18 +33,15 @@ begin-one : (ps : List (List ℤ)) (n i : ℕ) → i < n → n ≤ max_points
 unfolding Begin
 begin-one ps n i h few =
     let e : key_of ps i % max_points < n = omega arith in
-    let none = picked_none (vertical_at ps) (key_of ps) in
-    split (vertical_at ps i)
-    (λ q. rw (picked-yes (vertical_at ps) (key_of ps) i [] q, none) (e, tt))
-    (λ q. rw (picked-no (vertical_at ps) (key_of ps) i [] q, none) tt)
+    split (vertical_at ps i) (λ q. rw q (e, tt)) (λ q. rw q tt)
 
 begin-unsorted : (ps : List (List ℤ)) (n m : ℕ) → m ≤ n → n ≤ max_points → Begin n (unsorted_edges ps m)
-unfolding Begin unsorted_edges up_to
-begin-unsorted ps n zero h few = rw (picked_none (vertical_at ps) (key_of ps)) tt
+unfolding Begin unsorted_edges
+begin-unsorted ps n zero h few = tt
 begin-unsorted ps n (suc m) h few =
     let r = begin-unsorted ps n m (omega arith) few in
-    rw (picked-append (vertical_at ps) (key_of ps) (up_to m) (m ∷ []))
-    (begin-append n (picked (vertical_at ps) (key_of ps) (up_to m)) _ r (begin-one ps n m (omega arith) few))
+    subst (Begin n) (sym (ap (picked (vertical_at ps) (key_of ps)) (range-suc m) ∙ picked-append (vertical_at ps) (key_of ps) (range_with_len 0 m) (m ∷ [])))
+    (begin-append n (picked (vertical_at ps) (key_of ps) (range_with_len 0 m)) _ r (begin-one ps n m (omega arith) few))
 
 begin-at : (n : ℕ) (l : List ℕ) → Begin n l → BeginAtPoints n l
 unfolding Begin

@@ -1,13 +1,14 @@
 -- Every strip of a ring has a positive width and height and lies in the frame of coordinates. Assumes nothing.
 use Rattle.std.proofs.Common.{ℕ, ◌+◌, ◌<◌, ◌≤◌, Bool, List, [], ◌∷◌, ◌++◌, map, ℤ, ltb, leb, eqb, length, ltb-true}
+use Rattle.std.specs.List.{range_with_len}
 use Rattle.cell.proofs.Offsets.{off-le}
 use Rattle.refusals.specs.Limits.{coordinate}
-use Rattle.strips.specs.Sorted.{up_to, picked, insert, sorted, distinct}
+use Rattle.strips.specs.Sorted.{insert, sorted, distinct}
 use Rattle.strips.specs.Rings.{x_at, y_at}
 use Rattle.strips.specs.Strips.{levels, crossings, pair_up, banded, strips_of}
 use Rattle.strips.specs.Walk.{Sound, AllSound}
 use Rattle.strips.specs.declared.walk.Strip.{Strip}
-use Rattle.strips.proofs.Picking.{split}
+use Rattle.strips.proofs.Picking.{picked, split}
 use Rattle.strips.proofs.Crossing.{rising-sorted}
 use Rattle.strips.proofs.Evenness.{Above, Strict, strict-distinct}
 
@@ -28,11 +29,6 @@ sound-append (s ∷ a) b p q = (p.0, sound-append a b p.1 q)
 Under : List ℕ → Type 0
 Under [] = Unit
 Under (v ∷ l) = (v ≤ coordinate + coordinate) × Under l
-
-under-append : (a b : List ℕ) → Under a → Under b → Under (a ++ b)
-unfolding Under
-under-append [] b p q = q
-under-append (v ∷ a) b p q = (p.0, under-append a b p.1 q)
 
 under-insert : (v : ℕ) (l : List ℕ) → v ≤ coordinate + coordinate → Under l → Under (insert v l)
 unfolding Under insert
@@ -55,7 +51,7 @@ under-distinct (v ∷ w ∷ l) u =
     split (eqb v w) (λ e. rw e r) (λ e. rw e (u.0, r))
 
 under-picked : (p : ℕ → Bool) (f : ℕ → ℕ) (l : List ℕ) → ((i : ℕ) → f i ≤ coordinate + coordinate) → Under (picked p f l)
-unfolding Under picked
+unfolding Under
 under-picked p f [] h = tt
 under-picked p f (i ∷ l) h =
     let r = under-picked p f l h in
@@ -78,7 +74,7 @@ sound-pairs lo hi (a ∷ b ∷ l) h t u =
 
 under-crossings : (ps : List (List ℤ)) (lo hi : ℕ) → Under (crossings ps lo hi)
 unfolding crossings
-under-crossings ps lo hi = under-sorted _ (under-picked _ (x_at ps) (up_to (length ps)) (λ i. off-le _))
+under-crossings ps lo hi = under-sorted _ (under-picked _ (x_at ps) (range_with_len 0 (length ps)) (λ i. off-le _))
 
 sound-banded : (ps : List (List ℤ)) (hs : List ℕ) → Strict hs → Under hs → AllSound (banded ps hs)
 unfolding banded AllSound Strict Above Under
@@ -92,6 +88,6 @@ sound-banded ps (lo ∷ hi ∷ hs) s u =
 pub strips-sound : (ps : List (List ℤ)) → AllSound (strips_of ps)
 unfolding strips_of levels AllSound
 strips-sound ps =
-    let ys = map (y_at ps) (up_to (length ps)) in
-    let r = sound-banded ps (distinct (sorted ys)) (strict-distinct (sorted ys) (rising-sorted ys)) (under-distinct (sorted ys) (under-sorted ys (under-map (y_at ps) (up_to (length ps)) (λ i. off-le _)))) in
+    let ys = map (y_at ps) (range_with_len 0 (length ps)) in
+    let r = sound-banded ps (distinct (sorted ys)) (strict-distinct (sorted ys) (rising-sorted ys)) (under-distinct (sorted ys) (under-sorted ys (under-map (y_at ps) (range_with_len 0 (length ps)) (λ i. off-le _)))) in
     split (ltb (length ps) 3) (λ e. rw e tt) (λ e. rw e r)

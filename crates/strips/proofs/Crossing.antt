@@ -1,14 +1,15 @@
 -- The strips of the rules are those that the code's walk meets: edges that are in order by x, passed by a band's test, give the band's
 -- crossings in order; and the bands between distinct heights are those between neighbours that differ. Assumes nothing.
-use Rattle.std.proofs.Common.{ℕ, zero, suc, ◌/◌, ◌%◌, ◌<◌, ◌≤◌, ◌≡◌, refl, sym, ap, ◌∙◌, Bool, cond, ◌&&◌, List, [], ◌∷◌, map, ⊎_elim, arith, ℤ, eqb, length, lt-ltb, eqb-true}
+use Rattle.std.proofs.Common.{ap₂, ◌++◌, ℕ, zero, suc, ◌/◌, ◌%◌, ◌<◌, ◌≤◌, ◌≡◌, refl, sym, ap, ◌∙◌, Bool, cond, ◌&&◌, List, [], ◌∷◌, map, ⊎_elim, arith, ℤ, eqb, length, lt-ltb, eqb-true}
+use Rattle.std.specs.List.{range_with_len}
 use borrow.Author.Tests.{eqb-false}
 use Rattle.cell.proofs.Offsets.{below?}
 use Rattle.refusals.specs.Limits.{max_points}
-use Rattle.strips.specs.Sorted.{up_to, picked, insert, sorted, distinct}
+use Rattle.strips.specs.Sorted.{insert, sorted, distinct}
 use Rattle.strips.specs.Rings.{y_at}
 use Rattle.strips.specs.Strips.{levels, crossings, pair_up, banded, strips_of}
 use Rattle.strips.specs.Walk.{heights_of, vertical_at, key_of, unsorted_edges, edges_of, spans, crossed, walked, all_of, Ready}
-use Rattle.strips.proofs.Picking.{split, picked-yes, picked-no, picked_none, picked-append}
+use Rattle.strips.proofs.Picking.{range-suc, picked, split, picked-yes, picked-no, picked-append}
 use Rattle.strips.proofs.Walks.{crossed-flat}
 use Rattle.strips.proofs.Orders.{insert-stop, insert-go, insert-none}
 
@@ -57,7 +58,7 @@ insert-low v (w ∷ l) f = insert-stop v w l f.0
 module _ (p : ℕ → Bool) (f : ℕ → ℕ) (mono : (a b : ℕ) → a ≤ b → f a ≤ f b) where
   from-picked : (v : ℕ) (l : List ℕ) → From v l → From (f v) (picked p f l)
   unfolding From
-  from-picked v [] h = rw (picked_none p f) tt
+  from-picked v [] h = tt
   from-picked v (w ∷ l) h =
       let r = from-picked v l h.1 in
       split (p w) (λ e. rw (picked-yes p f w l e) (mono v w h.0, r)) (λ e. rw (picked-no p f w l e) r)
@@ -73,7 +74,7 @@ module _ (p : ℕ → Bool) (f : ℕ → ℕ) (mono : (a b : ℕ) → a ≤ b �
 
   picked-insert : (v : ℕ) (l : List ℕ) → Rising l → picked p f (insert v l) ≡ cond (p v) (insert (f v) (picked p f l)) (picked p f l)
   unfolding Rising From
-  picked-insert v [] r = rw (insert-none v, picked_none p f, insert-none (f v)) (split (p v) (λ e. rw (picked-yes p f v [] e, e, picked_none p f) refl) (λ e. rw (picked-no p f v [] e, e, picked_none p f) refl))
+  picked-insert v [] r = rw (insert-none v, insert-none (f v)) (split (p v) (λ e. rw e refl) (λ e. rw e refl))
   picked-insert v (w ∷ l) r =
       let i = picked-insert v l r.1 in
       ⊎_elim
@@ -95,28 +96,32 @@ module _ (p : ℕ → Bool) (f : ℕ → ℕ) (mono : (a b : ℕ) → a ≤ b �
 
   pub picked-sorted : (l : List ℕ) → picked p f (sorted l) ≡ sorted (picked p f l)
   unfolding sorted
-  picked-sorted [] = rw (picked_none p f) refl
+  picked-sorted [] = refl
   picked-sorted (v ∷ l) =
       let i = picked-sorted l in
       picked-insert v (sorted l) (rising-sorted l)
-      ∙ split (p v) (λ e. rw (e, picked-yes p f v l e, i) refl) (λ e. rw (e, picked-no p f v l e, i) refl)
+      ∙ split (p v) (λ e. rw e (ap (insert (f v)) i)) (λ e. rw e i)
 
 -- picked from what was picked
 picked-twice : (p : ℕ → Bool) (f : ℕ → ℕ) (q : ℕ → Bool) (g : ℕ → ℕ) (l : List ℕ) → picked p f (picked q g l) ≡ picked (λ i. q i && p (g i)) (λ i. f (g i)) l
-unfolding picked
 picked-twice p f q g [] = refl
 picked-twice p f q g (i ∷ l) =
     let r = picked-twice p f q g l in
-    split (q i) (λ e. rw (e, r) refl) (λ e. rw (e, r) refl)
+    split (q i) (λ e. split (p (g i)) (λ d. rw (e, d) (ap (λ t. f (g i) ∷ t) r)) (λ d. rw (e, d) r)) (λ e. rw e r)
 
 -- tests and maps that agree below n
-picked_same : (p q : ℕ → Bool) (f g : ℕ → ℕ) (n : ℕ) → ((i : ℕ) → i < n → p i ≡ q i) → ((i : ℕ) → i < n → f i ≡ g i) → picked p f (up_to n) ≡ picked q g (up_to n)
-unfolding up_to picked
+picked_same : (p q : ℕ → Bool) (f g : ℕ → ℕ) (n : ℕ) → ((i : ℕ) → i < n → p i ≡ q i) → ((i : ℕ) → i < n → f i ≡ g i) → picked p f (range_with_len 0 n) ≡ picked q g (range_with_len 0 n)
 picked_same p q f g zero s t = refl
 picked_same p q f g (suc n) s t =
     let r = picked_same p q f g n (λ i h. s i (omega arith)) (λ i h. t i (omega arith)) in
     let h : n < suc n = omega arith in
-    rw (picked-append p f (up_to n) (n ∷ []), picked-append q g (up_to n) (n ∷ []), r, s n h, t n h) refl
+    let ns = range_with_len 0 n in
+    let last : picked p f (n ∷ []) ≡ picked q g (n ∷ []) =
+    split (q n) (λ e. rw (s n h, e, t n h) refl) (λ e. rw (s n h, e) refl) in
+    ap (picked p f) (range-suc n)
+    ∙ picked-append p f ns (n ∷ [])
+    ∙ ap₂ (λ a b. a ++ b) r last
+    ∙ sym (ap (picked q g) (range-suc n) ∙ picked-append q g ns (n ∷ []))
 
 pub head-distinct : (v : ℕ) (l : List ℕ) → (t : List ℕ) × (distinct (v ∷ l) ≡ v ∷ t)
 unfolding distinct
@@ -133,7 +138,7 @@ module _ (ps : List (List ℤ)) (few : length ps ≤ max_points) where
   crossed-all lo hi h =
       picked-sorted (spans ps lo hi) (λ e. e / max_points) (λ a b k. omega arith) (unsorted_edges ps (length ps))
       ∙ ap sorted
-      (picked-twice (spans ps lo hi) (λ e. e / max_points) (vertical_at ps) (key_of ps) (up_to (length ps))
+      (picked-twice (spans ps lo hi) (λ e. e / max_points) (vertical_at ps) (key_of ps) (range_with_len 0 (length ps))
       ∙ picked_same _ _ _ _ (length ps)
       (λ i k. let e : key_of ps i % max_points ≡ i = omega arith in rw (lt-ltb lo hi h, e) refl)
       (λ i k. omega arith))
@@ -155,7 +160,7 @@ module _ (ps : List (List ℤ)) (few : length ps ≤ max_points) where
   -- the law: what the code walks over are the rules' strips
   pub all-strips : all_of ps (heights_of ps) (edges_of ps) ≡ strips_of ps
   unfolding all_of strips_of heights_of levels
-  all-strips = rw (walked-banded (heights_of ps) (rising-sorted (map (y_at ps) (up_to (length ps))))) refl
+  all-strips = rw (walked-banded (heights_of ps) (rising-sorted (map (y_at ps) (range_with_len 0 (length ps))))) refl
 
 pub ready-strips : (ps : List (List ℤ)) (hs es : List ℕ) → Ready ps hs es → all_of ps hs es ≡ strips_of ps
 ready-strips ps hs es r = rw (r.heights, r.edges) (all-strips ps r.few)

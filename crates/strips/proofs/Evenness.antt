@@ -1,13 +1,14 @@
 -- On a closed ring without slanted edges the crossings of a band come in an even number: walking round the ring one gets from below the
 -- band to above it as often as back. Assumes nothing.
-use Rattle.std.proofs.Common.{ℕ, zero, suc, ◌+◌, ◌%◌, ◌<◌, ◌≤◌, ◌≡◌, refl, sym, ap, ◌∙◌, Bool, true, false, not, ◌&&◌, ◌||◌, List, [], ◌∷◌, ◌++◌, map, ◌⊎◌, inl, inr, ⊎_elim, arith, ℤ, ltb, leb, eqb, length, length-append, lt-ltb, le-ltb, le-leb, eqb-true, ne_eqb}
+use Rattle.std.proofs.Common.{subst, ℕ, zero, suc, ◌+◌, ◌%◌, ◌<◌, ◌≤◌, ◌≡◌, refl, sym, ap, ◌∙◌, Bool, true, false, not, ◌&&◌, ◌||◌, List, [], ◌∷◌, ◌++◌, map, ◌⊎◌, inl, inr, ⊎_elim, arith, ℤ, ltb, leb, eqb, length, length-append, lt-ltb, le-ltb, le-leb, eqb-true, ne_eqb}
+use Rattle.std.specs.List.{range_with_len}
 use mathlib.Core.Bool.{false≢true}
 use mathlib.Core.List.{map-append}
 use borrow.Author.Tests.{lt-leb, eqb-false}
-use Rattle.strips.specs.Sorted.{up_to, picked, insert, sorted, distinct}
-use Rattle.strips.specs.Rings.{x_at, y_at, after, edge_at, vertical, reaches, slants, slants_at, some_below, ring_slants}
+use Rattle.strips.specs.Sorted.{insert, sorted, distinct}
+use Rattle.strips.specs.Rings.{x_at, y_at, after, edge_at, vertical, reaches, slants, slants_at, ring_slants}
 use Rattle.strips.specs.Strips.{levels, crossings}
-use Rattle.strips.proofs.Picking.{split, more_yes, more_no}
+use Rattle.strips.proofs.Picking.{range-suc, picked, some_below, some-suc, split, more_yes, more_no}
 use Rattle.strips.proofs.Orders.{length-sorted}
 use Rattle.strips.proofs.Crossing.{From, Rising, rising-sorted, head-distinct}
 use Rattle.cell.proofs.Offsets.{below?}
@@ -33,12 +34,12 @@ or-false-right true b e = absurd (false≢true (sym e))
 or-false-right false b e = e
 
 some-none : (p : ℕ → Bool) (n i : ℕ) → some_below p n ≡ false → i < n → p i ≡ false
-unfolding some_below
 some-none p zero i e h = absurd (omega arith)
 some-none p (suc n) i e h =
-    let r = some-none p n i (or-false-left (some_below p n) (p n) e) in
+    let f = sym (some-suc p n) ∙ e in
+    let r = some-none p n i (or-false-left (some_below p n) (p n) f) in
     split (eqb i n)
-    (λ q. let s : i ≡ n = eqb-true i n q in rw s (or-false-right (some_below p n) (p n) e))
+    (λ q. let s : i ≡ n = eqb-true i n q in rw s (or-false-right (some_below p n) (p n) f))
     (λ q. let s = eqb-false i n q in r (⊎_elim (λ (k : i < n). k) (λ (k : n ≤ i). absurd (s (omega arith))) (below? i n)))
 
 upright : (x y : Bool) → (not x && not y) ≡ false → y ≡ false → x ≡ true
@@ -87,14 +88,14 @@ module _ (ps : List (List ℤ)) (lo hi : ℕ) (band : Band ps lo hi) (straight :
       (some-none (slants_at ps) (length ps) i straight h)
 
   count : ℕ → ℕ
-  count i = length (picked crosses (x_at ps) (up_to i))
+  count i = length (picked crosses (x_at ps) (range_with_len 0 i))
 
   -- one edge more
   count-more : (i : ℕ) → count (i + 1) ≡ count i + bit (crosses i)
   unfolding count
   count-more i =
       split (crosses i)
-      (λ e. rw (more_yes crosses (x_at ps) i e, e) (length-append (picked crosses (x_at ps) (up_to i)) (x_at ps i ∷ [])))
+      (λ e. rw (more_yes crosses (x_at ps) i e, e) (length-append (picked crosses (x_at ps) (range_with_len 0 i)) (x_at ps i ∷ [])))
       (λ e. rw (more_no crosses (x_at ps) i e, e) (omega arith))
 
   turn : (a b c : Bool) (n m : ℕ) → n % 2 ≡ bit (differ a b) → m ≡ n + bit (differ b c) → m % 2 ≡ bit (differ a c)
@@ -109,7 +110,7 @@ module _ (ps : List (List ℤ)) (lo hi : ℕ) (band : Band ps lo hi) (straight :
 
   -- after i edges: odd where point i lies on the other side than point 0
   so_far : (i : ℕ) → i < length ps → count i % 2 ≡ bit (differ (side 0) (side i))
-  unfolding count up_to picked
+  unfolding count
   so_far zero h = split (side 0) (λ e. rw e refl) (λ e. rw e refl)
   so_far (suc i) h =
       let r = so_far i (omega arith) in
@@ -131,14 +132,14 @@ module _ (ps : List (List ℤ)) (lo hi : ℕ) (band : Band ps lo hi) (straight :
       same false = refl
 
   everywhere : (n : ℕ) → length ps ≡ n → count (length ps) % 2 ≡ 0
-  unfolding count up_to picked
+  unfolding count
   everywhere zero q = rw q refl
   everywhere (suc n) q = round n q
 
   pub even-crossings : length (crossings ps lo hi) % 2 ≡ 0
   unfolding crossings count
   even-crossings =
-      ap (λ (n : ℕ). n % 2) (length-sorted (picked crosses (x_at ps) (up_to (length ps)))) ∙ everywhere (length ps) refl
+      ap (λ (n : ℕ). n % 2) (length-sorted (picked crosses (x_at ps) (range_with_len 0 (length ps)))) ∙ everywhere (length ps) refl
 
 -- The bands of the rules are such bands: every y value is among the levels, which rise strictly.
 unfoldable pub In : ℕ → List ℕ → Type 0
@@ -187,13 +188,13 @@ in-append u (v ∷ l) m h =
     let r = in-append u l m in
     ⊎_elim (λ k. ⊎_elim (λ q. inl q) (λ n. inr (r (inl n))) k) (λ k. inr (r (inr k))) h
 
-pub in_map : (f : ℕ → ℕ) (n i : ℕ) → i < n → In (f i) (map f (up_to n))
-unfolding In up_to
+pub in_map : (f : ℕ → ℕ) (n i : ℕ) → i < n → In (f i) (map f (range_with_len 0 n))
+unfolding In
 in_map f zero i h = absurd (omega arith)
 in_map f (suc n) i h =
     let r = in_map f n i in
-    rw (map-append f (up_to n) (n ∷ []))
-    (in-append (f i) (map f (up_to n)) (f n ∷ [])
+    subst (λ l. In (f i) l) (sym (ap (map f) (range-suc n) ∙ map-append f (range_with_len 0 n) (n ∷ [])))
+    (in-append (f i) (map f (range_with_len 0 n)) (f n ∷ [])
     (⊎_elim (λ (k : i < n). inl (r k)) (λ (k : n ≤ i). let q : i ≡ n = omega arith in inr (inl (ap f q))) (below? i n)))
 
 above-less : (u v : ℕ) (l : List ℕ) → u ≤ v → Above v l → Above u l
@@ -244,7 +245,7 @@ between lo hi (x ∷ pre) post s = between lo hi pre post s.1
 pub level-band : (ps : List (List ℤ)) (lo hi : ℕ) (pre post : List ℕ) → levels ps ≡ pre ++ (lo ∷ hi ∷ post) → Band ps lo hi
 unfolding levels
 level-band ps lo hi pre post e =
-    let ys = map (y_at ps) (up_to (length ps)) in
+    let ys = map (y_at ps) (range_with_len 0 (length ps)) in
     let s = strict-distinct (sorted ys) (rising-sorted ys) in (
       between lo hi pre post (rw e at s),
       λ i h. neighbours (y_at ps i) lo hi pre post (rw e at s) (rw e at (in-distinct (y_at ps i) (sorted ys) (in-sorted (y_at ps i) ys (in_map (y_at ps) (length ps) i h)))),

@@ -1,8 +1,9 @@
 -- Strips written one after another from the front of a row. Assumes nothing.
-use Rattle.std.proofs.Common.{ℕ, suc, ◌+◌, ◌<◌, ◌≤◌, ◌≡◌, refl, sym, ap, ◌∙◌, List, [], ◌∷◌, ◌++◌, append_assoc, arith, add-one, ℤ, length, drop, set, length-set, take-append-drop, take-suc-set, drop-set-lt, drop-drop, true, leb-true}
+use Rattle.std.proofs.Common.{ℕ, suc, ◌+◌, ◌<◌, ◌≤◌, ◌≡◌, refl, sym, ap, ◌∙◌, List, [], ◌∷◌, append_assoc, arith, add-one, ℤ, length, drop, set, take-append-drop, take-suc-set, drop-set-lt, drop-drop, true, leb-true}
+use Rattle.strips.proofs.Picking.{all_below}
 use Rattle.cell.proofs.Contact.{and_left}
 use Rattle.refusals.specs.Limits.{max_points}
-use Rattle.strips.specs.Rings.{ring_in_range, point_in_range, all_below}
+use Rattle.strips.specs.Rings.{ring_in_range, point_in_range}
 use Rattle.strips.specs.Said.{laid, strip_row, laying}
 use Rattle.strips.specs.declared.walk.Strip.{Strip}
 
@@ -16,14 +17,6 @@ laid_one out k s ss h =
 pub laid_none : (out : List (List ℤ)) (k : ℕ) → laying out k [] ≡ out
 unfolding laid
 laid_none out k = take-append-drop k out
-
-pub laid_more : (out : List (List ℤ)) (k : ℕ) (ss ts : List Strip) → k + length ss ≤ length out → laying (laying out k ss) (k + length ss) ts ≡ laying out k (ss ++ ts)
-laid_more out k [] ts h = let e : k + 0 ≡ k = omega arith in rw (e, laid_none out k) refl
-laid_more out k (s ∷ ss) ts h =
-    let e : k + suc (length ss) ≡ k + 1 + length ss = omega arith in
-    let n : k + 1 + length ss ≤ length (set out k (strip_row s)) = simp length-set (omega arith) in
-    let i = laid_more (set out k (strip_row s)) (k + 1) ss ts n in
-    rw (← laid_one out k s ss (omega arith), e) i ∙ laid_one out k s (ss ++ ts) (omega arith)
 
 -- a ring that was judged has no more points than the limit
 pub few-points : (ps : List (List ℤ)) → ring_in_range ps ≡ true → length ps ≤ max_points

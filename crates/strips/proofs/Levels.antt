@@ -7,11 +7,11 @@ use borrow.Author.Tests.{lt-leb}
 use Rattle.refusals.specs.Limits.{coordinate, max_points}
 use Rattle.cell.specs.Ticks.{off, on, in_range}
 use Rattle.cell.proofs.Offsets.{below?, on-is, off-le}
-use Rattle.strips.specs.Rings.{y_at, after, edge_at, reaches, slants, slants_at, all_below, point_in_range, ring_in_range}
+use Rattle.strips.specs.Rings.{y_at, after, edge_at, reaches, slants, slants_at, point_in_range, ring_in_range}
 use Rattle.strips.specs.Levels.{level_at, crosses, apart}
 use Rattle.strips.specs.Walk.{IsBand, spans, crossed, left}
 use Rattle.cell.proofs.Contact.{and_left, and_right}
-use Rattle.strips.proofs.Picking.{split, picked-no, picked_none}
+use Rattle.strips.proofs.Picking.{all_below, all-suc, split, picked-no}
 use Rattle.strips.proofs.Walks.{crossed-flat, left-flat}
 
 sub_low : (a b : ℕ) → b ≤ a → sub_ℕ a b ≡ pos (a - b)
@@ -66,7 +66,7 @@ and_no false b e = refl
 
 pub crossed-high : (ps : List (List ℤ)) (lo hi : ℕ) → coordinate + coordinate < hi → (es : List ℕ) → crossed ps lo hi es ≡ []
 unfolding crossed spans
-crossed-high ps lo hi h [] = picked_none (spans ps lo hi) (λ e. e / max_points)
+crossed-high ps lo hi h [] = refl
 crossed-high ps lo hi h (e ∷ es) = picked-no (spans ps lo hi) (λ e. e / max_points) e es (and_no (ltb lo hi) _ (never ps (e % max_points) lo hi h)) ∙ crossed-high ps lo hi h es
 
 -- the test of a band, by its answers
@@ -122,12 +122,12 @@ apart-is (negsuc n) (negsuc m) e d =
     differs m n (coordinate - suc n) (coordinate - suc m) (λ q. omega arith) (λ q. omega arith)
 
 all-at : (p : ℕ → Bool) (n i : ℕ) → all_below p n ≡ true → i < n → p i ≡ true
-unfolding all_below
 all-at p zero i e h = absurd (omega arith)
 all-at p (suc n) i e h =
+    let f = sym (all-suc p n) ∙ e in
     ⊎_elim
-    (λ (g : i < n). all-at p n i (and_left (all_below p n) (p n) e) g)
-    (λ (g : n ≤ i). let q : i ≡ n = omega arith in rw q (and_right (all_below p n) (p n) e))
+    (λ (g : i < n). all-at p n i (and_left (all_below p n) (p n) f) g)
+    (λ (g : n ≤ i). let q : i ≡ n = omega arith in rw q (and_right (all_below p n) (p n) f))
     (below? i n)
 
 point-in : (ps : List (List ℤ)) (i : ℕ) → ring_in_range ps ≡ true → i < length ps → point_in_range ps i ≡ true

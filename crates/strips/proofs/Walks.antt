@@ -1,19 +1,21 @@
 -- The walk over a ring's bands: what each step of the code leaves to come. Assumes nothing.
 use Rattle.std.proofs.Common.{ℕ, suc, ◌+◌, ◌-◌, ◌*◌, ◌/◌, ◌%◌, ◌<◌, ◌≤◌, ◌≡◌, refl, sym, ap, ◌∙◌, true, false, List, [], ◌∷◌, ◌++◌, map, ⊎_elim, arith, add-one, suc-mul, mul-le-mul_right, ℤ, ltb, length, take, drop, get_or, drop_of_length-le, length-drop, length-append, drop-cons, take_at, lt-ltb, le-ltb}
+use Rattle.std.specs.List.{range_with_len}
+use Rattle.std.proofs.lemmas.List.FromFn.{length-range_with_len}
 use lib.ListN.{length-map}
 use Rattle.cell.proofs.Offsets.{below?}
 use Rattle.refusals.specs.Limits.{max_points}
 use Rattle.strips.specs.Rings.{y_at, edge_at, reaches}
 use Rattle.strips.specs.Strips.{pair_up}
 use Rattle.strips.specs.Walk.{spans, crossed, in_band, from, walked, left, all_of, start_band, Finds, vertical_at, key_of, unsorted_edges, heights_of, Gathered}
-use Rattle.strips.specs.Sorted.{up_to, sorted}
+use Rattle.strips.specs.Sorted.{sorted}
 use Rattle.strips.proofs.Orders.{length-sorted}
-use Rattle.strips.proofs.Picking.{split, picked-yes, picked-no, picked_none, more_yes, more_no, length-up_to}
+use Rattle.strips.proofs.Picking.{split, picked-yes, picked-no, more_yes, more_no}
 
 module _ (ps : List (List ℤ)) (lo hi : ℕ) where
   pub crossed-none : crossed ps lo hi [] ≡ []
   unfolding crossed
-  crossed-none = picked_none (spans ps lo hi) (λ e. e / max_points)
+  crossed-none = refl
 
   pub crossed-end : (es : List ℕ) (k : ℕ) → length es ≤ k → crossed ps lo hi (drop k es) ≡ []
   crossed-end es k h = ap (crossed ps lo hi) (drop_of_length-le es h) ∙ crossed-none
@@ -93,9 +95,6 @@ module _ (ps : List (List ℤ)) (es : List ℕ) where
       (λ e. rw e (left_end hs 0 (length hs) (omega arith)))
       (λ e. rw e (left-zero hs))
 
-  pub none_left : (hs : List ℕ) → length hs ≤ 1 → all_of ps hs es ≡ []
-  none_left hs h = sym (started hs) ∙ left_end hs 0 (start_band ps hs) (omega arith)
-
   left_at : (hs : List ℕ) (j k : ℕ) → k + 1 < length hs → left ps es j (drop k hs) ≡ pair_up (get_or hs k 0) (get_or hs (k + 1) 0) (crossed ps (get_or hs k 0) (get_or hs (k + 1) 0) (drop j es)) ++ walked ps es (drop (k + 1) hs)
   unfolding left
   left_at hs j k h =
@@ -107,10 +106,6 @@ module _ (ps : List (List ℤ)) (es : List ℕ) where
   pub left-flat : (hs : List ℕ) (j k : ℕ) → k + 1 < length hs → ((l : List ℕ) → crossed ps (get_or hs k 0) (get_or hs (k + 1) 0) l ≡ []) → left ps es j (drop k hs) ≡ left ps es 0 (drop (k + 1) hs)
   unfolding pair_up
   left-flat hs j k h f = left_at hs j k h ∙ rw (f (drop j es), left-zero (drop (k + 1) hs)) refl
-
-  -- a band and those above it
-  pub left-band : (hs : List ℕ) (k : ℕ) → k + 1 < length hs → left ps es 0 (drop k hs) ≡ in_band ps (get_or hs k 0) (get_or hs (k + 1) 0) es ++ left ps es 0 (drop (k + 1) hs)
-  left-band hs k h = left_at hs 0 k h ∙ rw (left-zero (drop (k + 1) hs)) refl
 
   -- the same of the band k, and of those above it
   module _ (hs : List ℕ) (j k a b : ℕ) (h : k + 1 < length hs) (f : Finds ps (get_or hs k 0) (get_or hs (k + 1) 0) es j a) (g : Finds ps (get_or hs k 0) (get_or hs (k + 1) 0) es (a + 1) b) where
@@ -157,4 +152,4 @@ resorted row l part n g p =
 
 pub length-heights : (ps : List (List ℤ)) → length (heights_of ps) ≡ length ps
 unfolding heights_of
-length-heights ps = length-sorted (map (y_at ps) (up_to (length ps))) ∙ length-map (up_to (length ps)) (y_at ps) ∙ length-up_to (length ps)
+length-heights ps = length-sorted (map (y_at ps) (range_with_len 0 (length ps))) ∙ length-map (range_with_len 0 (length ps)) (y_at ps) ∙ length-range_with_len 0 (length ps)

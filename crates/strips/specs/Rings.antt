@@ -1,7 +1,8 @@
 -- A ring: a row of points, x and y each, every point joined to the next and the last to the first. Coordinates are
 -- offset by 2^36, as a cell's are: a ring is judged before it is cut, so that none is out of range.
-use Rattle.std.specs.Prelude.{ℕ, zero, suc, ◌+◌, Bool, true, false, not, ◌&&◌, ◌||◌, List, [], length, ℤ, pos, ◌==◌}
+use Rattle.std.specs.Prelude.{ℕ, ◌+◌, Bool, not, ◌&&◌, ◌||◌, List, [], length, ℤ, pos, ◌==◌}
 use Rattle.std.specs.Prelude.{if◌then◌else◌, nat_lt, nat_le, slice_index_or}
+use Rattle.std.specs.List.{list_all, list_any, range_with_len}
 use Rattle.refusals.specs.Limits.{max_points}
 use Rattle.cell.specs.Ticks.{off, in_range}
 use Rattle.strips.specs.declared.ring.Edge.{Edge}
@@ -31,15 +32,6 @@ slants e = not (e.x0 == e.x1) && not (e.y0 == e.y1)
 unfoldable pub reaches : ℕ → ℕ → Edge → Bool
 reaches lo hi e = (nat_le e.y0 lo && nat_le hi e.y1) || (nat_le e.y1 lo && nat_le hi e.y0)
 
--- a test holds of some number below n, and of all of them
-unfoldable pub some_below : (ℕ → Bool) → ℕ → Bool
-some_below p zero = false
-some_below p (suc n) = some_below p n || p n
-
-unfoldable pub all_below : (ℕ → Bool) → ℕ → Bool
-all_below p zero = true
-all_below p (suc n) = all_below p n && p n
-
 abbrev pub point_in_range : List (List ℤ) → ℕ → Bool
 point_in_range ps i =
     in_range (slice_index_or (slice_index_or ps i []) 0 (pos 0))
@@ -47,11 +39,11 @@ point_in_range ps i =
 
 -- the rules' ranges: the number of points, and every coordinate
 unfoldable pub ring_in_range : List (List ℤ) → Bool
-ring_in_range ps = nat_le (length ps) max_points && all_below (point_in_range ps) (length ps)
+ring_in_range ps = nat_le (length ps) max_points && list_all (point_in_range ps) (range_with_len 0 (length ps))
 
 abbrev pub slants_at : List (List ℤ) → ℕ → Bool
 slants_at ps i = slants (edge_at ps i)
 
 -- the rules: two neighbouring ring points, last to first included, differ in both x and y
 unfoldable pub ring_slants : List (List ℤ) → Bool
-ring_slants ps = some_below (slants_at ps) (length ps)
+ring_slants ps = list_any (slants_at ps) (range_with_len 0 (length ps))

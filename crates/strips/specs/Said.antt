@@ -1,6 +1,7 @@
 -- What the public call says, and what it leaves in the lent row.
 use Rattle.std.specs.Prelude.{ℕ, List, [], ◌∷◌, ◌++◌, map, length, take, drop, ℤ, Result, if◌then◌else◌, nat_lt}
 use Rattle.refusals.specs.declared.Refusal.{Refusal}
+pub use Rattle.refusals.specs.Said.{if_accepted}
 use Rattle.refusals.specs.Said.{Said, accepted, refused, said}
 use Rattle.cell.specs.Ticks.{on}
 use Rattle.strips.specs.Rings.{ring_in_range, ring_slants}
@@ -27,11 +28,6 @@ counted n room = if nat_lt room n then refused 6 0 else accepted (n ∷ [])
 -- 3, 4, 6, each with place 0; otherwise the number of strips
 unfoldable pub strips_says : List (List ℤ) → ℕ → Said
 strips_says ps room = judged 0 ps (counted (length (strips_of ps)) room)
-
--- what is written only if the call is accepted
-abbrev pub if_accepted : {A : Type 0} → Said → A → A → A
-if_accepted (accepted vs) new old = new
-if_accepted (refused n place) new old = old
 
 -- strips at the front of a row, and behind them what the row held
 unfoldable pub laid : List Strip → List (List ℤ) → List (List ℤ)

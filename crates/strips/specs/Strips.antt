@@ -1,17 +1,19 @@
 -- The rules' "Rings to roots", as far as the strips.
 use Rattle.std.specs.Prelude.{ℕ, ◌&&◌, List, [], ◌∷◌, ◌++◌, map, length, ℤ, if◌then◌else◌, nat_lt}
-use Rattle.strips.specs.Sorted.{up_to, picked, sorted, distinct}
+use Rattle.std.specs.List.{filter, range_with_len}
+use Rattle.strips.specs.Sorted.{sorted, distinct}
 use Rattle.strips.specs.Rings.{x_at, y_at, edge_at, vertical, reaches}
 use Rattle.strips.specs.declared.walk.Strip.{Strip}
 
 -- "the distinct y values in rising order"
 unfoldable pub levels : List (List ℤ) → List ℕ
-levels ps = distinct (sorted (map (y_at ps) (up_to (length ps))))
+levels ps = distinct (sorted (map (y_at ps) (range_with_len 0 (length ps))))
 
 -- "in a band the x values of the vertical ring edges spanning it, sorted"
 unfoldable pub crossings : List (List ℤ) → ℕ → ℕ → List ℕ
 crossings ps lo hi =
-    sorted (picked (λ i. vertical (edge_at ps i) && reaches lo hi (edge_at ps i)) (x_at ps) (up_to (length ps)))
+    sorted (map (x_at ps)
+    (filter (λ i. vertical (edge_at ps i) && reaches lo hi (edge_at ps i)) (range_with_len 0 (length ps))))
 
 -- they "pair up into strips; those of no width are dropped"
 unfoldable pub pair_up : ℕ → ℕ → List ℕ → List Strip

@@ -1,18 +1,17 @@
 -- How the code goes over a ring: the y values and the vertical edges are put in order once; each band then takes from
 -- the edges, in their order, those that span it. Internal: the public promise is about Strips alone.
 use Rattle.std.specs.Prelude.{ℕ, ◌+◌, ◌*◌, ◌/◌, ◌%◌, ◌<◌, ◌≤◌, min, ◌≡◌, ◌⊎◌, Bool, ◌&&◌, List, [], ◌∷◌, ◌++◌, map}
-use Rattle.std.specs.Prelude.{length}
-use Rattle.std.specs.Prelude.{take, drop, ℤ, if◌then◌else◌, nat_lt, slice_index}
+use Rattle.std.specs.Prelude.{length, take, drop, ℤ, Option, None, Some, if◌then◌else◌, nat_lt, slice_index}
 use Rattle.refusals.specs.Limits.{coordinate, max_points}
-use Rattle.strips.specs.Sorted.{up_to, picked, sorted}
+use Rattle.std.specs.List.{filter, range_with_len}
+use Rattle.strips.specs.Sorted.{sorted}
 use Rattle.strips.specs.Rings.{x_at, y_at, edge_at, vertical, reaches}
 use Rattle.strips.specs.Strips.{pair_up}
 use Rattle.strips.specs.declared.walk.Strip.{Strip}
-use Rattle.strips.specs.declared.walk.Ahead.{Ahead}
-use Rattle.strips.specs.declared.walk.Ahead.TheVariants.{Found, End}
+use Rattle.strips.specs.declared.walk.Step.{Step}
 
 unfoldable pub heights_of : List (List ℤ) → List ℕ
-heights_of ps = sorted (map (y_at ps) (up_to (length ps)))
+heights_of ps = sorted (map (y_at ps) (range_with_len 0 (length ps)))
 
 -- a vertical edge as one number: by x, then by its first point
 abbrev pub key_of : List (List ℤ) → ℕ → ℕ
@@ -22,7 +21,7 @@ abbrev pub vertical_at : List (List ℤ) → ℕ → Bool
 vertical_at ps i = vertical (edge_at ps i)
 
 unfoldable pub unsorted_edges : List (List ℤ) → ℕ → List ℕ
-unsorted_edges ps n = picked (vertical_at ps) (key_of ps) (up_to n)
+unsorted_edges ps n = map (key_of ps) (filter (vertical_at ps) (range_with_len 0 n))
 
 unfoldable pub edges_of : List (List ℤ) → List ℕ
 edges_of ps = sorted (unsorted_edges ps (length ps))
@@ -54,7 +53,7 @@ spans ps lo hi e = nat_lt lo hi && reaches lo hi (edge_at ps (e % max_points))
 
 -- the x values of those edges of a list that span a band
 unfoldable pub crossed : List (List ℤ) → ℕ → ℕ → List ℕ → List ℕ
-crossed ps lo hi es = picked (spans ps lo hi) (λ e. e / max_points) es
+crossed ps lo hi es = map (λ e. e / max_points) (filter (spans ps lo hi) es)
 
 -- the strips of one band
 abbrev pub in_band : List (List ℤ) → ℕ → ℕ → List ℕ → List Strip
@@ -97,10 +96,10 @@ all_of ps hs es = if nat_lt (length ps) 3 then [] else walked ps es hs
 abbrev pub start_band : List (List ℤ) → List ℕ → ℕ
 start_band ps hs = if nat_lt (length ps) 3 then length hs else 0
 
--- what an answer of `next` leaves to come
-abbrev pub ahead : List (List ℤ) → List ℕ → List ℕ → Ahead → List Strip
-ahead ps hs es (Found s band edge) = s ∷ left ps es edge (drop band hs)
-ahead ps hs es End = []
+-- the strips from a step on
+abbrev pub ahead : List (List ℤ) → List ℕ → List ℕ → Option Step → List Strip
+ahead ps hs es None = []
+ahead ps hs es (Some step) = step.strip ∷ left ps es step.edge (drop step.band hs)
 
 -- a ring within the limit, and work rows that it fits
 pub record Roomy (ps : List (List ℤ)) (hs es : List ℕ) : Type 0 where

@@ -3,7 +3,8 @@
 
 ghost use Rattle.std.specs.Prelude.{◌≡◌, ◌≤◌, length};
 ghost use Rattle.refusals.specs.Limits.{max_points};
-ghost use Rattle.strips.specs.Said.{stripped_said, strips_says, strips_leave, laid, counted, if_accepted};
+ghost use Rattle.refusals.specs.Said.{if_accepted};
+ghost use Rattle.strips.specs.Said.{stripped_said, strips_says, strips_leave, laid, counted};
 ghost use Rattle.strips.specs.Strips.{strips_of};
 ghost use Rattle.strips.specs.Walk.{edges_of, few_points};
 

@@ -62,11 +62,12 @@ pub struct Strips<'a> {
     pub edge: usize,
 }
 
-// The next strip with the band and the edge to go on from, or the end.
+// A strip, and the band and the edge to go on from.
 #[derive(Clone, Copy)]
-enum Ahead {
-    Found(Strip, usize, usize),
-    End,
+struct Step {
+    strip: Strip,
+    band: usize,
+    edge: usize,
 }
 
 // The y values, each that differs once, with how often it stands there. Answers how many differ. Internal: the row is
@@ -175,13 +176,13 @@ fn next_strip(
     edges: &[u64],
     band: usize,
     edge: usize,
-) -> Ahead
+) -> Option<Step>
     requires begin { BeginAtPoints (length points.now) edges.now }
     requires heights { heights.now ≡ heights_of points.now }
     ensures { ahead points.now heights.now edges.now result ≡ left points.now edges.now edge (drop band heights.now) }
 {
     if heights.len() == 0 {
-        return Ahead::End;
+        return None;
     }
     let last = heights.len() - 1;
     let mut k = band;
@@ -197,16 +198,16 @@ fn next_strip(
                 let x1 = edges[b] / RING_POINTS as u64;
                 j = b + 1;
                 if x0 < x1 {
-                    return Ahead::Found(
-                        Strip {
+                    return Some(Step {
+                        strip: Strip {
                             x0,
                             y0: lo,
                             x1,
                             y1: hi,
                         },
-                        k,
-                        j,
-                    );
+                        band: k,
+                        edge: j,
+                    });
                 }
             } else {
                 k += 1;
@@ -217,7 +218,7 @@ fn next_strip(
             j = 0;
         }
     }
-    Ahead::End
+    None
 }
 
 impl WorkRoom {
@@ -277,12 +278,12 @@ impl<'a> Iterator for Strips<'a> {
             self.band,
             self.edge,
         ) {
-            Ahead::Found(strip, band, edge) => {
-                self.band = band;
-                self.edge = edge;
-                Some(strip)
+            Some(step) => {
+                self.band = step.band;
+                self.edge = step.edge;
+                Some(step.strip)
             }
-            Ahead::End => {
+            None => {
                 self.band = self.ring.heights.len();
                 None
             }

@@ -1,5 +1,5 @@
 -- Tests of every index below a bound. Assumes nothing.
-use Rattle.std.proofs.Common.{ℕ, zero, suc, ◌+◌, ◌<◌, ◌≡◌, refl, ap, Bool, true, false, ◌&&◌, ◌⊎◌, inl, inr, ⊎_elim, arith, add-one, eqb, eqb-true}
+use Rattle.std.proofs.Common.{ℕ, zero, suc, ◌<◌, ◌≡◌, refl, ap, Bool, true, false, ◌&&◌, ◌⊎◌, inl, inr, ⊎_elim, arith, eqb, eqb-true}
 use mathlib.Core.Bool.{false≢true}
 use borrow.Author.Tests.{eqb-false}
 use Rattle.table.specs.Formed.{all_to}
@@ -34,9 +34,6 @@ top? i n h = by (eqb i n) refl
     by false e = inl (let d = eqb-false i n e in omega arith)
 
 module _ (f : ℕ → Bool) where
-  pub all-next : (n : ℕ) → all_to f n ≡ true → f n ≡ true → all_to f (n + 1) ≡ true
-  all-next n a h = rw (add-one n) (and_both (all_to f n) (f n) a h)
-
   pub all-at : (n : ℕ) → all_to f n ≡ true → (i : ℕ) → i < n → f i ≡ true
   all-at zero a i h = absurd (omega arith)
   all-at (suc n) a i h =

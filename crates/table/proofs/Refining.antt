@@ -12,7 +12,7 @@ use Rattle.table.specs.Leaves.{leaf_at}
 use Rattle.table.specs.Rows.{IsTable, cells_in}
 use Rattle.table.specs.Refine.{split_row, refine_says, refined_row}
 use Rattle.table.proofs.Wellformed.{formed-facts}
-use Rattle.table.proofs.Splits.{refine-formed, split-table}
+use Rattle.table.proofs.Splits.{split-table}
 use Rattle.table.proofs.Tables.{leaf_read, level_read}
 
 pub record Refinable (row : List ℤ) (head : Head) (id : ℕ) : Type 0 where
@@ -64,11 +64,6 @@ module _ (row : List ℤ) (head : Head) (id : ℕ) where
 
     finer-there : (cell_at row id).level < head.max_level
     finer-there = let r = accepted-facts ok in rw (level_read row head.count id r.inside) r.finer
-
-    pub accepted-formed : IsTable (refined_row row head id) (grown head)
-    accepted-formed =
-        let r = accepted-facts ok in
-        rw row-split (refine-formed row head.count head.max_level id r.formed r.inside leaf-there finer-there r.room)
 
     pub accepted-table : cells_in (refined_row row head id) (grown head) ≡ split (cells_in row head) id
     accepted-table =

@@ -54,7 +54,3 @@ formed-poly t n M e i h =
 pub shape_bounds : (size n M : ℕ) → shape_ok size n M ≡ true
     → (shape_ok size n M ≡ true) × (n * 8 ≤ size) × (n ≤ max_slots) × (M ≤ widest_level) × (size % 8 ≡ 0)
 shape_bounds size n M e = let s = shape_of size n M e in (e, within size n M s, omega arith, s.range, s.whole)
-
-pub formed_bounds : (t : List ℤ) (n M : ℕ) → well_formed t n M ≡ true
-    → (well_formed t n M ≡ true) × (n * 8 ≤ length t) × (n ≤ length t / 8) × (M ≤ widest_level)
-formed_bounds t n M e = let s = formed-shape t n M e in (e, within (length t) n M s, s.count, s.range)

@@ -1,5 +1,5 @@
 -- A split of the row is a split of its table, and keeps it well formed. Assumes nothing.
-use Rattle.std.proofs.Common.{ℕ, zero, suc, ◌+◌, ◌*◌, ◌-◌, ◌/◌, ◌<◌, ◌≤◌, ◌≡◌, refl, sym, ap, subst, ◌∙◌, true, false, None, List, ◌≢◌, ◌⊎◌, inl, inr, ⊎_elim, arith, add-one, eqb, ℤ, pos, length, get_or, ext_get_or, eqb-true, ne_eqb}
+use Rattle.std.proofs.Common.{ℕ, zero, suc, ◌+◌, ◌*◌, ◌-◌, ◌/◌, ◌<◌, ◌≤◌, ◌≡◌, refl, sym, ap, subst, ◌∙◌, true, None, List, ◌≢◌, ◌⊎◌, inl, inr, ⊎_elim, arith, add-one, ℤ, pos, length, get_or, ext_get_or, eqb-true}
 use mathlib.Core.Logic.{by_cases}
 use native.Mathlib.Decide.{dec_lt, ℕ_discrete}
 use Rattle.refusals.specs.Limits.{widest_level, max_slots, max_polygons}
@@ -223,19 +223,3 @@ module _ (t : List ℤ) (n M i : ℕ) (w : WellFormed t n M) (inside : i < n) (l
 pub refine-formed : (t : List ℤ) (n M i : ℕ) → well_formed t n M ≡ true → i < n → leaf_at t i ≡ true → (cell_at t i).level < M → n + 4 ≤ length t / 8
     → well_formed (split_row t n i) (n + 4) M ≡ true
 refine-formed t n M i e h f l r = facts-formed (split_row t n i) (n + 4) M (refine-keeps t n M i (formed-facts t n M e) h f l r)
-
--- ---- leaves: the split cell is one no more, its children are, and the others are as they were
-
-module _ (t : List ℤ) (n i : ℕ) (inside : i < n) where
-  pub leaf-old : (j : ℕ) → j < n → j ≢ i → leaf_at (split_row t n i) j ≡ leaf_at t j
-  unfolding leaf_at
-  leaf-old j h o = ap (λ (c : Held.Cell). eqb c.first no_cell) (split_row-old t n i inside j h o)
-
-  module _ (room : (n + 4) * 8 ≤ length t) (small : n ≤ max_slots) where
-    pub leaf-self : leaf_at (split_row t n i) i ≡ false
-    unfolding leaf_at
-    leaf-self = ap (λ (c : Held.Cell). eqb c.first no_cell) (split_row-self t n i inside room small) ∙ ne_eqb n no_cell (omega arith)
-
-    pub leaf-new : ((q : Quad) → Fits (child_of i q (cell_at t i))) → (k : ℕ) → k < 4 → leaf_at (split_row t n i) (n + k) ≡ true
-    unfolding leaf_at
-    leaf-new fits k h = ap (λ (c : Held.Cell). eqb c.first no_cell) (split_row-new t n i inside room small fits k h)

@@ -107,8 +107,7 @@ fn root_here(t: &[i64], n: usize, step: u64, i: usize) -> bool
         return false;
     }
     let c = cell_at(t, i);
-    (c.poly < limits::POLYGONS as u64) & root_ok(step, c)
-        && (c.first == Cell::NO_CELL || led(t, n, i))
+    (c.poly < limits::POLYGONS as u64) & root_ok(step, c) && (c.is_leaf() || led(t, n, i))
 }
 
 // Whether the four children of cell p stand in the slots from i on.

@@ -6,6 +6,9 @@ ghost use Rattle.table.specs.Slots.{counted, kept, same_z, stored, cell_at, put_
 
 use cell::Cell;
 
+/// What stands in a row for no parent and for no child.
+pub const NO_CELL: i64 = Cell::NO_CELL as i64;
+
 // The number at index j, as a cell holds a coordinate, and as it holds anything else: 0 for a negative number.
 fn coordinate_at(t: &[i64], j: usize) -> u64
     requires { j < length t.now }

@@ -1,18 +1,21 @@
 -- Faces, distances and the formula of a weight.
-use Rattle.std.proofs.Common.{◌≡◌, refl, sym, ap, ◌∙◌, Bool, true, false, List, ℕ, zero, suc, ◌+◌, ◌*◌, ◌^◌, ◌<◌, min, arith, le_of_lt, mul-one, zero-lt-suc, T, cond, length, get_or, Option, ℤ, Float}
-use lib.Ieee.{binary64, of_int, of_bits, mul, round}
+use Rattle.std.proofs.Common.{◌≡◌, refl, sym, ap, ◌∙◌, Bool, true, false, List, ℕ, zero, suc, ◌+◌, ◌^◌, ◌<◌, min, map, arith, le_of_lt, mul-one, zero-lt-suc, T, cond, length, Option}
+use Rattle.std.proofs.lemmas.List.{length-map}
+use lib.Ieee.{Float, binary64, of_int, of_bits, mul, round}
 use lib.Ieee.Back.{round_whole}
 use lib.Ieee.Exact.{HasValue}
 use lib.Ieee.Positive.{positive, positive_of_value, mul_at}
 use Rattle.refusals.specs.Limits.{coordinate}
-use Rattle.net.specs.Net.{Node, Edge, Patch, Way, nth, lesser_of, flat, apart, face, distance, num, halves, Half, ◌·◌, sheet_of, weight, weighed}
-use Rattle.net.proofs.Faces.{face-low, distance-low}
-use Rattle.weights.specs.Rows.{nodes_in}
-use Rattle.weights.proofs.Lists.{nodes-within}
+use Rattle.cell.proofs.Offsets.{off-le}
+use Rattle.net_rows.specs.Nodes.{in_mesh}
+use Rattle.net_rows.specs.declared.rows.Node.{Node}
+use Rattle.net.specs.Net.{Edge, NetCell, Way, nth, lesser_of, flat, apart, face, distance, num, halves, Half, ◌·◌, sheet_of, weight, weighed, Ends}
+use Rattle.net.proofs.All.{All, all_map}
+use Rattle.net.proofs.Faces.{Within, face-low, distance-low}
 use Rattle.weights.specs.declared.axes.Axis.TheVariants.{Column, Row}
 use Rattle.weights.specs.declared.weigh.Extents.{Extents}
-use Rattle.weights.specs.Weigh.{edge_of}
-use Rattle.weights.specs.Bare.{across_of, face_of, distance_of, Extended}
+use Rattle.weights.specs.Bare.{across_of, face_of, distance_of, HasExtents, Extended}
+use Rattle.weights.proofs.Facing.{facing_at}
 
 -- ---- binary64
 
@@ -38,41 +41,47 @@ half_is (suc n) h =
 
 -- ---- the face and the distance of an edge, by the extents along the axis across it
 
-module _ (ns : List Node) (cs : List Patch) (x : Extents) (X : Extended ns cs x) (e : Edge) (from : e.a < length ns) (to : e.b < length ns) where
-  pub face-is : face_of x (across_of ns e.a e.b) e.a e.b ≡ face ns cs e
+nodes-within : (nodes : List Node) → All (Within (coordinate + coordinate)) (map in_mesh nodes)
+nodes-within nodes = all_map (Within (coordinate + coordinate)) in_mesh nodes (λ n. (off-le n.x, off-le n.y))
+
+module _ (nodes : List Node) (cs : List NetCell) (x : Extents) (X : Extended (map in_mesh nodes) cs x) (e : Edge) (E : Ends (length nodes) e) where
+  from : e.from < length (map in_mesh nodes)
+  from = let h = E.from in omega (arith, length-map nodes in_mesh)
+
+  to : e.to < length (map in_mesh nodes)
+  to = let h = E.to in omega (arith, length-map nodes in_mesh)
+
+  face-is : face_of x (across_of (map in_mesh nodes) e.from e.to) e.from e.to ≡ face (map in_mesh nodes) cs e
   unfolding face
-  face-is = go (flat ns e)
+  face-is = go (flat (map in_mesh nodes) e)
     where
-      go : (b : Bool) → face_of x (cond b Column Row) e.a e.b ≡ elim b [ true ↦ lesser_of Way.up ns cs e + lesser_of Way.down ns cs e | false ↦ lesser_of Way.right ns cs e + lesser_of Way.left ns cs e ]
-      go true = λ t. min (X.up-is e.a from t) (X.up-is e.b to t) + min (X.down-is e.a from t) (X.down-is e.b to t)
-      go false = λ t. min (X.right-is e.a from t) (X.right-is e.b to t) + min (X.left-is e.a from t) (X.left-is e.b to t)
+      go : (b : Bool) → face_of x (cond b Column Row) e.from e.to
+          ≡ elim b [ true ↦ lesser_of Way.up (map in_mesh nodes) cs e + lesser_of Way.down (map in_mesh nodes) cs e | false ↦ lesser_of Way.right (map in_mesh nodes) cs e + lesser_of Way.left (map in_mesh nodes) cs e ]
+      go true = λ t. min (X.up-is e.from from t) (X.up-is e.to to t) + min (X.down-is e.from from t) (X.down-is e.to to t)
+      go false = λ t. min (X.right-is e.from from t) (X.right-is e.to to t) + min (X.left-is e.from from t) (X.left-is e.to to t)
 
-  pub distance_is : distance_of ns (across_of ns e.a e.b) e.a e.b ≡ distance ns e
+  distance_is : distance_of (map in_mesh nodes) (across_of (map in_mesh nodes) e.from e.to) e.from e.to ≡ distance (map in_mesh nodes) e
   unfolding distance
-  distance_is = go (flat ns e)
+  distance_is = go (flat (map in_mesh nodes) e)
     where
-      go : (b : Bool) → distance_of ns (cond b Column Row) e.a e.b ≡ elim b [ true ↦ apart (nth ns e.a).x (nth ns e.b).x | false ↦ apart (nth ns e.a).y (nth ns e.b).y ]
+      go : (b : Bool) → distance_of (map in_mesh nodes) (cond b Column Row) e.from e.to
+          ≡ elim b [ true ↦ apart (nth (map in_mesh nodes) e.from).x (nth (map in_mesh nodes) e.to).x | false ↦ apart (nth (map in_mesh nodes) e.from).y (nth (map in_mesh nodes) e.to).y ]
       go true = refl
-      go false = refl
+      go false = λ t. apart (facing_at Row (map in_mesh nodes) e.from t).x (facing_at Row (map in_mesh nodes) e.to t).x
 
--- ---- an edge of a net's rows
+  pub from-there : HasExtents x e.from
+  from-there = X.there e.from from
 
-module _ (nodes : List ℤ) (n : ℕ) (cs : List Patch) (x : Extents) (X : Extended (nodes_in nodes n) cs x) (ends : List ℕ) (j : ℕ) (g : Float)
-    (a b : ℕ) (a-is : a ≡ get_or ends (2 * j) 0) (b-is : b ≡ get_or ends (2 * j + 1) 0)
-    (from : a < length (nodes_in nodes n)) (to : b < length (nodes_in nodes n)) where
-  abbrev e : Edge
-  e = record { a = a; b = b; g = g }
+  pub to-there : HasExtents x e.to
+  to-there = X.there e.to to
 
-  pub face-small : face_of x (across_of (nodes_in nodes n) a b) a b < 2 ^ 53
-  face-small = omega (arith, face-is (nodes_in nodes n) cs x X e from to, face-low (coordinate + coordinate) (nodes_in nodes n) (nodes-within nodes n) cs e)
+  pub face-small : face_of x (across_of (map in_mesh nodes) e.from e.to) e.from e.to < 2 ^ 53
+  face-small = omega (arith, face-is, face-low (coordinate + coordinate) (map in_mesh nodes) (nodes-within nodes) cs e)
 
-  pub distance-small : distance_of (nodes_in nodes n) (across_of (nodes_in nodes n) a b) a b < 2 ^ 53
-  distance-small = omega (arith, distance_is (nodes_in nodes n) cs x X e from to, distance-low (coordinate + coordinate) (nodes_in nodes n) (nodes-within nodes n) e)
+  pub distance-small : distance_of (map in_mesh nodes) (across_of (map in_mesh nodes) e.from e.to) e.from e.to < 2 ^ 53
+  distance-small = omega (arith, distance_is, distance-low (coordinate + coordinate) (map in_mesh nodes) (nodes-within nodes) e)
 
-  pub weighed-is : (o : Option Float) → sheet_of cs a b ≡ o
-      → weight g (face_of x (across_of (nodes_in nodes n) a b) a b) (distance_of (nodes_in nodes n) (across_of (nodes_in nodes n) a b) a b) o ≡ (weighed (nodes_in nodes n) cs (edge_of ends j g)).g
-  unfolding weighed edge_of
-  weighed-is o h =
-      let f = face-is (nodes_in nodes n) cs x X e from to in
-      let d = distance_is (nodes_in nodes n) cs x X e from to in
-      (λ t. weight g (f t) (d t) (sym h t)) ∙ (λ t. (weighed (nodes_in nodes n) cs (record { a = a-is t; b = b-is t; g = g })).g)
+  pub weighed-is : (o : Option Float) → sheet_of cs e.from e.to ≡ o
+      → weight e.conductance (face_of x (across_of (map in_mesh nodes) e.from e.to) e.from e.to) (distance_of (map in_mesh nodes) (across_of (map in_mesh nodes) e.from e.to) e.from e.to) o ≡ (weighed (map in_mesh nodes) cs e).conductance
+  unfolding weighed
+  weighed-is o h = λ t. weight e.conductance (face-is t) (distance_is t) (sym h t)

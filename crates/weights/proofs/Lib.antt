@@ -3,12 +3,10 @@ pub mod Entries
 pub mod Order
 pub mod Neighbours
 pub mod Walk
+pub mod Steps
 pub mod Hanging
 pub mod Pairs
 pub mod Faces
-pub mod Held
-pub mod Nets
-pub mod Offsets
-pub mod Lists
+pub mod Facing
 pub mod Middles
 pub mod Gaps

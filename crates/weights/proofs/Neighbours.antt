@@ -7,7 +7,7 @@ use Rattle.std.proofs.lemmas.List.{get_or_default}
 use Rattle.std.proofs.lemmas.List.Elements.{All-from_get_or, Contains-get_or}
 use Rattle.std.proofs.lemmas.List.Sorted.{length_permutation, All-permutation, Contains-permutation}
 use Rattle.std.proofs.lemmas.Map.Keys.{IsDistinct-from_apart, IsDistinct-IsPermutation, apart_from_distinct}
-use Rattle.net.specs.Net.{Node, nth, after, or_zero, least, next_gap, prev_gap}
+use Rattle.net.specs.Net.{MeshNode, nth, after, or_zero, least, next_gap, prev_gap}
 use Rattle.net.proofs.Gaps.{least-is, least_zero}
 use Rattle.weights.specs.Lines.{entry_of, entries, Lined, at, rise_of}
 use Rattle.weights.proofs.Entries.{length-entries, entry_at}
@@ -38,7 +38,7 @@ between e f x u w h = let a = u.layer in let b = u.line in let c = w.layer in le
 between_back : (x e f : List ℕ) → Upto x e → Upto e f → later x f ≡ true → one_line e f ≡ true
 between_back x e f u w h = let a = u.layer in let b = u.line in let c = w.layer in let d = w.line in grind (arith, nat_tests)
 
-module _ (ns : List Node) (row : List (List ℕ)) (L : Lined ns row) where
+module _ (ns : List MeshNode) (row : List (List ℕ)) (L : Lined ns row) where
   abbrev who : ℕ → ℕ
   who k = num (at row k) 3
 
@@ -97,7 +97,7 @@ module _ (ns : List Node) (row : List (List ℕ)) (L : Lined ns row) where
       grind (arith, nat_tests)
 
   -- the least over the nodes is the least over the row
-  module _ (p : Node → ℕ → Bool) (g : Node → ℕ) (t : ℕ → Bool) (v : ℕ → ℕ)
+  module _ (p : MeshNode → ℕ → Bool) (g : MeshNode → ℕ) (t : ℕ → Bool) (v : ℕ → ℕ)
       (tests : (l : ℕ) → l < length row → p (nth ns (who l)) (who l) ≡ t l) (gives : (l : ℕ) → l < length row → g (nth ns (who l)) ≡ v l) where
     -- of a node that passes, its place
     passing : (q : ℕ) → q < length ns → p (nth ns q) q ≡ true → (l : ℕ) × (l < length row) × (t l ≡ true) × (g (nth ns q) ≡ v l)

@@ -2,7 +2,7 @@
 use Rattle.std.proofs.Common.{◌≡◌, ℕ, zero, suc, ◌+◌, ◌<◌, ◌≤◌, List, length, set, get_or, refl, sym, ◌∙◌, subst, ⊎_elim, add-one, arith}
 use Rattle.std.proofs.lemmas.Bool.{cases_lt}
 use Rattle.std.proofs.lemmas.List.{get_or-set_same, get_or-set_other}
-use Rattle.net.specs.Net.{Node, next_gap, prev_gap}
+use Rattle.net.specs.Net.{MeshNode, next_gap, prev_gap}
 use Rattle.weights.specs.Lines.{at, Lined, Gapped, rise_of}
 use Rattle.weights.proofs.Order.{num}
 use Rattle.weights.proofs.Neighbours.{spot, apart, next_is, prev_zero, prev_is}
@@ -12,12 +12,12 @@ fall_of row zero = 0
 fall_of row (suc k) = rise_of row k
 
 -- the gaps of the first k entries' nodes are written, and the last of them is at hand
-pub record Walked (ns : List Node) (row : List (List ℕ)) (forth back : List ℕ) (before k : ℕ) : Type 0 where
+pub record Walked (ns : List MeshNode) (row : List (List ℕ)) (forth back : List ℕ) (before k : ℕ) : Type 0 where
   pub next : (l : ℕ) → l < k → l < length row → get_or forth (num (at row l) 3) 0 ≡ next_gap ns (num (at row l) 3)
   pub prev : (l : ℕ) → l < k → l < length row → get_or back (num (at row l) 3) 0 ≡ prev_gap ns (num (at row l) 3)
   pub behind : before ≡ fall_of row k
 
-module _ (ns : List Node) (row : List (List ℕ)) (L : Lined ns row) (forth back : List ℕ) (before k : ℕ) (h : k < length row)
+module _ (ns : List MeshNode) (row : List (List ℕ)) (L : Lined ns row) (forth back : List ℕ) (before k : ℕ) (h : k < length row)
     (forth-in : num (at row k) 3 < length forth) (back-in : num (at row k) 3 < length back) (W : Walked ns row forth back before k) where
   abbrev i : ℕ
   i = num (at row k) 3
@@ -46,7 +46,7 @@ module _ (ns : List Node) (row : List (List ℕ)) (L : Lined ns row) (forth back
   }
 
 -- at the end each node's gaps are written
-pub walked_all : (ns : List Node) (row : List (List ℕ)) → Lined ns row → (forth back : List ℕ) (before k : ℕ) → length row ≤ k → Walked ns row forth back before k → Gapped ns forth back
+pub walked_all : (ns : List MeshNode) (row : List (List ℕ)) → Lined ns row → (forth back : List ℕ) (before k : ℕ) → length row ≤ k → Walked ns row forth back before k → Gapped ns forth back
 walked_all ns row L forth back before k h W = record {
   next = λ i g. (let s = spot ns row L i g in let b = s.inside in subst (λ z. get_or forth z 0 ≡ next_gap ns z) s.is (W.next s.place (omega arith) b));
   prev = λ i g. (let s = spot ns row L i g in let b = s.inside in subst (λ z. get_or back z 0 ≡ prev_gap ns z) s.is (W.prev s.place (omega arith) b));

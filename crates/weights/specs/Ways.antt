@@ -1,12 +1,11 @@
--- The four ways from a node, and the gaps along and across them. Definitions only.
+-- The four ways from a node, and the gaps along them. Definitions only.
 use Rattle.std.specs.Prelude.{◌≡◌, ℕ, ◌<◌, List, length, slice_index}
-use Rattle.net.specs.Net.{Node, Way as NetWay, next_gap, gap}
+use Rattle.net.specs.Net.{MeshNode, Way as NetWay, gap}
 use Rattle.net.specs.Net.Way.{up, down, right, left}
 use Rattle.weights.specs.declared.axes.Axis.{Axis}
 use Rattle.weights.specs.declared.axes.Axis.TheVariants.{Column, Row}
 use Rattle.weights.specs.declared.extents.Way.{Way}
 use Rattle.weights.specs.declared.extents.Way.TheVariants.{Up, Down, Right, Left}
-use Rattle.weights.specs.Lines.{all_facing}
 
 abbrev pub way_of : Way → NetWay
 way_of Up = up
@@ -33,9 +32,6 @@ side_at Down near far = far
 side_at Right near far = near
 side_at Left near far = far
 
--- rows of gaps: that way, and forth across it
-abbrev pub GapsAlong : List Node → Way → List ℕ → Type 0
+-- a row of the gaps that way
+abbrev pub GapsAlong : List MeshNode → Way → List ℕ → Type 0
 GapsAlong ns way xs = (i : ℕ) → i < length ns → slice_index xs i ≡ gap (way_of way) ns i
-
-abbrev pub GapsAcross : List Node → Way → List ℕ → Type 0
-GapsAcross ns way xs = (i : ℕ) → i < length ns → slice_index xs i ≡ next_gap (all_facing (axis_across way) ns) i

@@ -1,13 +1,15 @@
 //! How far each node reaches along an axis: half the gap to its neighbour, or as far as a cell that it hangs on asks.
-ghost use Rattle.std.specs.Prelude.{◌≡◌, ◌<◌, ◌≤◌, List, length, slice_index, All};
+ghost use Rattle.std.specs.Prelude.{◌≡◌, ℕ, ◌<◌, ◌≤◌, List, length, slice_index, All};
 ghost use Rattle.std.specs.Option.{ForSome};
-ghost use Rattle.net.specs.Net.{Node, box_of, size_of, hangs_at};
-ghost use Rattle.weights.specs.Lines.{Lined, Gapped, LastIs, Reaches, rise_of, raised, place_of};
-ghost use Rattle.weights.specs.Ways.{way_of, axis_of, side_at, GapsAcross, GapsAlong};
-ghost use Rattle.weights.specs.Bare.{nodes_of, cells_of, cell_in};
+ghost use Rattle.net_rows.specs.Facts.{AreKnown};
+ghost use Rattle.net.specs.Net.{MeshNode, box_of, size_of, hangs_at};
+ghost use Rattle.weights.specs.Lines.{Lined, Gapped, Stepped, LastIs, Reaches, rise_of, shares_place, raised, place_of};
+ghost use Rattle.weights.specs.Ways.{way_of, axis_of, axis_across, side_at, GapsAlong};
+ghost use Rattle.weights.specs.Bare.{nodes_of, faced};
 
-use crate::axes::{Axis, Entry, last_at};
+use crate::axes::{Axis, Entry, Step, last_at};
 use crate::lent::BareNet;
+use net_rows::{Corners, NetCell};
 
 // From the k-th entry to the next one of its line; 0 at the line's end.
 fn rise_at(row: &[Entry], k: usize) -> u64
@@ -23,9 +25,10 @@ fn rise_at(row: &[Entry], k: usize) -> u64
 
 /// The gaps from each node to the next one of its line and to the one before, as whole half ticks.
 pub fn write_gaps(row: &[Entry], forth: &mut [u64], back: &mut [u64])
-    requires forth_there { All (λ e. slice_index e 3 < length forth.old) row.now }
-    requires back_there { All (λ e. slice_index e 3 < length back.old) row.now }
-    ensures { (ns : List Node) → Lined ns row.now → Gapped ns forth.new back.new }
+    requires numbers { All (λ e. slice_index e 3 < length row.now) row.now }
+    requires forth_room { length row.now ≤ length forth.old }
+    requires back_room { length row.now ≤ length back.old }
+    ensures { (ns : List MeshNode) → Lined ns row.now → Gapped ns forth.new back.new }
 {
     let mut before = 0;
     for k in 0..row.len() {
@@ -35,6 +38,36 @@ pub fn write_gaps(row: &[Entry], forth: &mut [u64], back: &mut [u64])
         forth[i] = rise;
         back[i] = before;
         before = rise;
+    }
+}
+
+// Whether the entry after the k-th is of the same place.
+fn shares_place(row: &[Entry], k: usize) -> bool
+    requires { k < length row.now }
+    ensures { result ≡ shares_place row.now k }
+{
+    let [layer, line, along, _] = row[k];
+    match row.get(k + 1) {
+        Some(&[l, m, n, _]) => (l, m, n) == (layer, line, along),
+        None => false,
+    }
+}
+
+/// The steps from each node.
+pub fn write_steps(row: &[Entry], steps: &mut [Step])
+    requires numbers { All (λ e. slice_index e 3 < length row.now) row.now }
+    requires room { length row.now ≤ length steps.old }
+    ensures { (ns : List MeshNode) → Lined ns row.now → Stepped ns steps.new }
+{
+    let mut step = [0, 0];
+    let mut last = 0;
+    for k in (0..row.len()).rev() {
+        let [.., number] = row[k];
+        if !shares_place(row, k) {
+            step = [rise_at(row, k), last];
+            last = number;
+        }
+        steps[number as usize] = step;
     }
 }
 
@@ -69,13 +102,13 @@ impl Way {
     }
 
     // The corner at which the side begins from which a cell lies that way.
-    fn start(self) -> usize
-        ensures { result < 4 }
+    fn start(self, corners: Corners) -> usize
+        ensures { (count : ℕ) → AreKnown count corners → result < count }
     {
         match self {
-            Way::Up | Way::Right => 0,
-            Way::Left => 1,
-            Way::Down => 3,
+            Way::Up | Way::Right => corners.southwest,
+            Way::Left => corners.southeast,
+            Way::Down => corners.northwest,
         }
     }
 
@@ -91,54 +124,59 @@ impl Way {
 }
 
 // How large a cell is that way. Nothing says that its corners stand in order: where they do not, its size is 0.
-fn size(net: &BareNet, way: Way, cell: usize) -> u64
-    requires { cell < net.now.cell_count }
-    ensures { result ≡ size_of (way_of way) (box_of (nodes_of net.now) (cell_in net.now cell)) }
+fn size(net: &BareNet, way: Way, cell: &NetCell) -> u64
+    requires { AreKnown (length net.now.nodes.now) cell.now.corners }
+    ensures { result ≡ size_of (way_of way) (box_of (nodes_of net.now) cell.now) }
 {
     let axis = way.axis();
-    let [_, _, near] = net.place(axis, net.corner(cell, 0));
-    let [_, _, far] = net.place(axis, net.corner(cell, 2));
+    let near = net.node(axis, cell.corners.southwest).y;
+    let far = net.node(axis, cell.corners.northeast).y;
     far.saturating_sub(near)
 }
 
-// The node that hangs on a cell at the middle of its side from which it lies that way. The gaps are those across the
-// way: mostly they tell that nothing stands between the ends of the side.
-fn hanging(net: &BareNet, way: Way, row: &[Entry], gaps: &[u64], cell: usize) -> Option<usize>
-    requires cell_there { cell < net.now.cell_count }
+// The node that hangs on a cell at the middle of its side from which it lies that way. The steps are those across the
+// way: mostly the step from the side's first end tells what stands at the middle.
+fn hanging(net: &BareNet, way: Way, row: &[Entry], steps: &[Step], cell: &NetCell) -> Option<usize>
+    requires corners_known { AreKnown (length net.now.nodes.now) cell.now.corners }
     requires lined { Lined (nodes_of net.now) row.now }
-    requires gaps_there { net.now.node_count ≤ length gaps.now }
-    requires gapped { GapsAcross (nodes_of net.now) way gaps.now }
-    ensures { LastIs (nodes_of net.now)
-        (place_of (hangs_at (way_of way) (nodes_of net.now) (cell_in net.now cell))) result }
+    requires steps_there { length net.now.nodes.now ≤ length steps.now }
+    requires stepped { Stepped (faced net.now (axis_across way)) steps.now }
+    ensures { LastIs (nodes_of net.now) (place_of (hangs_at (way_of way) (nodes_of net.now) cell.now)) result }
 {
     let axis = way.axis();
-    let [layer, from, near] = net.place(axis, net.corner(cell, 0));
-    let [_, to, far] = net.place(axis, net.corner(cell, 2));
-    let side = way.side(near, far);
-    let start = net.corner(cell, way.start());
-    let [plane, line, along] = net.place(axis, start);
-    let long = to.saturating_sub(from);
-    if plane == layer && line == from && along == side && 2 <= long && long <= gaps[start] {
-        return None;
+    let near = net.node(axis, cell.corners.southwest);
+    let far = net.node(axis, cell.corners.northeast);
+    let side = way.side(near.y, far.y);
+    let middle = (near.x + far.x) / 2;
+    let start = way.start(cell.corners);
+    let first = net.node(axis, start);
+    let [step, node] = steps[start];
+    if first.layer == near.layer && first.y == side && first.x < middle && 0 < step {
+        let ahead = middle - first.x;
+        if ahead < step {
+            return None;
+        }
+        if ahead == step {
+            return Some(node as usize);
+        }
     }
-    let middle = (from + to) / 2;
     match axis {
-        Axis::Column => last_at(row, layer, middle, side),
-        Axis::Row => last_at(row, layer, side, middle),
+        Axis::Column => last_at(row, near.layer, middle, side),
+        Axis::Row => last_at(row, near.layer, side, middle),
     }
 }
 
 /// What the cells ask for the nodes at the middles of their sides. The nodes stand in order along columns.
-pub fn raise_hanging(net: &BareNet, way: Way, row: &[Entry], gaps: &[u64], extents: &mut [u64])
+pub fn raise_hanging(net: &BareNet, way: Way, row: &[Entry], steps: &[Step], extents: &mut [u64])
     requires lined { Lined (nodes_of net.now) row.now }
-    requires gaps_there { net.now.node_count ≤ length gaps.now }
-    requires gapped { GapsAcross (nodes_of net.now) way gaps.now }
-    requires room { net.now.node_count ≤ length extents.old }
+    requires steps_there { length net.now.nodes.now ≤ length steps.now }
+    requires stepped { Stepped (faced net.now (axis_across way)) steps.now }
+    requires room { length net.now.nodes.now ≤ length extents.old }
     requires own_gaps { GapsAlong (nodes_of net.now) way extents.old }
-    ensures { Reaches (way_of way) (nodes_of net.now) (cells_of net.now) extents.new }
+    ensures { Reaches (way_of way) (nodes_of net.now) net.now.cells.now extents.new }
 {
-    for cell in 0..net.cell_count {
-        let node = hanging(net, way, row, gaps, cell);
+    for cell in net.cells {
+        let node = hanging(net, way, row, steps, cell);
         raise(extents, node, size(net, way, cell));
     }
 }

@@ -1,35 +1,54 @@
 //! The first cell that has an edge as a side: a sorted row of all sides in place of a map.
-ghost use Rattle.std.specs.Prelude.{◌≡◌, ◌*◌, ℕ, List, length, IsSorted};
+ghost use Rattle.std.specs.Prelude.{◌≡◌, ◌*◌, List, length, IsSorted};
 ghost use Rattle.std.specs.Ordering.{nat_cmp};
 ghost use Rattle.std.specs.Cmp.Lexicographic.{slice_cmp};
+ghost use Rattle.net.specs.Net.{NetCell};
 ghost use Rattle.weights.specs.Sides.{Sided, FirstCellIs};
 
 use crate::axes::Entry;
 use crate::lent::BareNet;
+use sorted::{Entries, sort_entries};
 
-/// The sides of the cells in order.
-pub fn sort_sides(net: &BareNet, row: &mut [Entry], keys: &mut [u64], scratch: &mut [Entry])
-    requires an_entry_each { length row.old ≡ 4 * net.now.cell_count }
-    requires a_key_each { length keys.old ≡ 4 * net.now.cell_count }
-    requires scratch_alike { length scratch.old ≡ 4 * net.now.cell_count }
-    ensures { Sided net.now.corners.now net.now.cell_count row.new }
-{
-    for i in 0..4 * net.cell_count {
+// The entries of the cells' sides, four to a cell.
+#[derive(Clone, Copy)]
+struct SideEntries<'a> {
+    net: &'a BareNet<'a>,
+}
+
+impl Entries<4> for SideEntries<'_> {
+    ghost use Rattle.weights.specs.Sides.{side_entry};
+
+    ghost count = { λ s. 4 * length s.net.now.cells.now };
+
+    ghost entry = { λ s i. side_entry s.net.now.cells.now i };
+
+    fn entry(&self, i: usize) -> Entry {
         let cell = i / 4;
         let side = i % 4;
-        let a = net.corner(cell, side) as u64;
-        let b = net.corner(cell, (side + 1) % 4) as u64;
-        scratch[i] = [a.min(b), a.max(b), cell as u64, side as u64];
+        let corners = self.net.corners(cell);
+        let a = corners[side] as u64;
+        let b = corners[(side + 1) % 4] as u64;
+        [a.min(b), a.max(b), cell as u64, side as u64]
     }
-    sorted::sort_into(scratch, keys, row);
+}
+
+/// The sides of the cells in order.
+pub fn sort_sides(net: &BareNet, keys: &mut [u64], row: &mut [Entry])
+    requires a_key_each { length keys.old ≡ 4 * length net.now.cells.now }
+    requires an_entry_each { length row.old ≡ 4 * length net.now.cells.now }
+    ensures { Sided net.now.cells.now row.new }
+{
+    sort_entries(&SideEntries { net }, keys, row);
 }
 
 /// The first cell that has two nodes as the ends of a side.
-pub fn first_cell(row: &[Entry], a: u64, b: u64) -> Option<usize>
+pub fn first_cell(row: &[Entry], a: usize, b: usize) -> Option<usize>
     requires { IsSorted (slice_cmp nat_cmp) row.now }
-    ensures { (corners : List ℕ) (l : ℕ) → Sided corners l row.now → FirstCellIs corners l a b result }
+    ensures { (cells : List NetCell) → Sided cells row.now → FirstCellIs cells a b result }
 {
-    let Some(&[_, _, cell, _]) = sorted::runs::first(row, &[a.min(b), a.max(b)]) else {
+    let from = a as u64;
+    let to = b as u64;
+    let Some(&[_, _, cell, _]) = sorted::runs::first(row, &[from.min(to), from.max(to)]) else {
         return None;
     };
     Some(cell as usize)

@@ -1,13 +1,13 @@
 //! The weight of each edge that is a side of a cell: its face over the sheet resistance times its length.
-ghost use Rattle.std.specs.Prelude.{◌≡◌, ◌+◌, ◌^◌, ◌<◌, ◌≤◌, min, length, slice_index, Some};
-ghost use Rattle.net.specs.Net.{weight, weighed};
+ghost use Rattle.std.specs.Prelude.{◌≡◌, ◌+◌, ◌^◌, ◌<◌, min, map, length, slice_index, Some, All};
+ghost use Rattle.net.specs.Net.{weight, weighed, Ends};
 ghost use Rattle.weights.specs.Sides.{Sided};
-ghost use Rattle.weights.specs.Weigh.{edge_of};
-ghost use Rattle.weights.specs.Bare.{nodes_of, cells_of, across_of, face_of, distance_of, weighed_row, HasExtents, Extended};
+ghost use Rattle.weights.specs.Bare.{nodes_of, across_of, face_of, distance_of, HasExtents, Extended};
 
 use crate::axes::{Axis, Entry};
 use crate::lent::BareNet;
 use crate::sides::first_cell;
+use net_rows::Edge;
 
 /// How far each node reaches, in half ticks.
 #[derive(Clone, Copy)]
@@ -42,24 +42,24 @@ fn face(extents: &Extents, along: Axis, a: usize, b: usize) -> u64
 
 // The axis across an edge of two nodes.
 fn across(net: &BareNet, a: usize, b: usize) -> Axis
-    requires from_there { a < net.now.node_count }
-    requires to_there { b < net.now.node_count }
+    requires from_there { a < length net.now.nodes.now }
+    requires to_there { b < length net.now.nodes.now }
     ensures { result ≡ across_of (nodes_of net.now) a b }
 {
-    let [_, _, from] = net.place(Axis::Column, a);
-    let [_, _, to] = net.place(Axis::Column, b);
-    if from == to { Axis::Column } else { Axis::Row }
+    if net.node(Axis::Column, a).y == net.node(Axis::Column, b).y {
+        Axis::Column
+    } else {
+        Axis::Row
+    }
 }
 
 // How far apart the lines of two nodes are, in ticks.
 fn distance(net: &BareNet, axis: Axis, a: usize, b: usize) -> u64
-    requires from_there { a < net.now.node_count }
-    requires to_there { b < net.now.node_count }
+    requires from_there { a < length net.now.nodes.now }
+    requires to_there { b < length net.now.nodes.now }
     ensures { result ≡ distance_of (nodes_of net.now) axis a b }
 {
-    let [_, from, _] = net.place(axis, a);
-    let [_, to, _] = net.place(axis, b);
-    from.abs_diff(to)
+    net.node(axis, a).x.abs_diff(net.node(axis, b).x)
 }
 
 // Two roundings, of the product and of the quotient: binary64 has the half of a face and a distance.
@@ -76,35 +76,38 @@ fn weight_of(g: f64, face: u64, distance: u64, sheet: f64) -> f64
     }
 }
 
-// What becomes of the conductance g of an edge. It stays where the edge is a side of no cell.
-fn weigh_edge(net: &BareNet, extents: &Extents, sides: &[Entry], edge: usize, g: f64) -> f64
-    requires sided { Sided net.now.corners.now net.now.cell_count sides.now }
-    requires extended { Extended (nodes_of net.now) (cells_of net.now) extents.now }
-    requires edge_there { edge < net.now.edge_count }
-    ensures { result ≡ (weighed (nodes_of net.now) (cells_of net.now) (edge_of net.now.ends.now edge g)).g }
+// What becomes of the conductance of an edge. It stays where the edge is a side of no cell.
+fn weigh_edge(net: &BareNet, extents: &Extents, sides: &[Entry], edge: Edge) -> f64
+    requires sided { Sided net.now.cells.now sides.now }
+    requires extended { Extended (nodes_of net.now) net.now.cells.now extents.now }
+    requires ends_known { Ends (length net.now.nodes.now) edge }
+    ensures { result ≡ (weighed (nodes_of net.now) net.now.cells.now edge).conductance }
 {
-    let a = net.end(edge, 0);
-    let b = net.end(edge, 1);
-    let Some(cell) = first_cell(sides, a as u64, b as u64) else {
-        return g;
+    let Edge {
+        from,
+        to,
+        conductance,
+    } = edge;
+    let Some(cell) = first_cell(sides, from, to) else {
+        return conductance;
     };
-    let axis = across(net, a, b);
+    let axis = across(net, from, to);
     weight_of(
-        g,
-        face(extents, axis, a, b),
-        distance(net, axis, a, b),
-        net.sheets[cell],
+        conductance,
+        face(extents, axis, from, to),
+        distance(net, axis, from, to),
+        net.cells[cell].sheet,
     )
 }
 
 /// The weight of each edge.
-pub fn weigh_edges(net: &BareNet, extents: &Extents, sides: &[Entry], conductances: &mut [f64])
-    requires sided { Sided net.now.corners.now net.now.cell_count sides.now }
-    requires extended { Extended (nodes_of net.now) (cells_of net.now) extents.now }
-    requires room { net.now.edge_count ≤ length conductances.old }
-    ensures { conductances.new ≡ weighed_row net.now conductances.old }
+pub fn weigh_edges(net: &BareNet, extents: &Extents, sides: &[Entry], edges: &mut [Edge])
+    requires sided { Sided net.now.cells.now sides.now }
+    requires extended { Extended (nodes_of net.now) net.now.cells.now extents.now }
+    requires ends_known { All (Ends (length net.now.nodes.now)) edges.old }
+    ensures { edges.new ≡ map (weighed (nodes_of net.now) net.now.cells.now) edges.old }
 {
-    for j in 0..net.edge_count {
-        conductances[j] = weigh_edge(net, extents, sides, j, conductances[j]);
+    for edge in edges {
+        edge.conductance = weigh_edge(net, extents, sides, *edge);
     }
 }

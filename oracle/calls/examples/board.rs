@@ -7,6 +7,7 @@
 //! cargo run --offline --example board -- worked 1,0,1.0 -- 0,0,4,4,0
 //! ```
 
+use calls::net::{Cell, Edge, Node};
 use calls::network::{network, NetRoom};
 use calls::sheets::Sheets;
 use calls::table::{Slot, WIDTH};
@@ -41,26 +42,24 @@ fn main() {
         let [x0, y0, x1, y1] = [n[0], n[1], n[2], n[3]].map(|coordinate| coordinate + MOVED);
         format!("cell {x0} {y0} {x1} {y1} 0 None None {}", n[7])
     });
-    println!("  cells =\n      {}\n      ∷ [];", Vec::from_iter(cells).join("\n      ∷ "));
+    println!("  table =\n      {}\n      ∷ [];", Vec::from_iter(cells).join("\n      ∷ "));
     let polys = (0..sheets.len()).map(|polygon| {
         let bits = r_sheet[polygon].to_bits();
         format!("poly {} {} {bits:#018x}", layer[polygon], component[polygon])
     });
     list("polys", polys);
-    let nodes = net.nodes.chunks(4);
-    list(
-        "nodes",
-        nodes.map(|n| format!("node {} {} {} {}", n[0], n[1], n[2] + MOVED, n[3] + MOVED)),
-    );
-    let patches = net.corners.chunks(4).zip(&net.r_sheet);
-    list(
-        "patches",
-        patches.map(|(c, ohms)| {
-            format!("patch {} {} {} {} {:#018x}", c[0], c[1], c[2], c[3], ohms.to_bits())
-        }),
-    );
-    let edges = net.ends.chunks(2).zip(&net.conductance);
-    list("edges", edges.map(|(e, g)| format!("edge {} {} {:#018x}", e[0], e[1], g.to_bits())));
+    let node = |Node { layer, component, x, y }: &Node| {
+        format!("node {layer} {component} {} {}", x + MOVED, y + MOVED)
+    };
+    list("nodes", net.nodes.iter().map(node));
+    let patch = |Cell { corners: [sw, se, ne, nw], r_sheet }: &Cell| {
+        format!("patch {sw} {se} {ne} {nw} {:#018x}", r_sheet.to_bits())
+    };
+    list("cells", net.cells.iter().map(patch));
+    let edge = |Edge { from, to, conductance }: &Edge| {
+        format!("edge {from} {to} {:#018x}", conductance.to_bits())
+    };
+    list("edges", net.edges.iter().map(edge));
     println!("}}");
 }
 

@@ -65,7 +65,7 @@ impl Settings<'_> {
     /// The layer list as the original takes it.
     pub fn layers_to_original(&self) -> BTreeMap<String, f64> {
         let entries = self.layers.iter();
-        entries.map(|&(layer, cell)| (layer_name(i64::from(layer)), metres(cell))).collect()
+        entries.map(|&(layer, cell)| (layer_name(layer), metres(cell))).collect()
     }
 
     /// The cell size of a layer: its own, or the target where that is 0 or not listed.

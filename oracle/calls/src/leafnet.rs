@@ -4,7 +4,7 @@
 use crate::build::build;
 use crate::even::balance;
 use crate::limits::{LAYER_ENTRIES, POLYGONS, RING_POINTS};
-use crate::net::Net;
+use crate::net::{Edge, Net, Node};
 use crate::network::{network, NetRoom};
 use crate::outcome::{require, Answer};
 use crate::record::{read_record, Board, RecordRoom};
@@ -69,8 +69,7 @@ impl Meshed {
     }
 
     fn put(&self, text: &mut String) -> std::fmt::Result {
-        let nodes = self.net.nodes.len() / 4;
-        let edges = self.net.conductance.len();
+        let (nodes, edges) = (self.net.nodes.len(), self.net.edges.len());
         let (cells, leaves, splits) = (self.count, self.leaves.len(), self.splits);
         writeln!(
             text,
@@ -82,11 +81,11 @@ impl Meshed {
             let (polygon, level) = (leaf.polygon, leaf.level);
             writeln!(text, "leaf {id} {polygon} {level} {x0} {y0} {x1} {y1}")?;
         }
-        for (number, node) in self.net.nodes.chunks(4).enumerate() {
-            writeln!(text, "node {number} {} {} {} {}", node[0], node[1], node[2], node[3])?;
+        for (number, Node { layer, component, x, y }) in self.net.nodes.iter().enumerate() {
+            writeln!(text, "node {number} {layer} {component} {x} {y}")?;
         }
-        for (ends, conductance) in self.net.ends.chunks(2).zip(&self.net.conductance) {
-            writeln!(text, "edge {} {} {:016x}", ends[0], ends[1], conductance.to_bits())?;
+        for Edge { from, to, conductance } in &self.net.edges {
+            writeln!(text, "edge {from} {to} {:016x}", conductance.to_bits())?;
         }
         Ok(())
     }

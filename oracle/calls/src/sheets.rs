@@ -30,7 +30,7 @@ impl Sheets<'_> {
     pub fn to_original(&self, polygon: usize, ring: &[TickPoint]) -> SheetPolygon {
         let points: Vec<Point> = to_points(ring);
         SheetPolygon {
-            physical: layer_name(i64::from(self.layer[polygon])),
+            physical: layer_name(self.layer[polygon]),
             points,
             component: self.component[polygon] as usize,
             r_sheet: self.r_sheet[polygon],
@@ -39,6 +39,6 @@ impl Sheets<'_> {
 }
 
 /// The original knows layers by their text.
-pub fn layer_name(layer: i64) -> String {
+pub fn layer_name(layer: u16) -> String {
     layer.to_string()
 }

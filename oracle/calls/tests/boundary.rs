@@ -92,6 +92,6 @@ fn p8_power_of_one_cell() {
     board.push_polygon(1, 0, 1.0, &square(0, 0, 4));
     let net = net_of(&board, &mesh(&board, 1));
     let mut out = [7.0; 2];
-    assert_eq!(cell_power(&net.rows(), &[0.0, 1.0, 1.0, 0.0], &mut out), Ok(1));
+    assert_eq!(cell_power(&net, &[0.0, 1.0, 1.0, 0.0], &mut out), Ok(1));
     assert_eq!(out, [1.0, 7.0]);
 }

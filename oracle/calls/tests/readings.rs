@@ -4,6 +4,7 @@ mod common;
 
 use calls::checks::{check_by_layer, check_network_conforming};
 use calls::even::balance;
+use calls::net::{Edge, Net, Node};
 use calls::strips::{strips, strips_by_the_words};
 use calls::table::{leaf_order, refine, Slot};
 use common::{board, mesh, net_of, square, Table};
@@ -38,7 +39,7 @@ fn leaf_order_is_a_sort() {
 }
 
 /// Two squares of one layer and component, one tick apart in height.
-fn odd_squares() -> (calls::record::Board, calls::net::Net) {
+fn odd_squares() -> (calls::record::Board, Net) {
     let mut board = board(0, 2);
     board.push_polygon(1, 0, 1.0, &square(0, 0, 2));
     board.push_polygon(1, 0, 1.0, &[[0, 1], [2, 1], [2, 3], [0, 3]]);
@@ -46,24 +47,28 @@ fn odd_squares() -> (calls::record::Board, calls::net::Net) {
     (board, net)
 }
 
-fn conductance_of(net: &calls::net::Net, a: u64, b: u64) -> Vec<f64> {
-    let edges = net.ends.chunks(2).zip(&net.conductance);
-    edges.filter(|(ends, _)| ends == &[a, b]).map(|(_, &g)| g).collect()
+fn conductance_of(net: &Net, from: usize, to: usize) -> Vec<f64> {
+    let edges = net.edges.iter().filter(|edge| edge.ends() == [from, to]);
+    edges.map(|edge| edge.conductance).collect()
+}
+
+/// A node of layer 1 and component 0.
+fn node(x: i64, y: i64) -> Node {
+    Node { layer: 1, component: 0, x, y }
 }
 
 #[test]
 fn extents_are_whole_numbers_of_half_ticks() {
     let (_, net) = odd_squares();
-    assert_eq!(net.nodes.len(), 4 * 8);
-    assert_eq!(net.ends[..2], [0, 1]);
-    assert_eq!(net.conductance[0], 0.25);
+    assert_eq!(net.nodes.len(), 8);
+    assert_eq!(net.edges[0], Edge { from: 0, to: 1, conductance: 0.25 });
 }
 
 /// Node 4 stands at (0, 1), the middle of the first square's west edge, but comes later.
 #[test]
 fn a_later_polygons_node_leaves_an_earlier_edge_whole() {
     let (_, net) = odd_squares();
-    assert_eq!(net.nodes[4 * 4..4 * 4 + 4], [1, 0, 0, 1]);
+    assert_eq!(net.nodes[4], node(0, 1));
     assert_eq!(conductance_of(&net, 0, 3).len(), 1);
     assert!(conductance_of(&net, 0, 4).is_empty());
 }
@@ -72,7 +77,7 @@ fn a_later_polygons_node_leaves_an_earlier_edge_whole() {
 #[test]
 fn a_half_that_is_no_cells_side_keeps_its_first_conductance() {
     let (_, net) = odd_squares();
-    assert_eq!(net.nodes[3 * 4..3 * 4 + 4], [1, 0, 0, 2]);
+    assert_eq!(net.nodes[3], node(0, 2));
     assert_eq!(conductance_of(&net, 4, 3), [1.0 / 0.5]);
     assert_eq!(conductance_of(&net, 3, 7), [1.0 / 0.5]);
 }
@@ -96,8 +101,10 @@ fn two_components_at_one_place_take_extents_from_each_other() {
     board.push_polygon(1, 0, 1.0, &square(0, 0, 2));
     board.push_polygon(1, 1, 1.0, &square(0, 0, 2));
     let net = net_of(&board, &mesh(&board, 2));
-    assert_eq!(net.ends, [0, 1, 3, 2, 0, 3, 1, 2, 4, 5, 7, 6, 4, 7, 5, 6]);
-    assert_eq!(net.conductance, [1.0, 0.5, 1.0, 0.5, 0.5, 1.0, 0.5, 1.0]);
+    let ends = [[0, 1], [3, 2], [0, 3], [1, 2], [4, 5], [7, 6], [4, 7], [5, 6]];
+    assert!(net.edges.iter().map(Edge::ends).eq(ends));
+    let conductances = [1.0, 0.5, 1.0, 0.5, 0.5, 1.0, 0.5, 1.0];
+    assert!(net.edges.iter().map(|edge| edge.conductance).eq(conductances));
 }
 
 /// The same, with a third square that has the first one's nodes: a pair emitted twice has the first
@@ -119,7 +126,7 @@ fn components_reach_to_32_bits() {
     let mut board = board(0, 4);
     board.push_polygon(65_535, u32::MAX, 1.0, &square(0, 0, 4));
     let net = net_of(&board, &mesh(&board, 1));
-    assert_eq!(net.nodes[..4], [65_535, 4_294_967_295, 0, 0]);
+    assert_eq!(net.nodes[0], Node { layer: 65_535, component: u32::MAX, x: 0, y: 0 });
 }
 
 /// A split square under a whole one of another layer: the net is sound, yet the original names an
@@ -133,9 +140,9 @@ fn the_originals_check_mixes_layers_and_the_by_layer_check_does_not() {
     let table = mesh(&board, 6);
     let net = net_of(&board, &table);
     let (row, count) = (&table.row, table.count);
-    let named = check_network_conforming(row, count, 1, &net.rows()).expect("sound");
+    let named = check_network_conforming(row, count, 1, &net).expect("sound");
     assert!(named.is_some());
-    assert_eq!(check_by_layer(row, count, 1, &board.sheets(), &net.rows()), Ok(None));
+    assert_eq!(check_by_layer(row, count, 1, &board.sheets(), &net), Ok(None));
 }
 
 /// A ring whose one band has the given crossings, in pairs of up and down strokes.

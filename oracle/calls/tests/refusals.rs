@@ -6,7 +6,7 @@ use calls::build::{build, Outlines, Settings};
 use calls::checks::{check_by_layer, check_network_conforming};
 use calls::contact::contact;
 use calls::even::{balance, conform};
-use calls::net::{Net, NetRows};
+use calls::net::{Cell, Edge, Net};
 use calls::network::{network, NetRoom};
 use calls::power::cell_power;
 use calls::record::Board;
@@ -278,18 +278,17 @@ fn sound_net() -> (Board, Table, Net) {
 /// All ways to spoil a net that docs/RULES.md lists.
 fn spoiled() -> Vec<Net> {
     let (_, _, net) = sound_net();
-    let changes: [fn(&mut Net); 11] = [
-        |net| net.nodes.push(0),
-        |net| net.ends.push(0),
-        |net| net.conductance.push(1.0),
-        |net| net.corners.truncate(7),
-        |net| net.r_sheet.push(1.0),
-        |net| net.nodes[2] = -LIMIT - 1,
-        |net| net.nodes[4 * 5 + 3] = LIMIT + 1,
-        |net| net.ends[3] = 6,
-        |net| net.corners[7] = 6,
-        |net| net.corners.swap(1, 3),
-        |net| net.nodes[2] = 1,
+    let changes: [fn(&mut Net); 10] = [
+        |net| net.nodes.truncate(5),
+        |net| net.edges.push(Edge { from: 6, ..Edge::default() }),
+        |net| net.cells.push(Cell::default()),
+        |net| net.nodes[0].x = -LIMIT - 1,
+        |net| net.nodes[5].y = LIMIT + 1,
+        |net| net.edges[1].to = 6,
+        |net| net.cells[1].corners[3] = 6,
+        |net| net.cells[0].corners.swap(1, 3),
+        |net| net.nodes[0].x = 1,
+        |net| net.nodes[2].y = 0,
     ];
     let spoil = |change: &fn(&mut Net)| {
         let mut copy = net.clone();
@@ -302,8 +301,8 @@ fn spoiled() -> Vec<Net> {
 #[test]
 fn power_and_the_checks_refuse_a_bad_net() {
     let (board, table, net) = sound_net();
-    assert_eq!(net.nodes.len(), 4 * 6);
-    let ask = |net: &NetRows| {
+    assert_eq!(net.nodes.len(), 6);
+    let ask = |net: &Net| {
         let (row, count, max_level) = (&table.row, table.count, table.max_level);
         (
             cell_power(net, &[0.0; 6], &mut [0.0; 3]),
@@ -311,9 +310,9 @@ fn power_and_the_checks_refuse_a_bad_net() {
             check_by_layer(row, count, max_level, &board.sheets(), net),
         )
     };
-    assert_eq!(ask(&net.rows()), (Ok(2), Ok(None), Ok(None)));
+    assert_eq!(ask(&net), (Ok(2), Ok(None), Ok(None)));
     for bad in spoiled() {
-        assert_eq!(ask(&bad.rows()), (refused(7, 0), refused(7, 0), refused(7, 0)), "{bad:?}");
+        assert_eq!(ask(&bad), (refused(7, 0), refused(7, 0), refused(7, 0)), "{bad:?}");
     }
 }
 
@@ -323,11 +322,11 @@ fn the_checks_refuse_a_bad_table_and_by_layer_an_unknown_polygon() {
     let one = Sheets { layer: &[1], component: &[0], r_sheet: &[1.0] };
     let unequal = Sheets { r_sheet: &[1.0], ..board.sheets() };
     for sheets in [one, unequal] {
-        assert_eq!(check_by_layer(&table.row, 2, 1, &sheets, &net.rows()), refused(7, 0));
+        assert_eq!(check_by_layer(&table.row, 2, 1, &sheets, &net), refused(7, 0));
     }
     table.row[0] = 1;
-    assert_eq!(check_network_conforming(&table.row, 2, 1, &net.rows()), refused(7, 0));
-    assert_eq!(check_by_layer(&table.row, 2, 1, &board.sheets(), &net.rows()), refused(7, 0));
+    assert_eq!(check_network_conforming(&table.row, 2, 1, &net), refused(7, 0));
+    assert_eq!(check_by_layer(&table.row, 2, 1, &board.sheets(), &net), refused(7, 0));
 }
 
 #[test]
@@ -337,7 +336,7 @@ fn power_refuses_7_3_6() {
     let limit = 1_048_576.0;
     let ask = |net: &Net, potentials: &[f64], answers: usize| {
         let mut out = vec![7.0; answers];
-        let answer = cell_power(&net.rows(), potentials, &mut out);
+        let answer = cell_power(net, potentials, &mut out);
         assert!(answer.is_ok() || out.iter().all(|&watts| watts == 7.0));
         answer
     };
@@ -347,9 +346,9 @@ fn power_refuses_7_3_6() {
     for volts in [f64::NAN, f64::INFINITY, limit + 0.5, -limit - 0.5] {
         assert_eq!(ask(&net, &[0.0, 0.0, 0.0, 0.0, 0.0, volts], 1), refused(3, 0));
     }
-    net.r_sheet[1] = 0.0;
+    net.cells[1].r_sheet = 0.0;
     assert_eq!(ask(&net, &zeros, 1), refused(3, 0));
-    net.corners[0] = 6;
+    net.cells[0].corners[0] = 6;
     assert_eq!(ask(&net, &zeros[1..], 1), refused(7, 0));
 }
 

@@ -3,6 +3,7 @@
 mod common;
 
 use calls::leafnet::leafnet;
+use calls::net::{Cell, Edge, Node};
 use calls::record::{read_record, write_record};
 use common::{mesh, net_of, wide_room, worked_board};
 
@@ -56,11 +57,11 @@ fn its_table_is_one_root() {
 fn its_net_has_the_printed_nodes_edges_and_bits() {
     let board = worked_board();
     let net = net_of(&board, &mesh(&board, 1));
-    assert_eq!(net.nodes, [1, 0, 0, 0, 1, 0, 4, 0, 1, 0, 4, 4, 1, 0, 0, 4]);
-    assert_eq!(net.ends, [0, 1, 3, 2, 0, 3, 1, 2]);
-    let bits: Vec<u64> = net.conductance.iter().map(|g| g.to_bits()).collect();
-    assert_eq!(bits, [0x3fe0_0000_0000_0000; 4]);
-    assert_eq!((net.corners, net.r_sheet), (vec![0, 1, 2, 3], vec![1.0]));
+    let node = |[x, y]: [i64; 2]| Node { layer: 1, component: 0, x, y };
+    assert_eq!(net.nodes, [[0, 0], [4, 0], [4, 4], [0, 4]].map(node));
+    let edge = |[from, to]: [usize; 2]| Edge { from, to, conductance: 0.5 };
+    assert_eq!(net.edges, [[0, 1], [3, 2], [0, 3], [1, 2]].map(edge));
+    assert_eq!(net.cells, [Cell { corners: [0, 1, 2, 3], r_sheet: 1.0 }]);
 }
 
 #[test]

@@ -1,7 +1,7 @@
 //! The two checks: the original's, and the by-layer check against this folder's own reading of
 //! docs/RULES.md.
 
-use crate::port::{checks as port, outcome_of};
+use crate::port::{checks as port, lent, outcome_of};
 use crate::report::Report;
 use crate::rows::{difference, shown, unused};
 use calls::checks::{check_by_layer, check_network_conforming, Hanging};
@@ -21,7 +21,8 @@ const WORK_A_NODE: usize = 9;
 const WORK_AN_EDGE: usize = 3;
 /// More than any walk asks for, a cell of the table and a node or edge of the net.
 const PLENTY_A_CELL: usize = 200;
-const PLENTY: usize = 16;
+const PLENTY_A_NODE: usize = 64;
+const PLENTY_AN_EDGE: usize = 32;
 const LARGE_MESHES: usize = 6;
 const FAULTY_ONE_IN: u64 = 8;
 /// How often a boundary net is changed.
@@ -67,13 +68,14 @@ fn net_of(mesh: &Mesh) -> Net {
 
 /// None, one short of what the port asks for, exactly that, a few more, plenty.
 fn rooms(mesh: &Mesh, net: &Net) -> [usize; 5] {
-    let (nodes, edges) = (net.nodes.len() / 4, net.ends.len() / 2);
-    let need = WORK_A_NODE * nodes + WORK_AN_EDGE * edges;
+    let need = WORK_A_NODE * net.nodes.len() + WORK_AN_EDGE * net.edges.len();
     [0, need.saturating_sub(1), need, need + 5, plenty(mesh, net)]
 }
 
 fn plenty(mesh: &Mesh, net: &Net) -> usize {
-    PLENTY_A_CELL * mesh.table.slots() + PLENTY * (net.nodes.len() + net.ends.len())
+    PLENTY_A_CELL * mesh.table.slots()
+        + PLENTY_A_NODE * net.nodes.len()
+        + PLENTY_AN_EDGE * net.edges.len()
 }
 
 /// Polygons as the by-layer check is lent them: it takes no sheet resistances.
@@ -81,13 +83,16 @@ fn by_layer(mesh: &Mesh, net: &Net) -> Answer<Option<Hanging>> {
     let table = &mesh.table;
     let r_sheet = vec![1.0; mesh.layers.len()];
     let sheets = Sheets { layer: &mesh.layers, component: &mesh.components, r_sheet: &r_sheet };
-    check_by_layer(&table.row, table.count, table.max_level, &sheets, &net.rows())
+    check_by_layer(&table.row, table.count, table.max_level, &sheets, net)
 }
 
 fn expected_outcome(answer: Answer<Option<Hanging>>) -> CheckOutcome {
     let none = CheckOutcome::default();
     match answer {
-        Ok(Some(Hanging { node, from, to })) => CheckOutcome { broken: 1, node, from, to, ..none },
+        Ok(Some(Hanging { node, from, to })) => {
+            let [node, from, to] = [node, from, to].map(|node| node as u64);
+            CheckOutcome { broken: 1, node, from, to, ..none }
+        }
         Ok(None) => none,
         Err(refusal) => CheckOutcome { number: refusal.number, place: refusal.place, ..none },
     }
@@ -177,17 +182,17 @@ impl Reports {
 
     /// Both checks in a work room of this length.
     fn run(&mut self, mesh: &Mesh, net: &Net, room: usize) {
-        let (table, rows) = (&mesh.table, net.rows());
+        let (table, lent) = (&mesh.table, lent(net));
         let mut work = Work::of_length(room);
-        let answer = check_network_conforming(&table.row, table.count, table.max_level, &rows);
-        let got = port::check_network_conforming(table, &rows, &mut work.after);
+        let answer = check_network_conforming(&table.row, table.count, table.max_level, net);
+        let got = port::check_network_conforming(table, lent.rows(), &mut work.after);
         self.count_work(answer.is_ok(), &work);
         judge(&mut self.network, (mesh, net), answer, got, &work);
 
         let mut work = Work::of_length(room);
         let answer = by_layer(mesh, net);
         let (layers, components) = (&mesh.layers, &mesh.components);
-        let got = port::check_by_layer(table, &rows, layers, components, &mut work.after);
+        let got = port::check_by_layer(table, lent.rows(), layers, components, &mut work.after);
         self.count_work(answer.is_ok(), &work);
         judge(&mut self.by_layer, (mesh, net), answer, got, &work);
     }
@@ -227,7 +232,7 @@ fn judge(
         };
         let (words, room) = (input_words(mesh, net), work.after.len());
         let words = format!("{words}, room {room}; {about}original {expected:?}, port {got:?}");
-        ((mesh.table.row.len() + net.nodes.len() + net.ends.len()) as u128, words)
+        ((mesh.table.row.len() + net.nodes.len() + net.edges.len()) as u128, words)
     });
 }
 
@@ -246,17 +251,14 @@ fn split_on(mesh: &mut Mesh, random: &mut Random) {
 
 fn input_words(mesh: &Mesh, net: &Net) -> String {
     format!(
-        "max_level {}, count {}, table {}, layers {}, components {}, nodes {}, ends {}, \
-         conductances {}, corners {}, sheets {}",
+        "max_level {}, count {}, table {}, layers {}, components {}, nodes {}, edges {}, cells {}",
         mesh.table.max_level,
         mesh.table.count,
         shown(&mesh.table.row),
         shown(&mesh.layers),
         shown(&mesh.components),
         shown(&net.nodes),
-        shown(&net.ends),
-        net.conductance.len(),
-        shown(&net.corners),
-        net.r_sheet.len()
+        shown(&net.edges),
+        shown(&net.cells)
     )
 }

@@ -70,11 +70,11 @@ impl Tally {
             got.stdout == expected.as_bytes() && got.stderr.is_empty() && got.status.success();
         if let Ok(meshed) = &answer {
             self.accepted += 1;
-            self.hanging += u64::from(meshed.net.rows().has_hanging_nodes());
+            self.hanging += u64::from(meshed.net.has_hanging_nodes());
             self.balanced += u64::from(meshed.splits > 0);
         }
         // What is counted as a value is whether there are cells.
-        let value = answer.map(|meshed| meshed.net.rows().cell_count() as u64);
+        let value = answer.map(|meshed| meshed.net.cells.len() as u64);
         self.report.ran(outcome_of(value), same, || {
             let words = format!("{}; {}", hex(input), first_difference(&expected, &got));
             (input.len() as u128, words)

@@ -1,17 +1,18 @@
 //! The network: nodes, edges, cells and conductances of a table's leaves.
 
 use crate::port::network::{self as port, Rows};
-use crate::port::outcome_of;
+use crate::port::{lent, outcome_of};
 use crate::report::Report;
-use crate::rows::{bits, difference, put, shown, unused};
+use crate::rows::{cell_bits, difference, edge_bits, put, shown, unused};
 use calls::net::Net;
-use calls::network::{network_in_rows, NetLengths, NetRoom};
+use calls::network::{network, NetRoom};
 use calls::Answer;
 use inputs::large_meshes::{large_mesh, LARGE};
 use inputs::mesh_faults::put_fault;
 use inputs::meshes::{any_mesh, boundary_meshes, Mesh};
 use inputs::Random;
 use leafmesh::ffi::NetOutcome;
+use leafmesh::{Cell, Edge, Node};
 
 /// Meshes of thousands of leaves, beside those that are asked for.
 const LARGE_MESHES: usize = 20;
@@ -49,13 +50,8 @@ pub fn compare(count: u64, seed: u64) -> bool {
     tally.print()
 }
 
-/// Exactly what so many leaves ask for.
-fn exact_room(leaves: usize) -> NetLengths {
-    NetLengths::of(&NetRoom::for_leaves(leaves))
-}
-
-/// Exact, or a few rows more.
-fn any_room(leaves: usize, random: &mut Random) -> NetLengths {
+/// Exactly what so many leaves ask for, or more of some.
+fn any_room(leaves: usize, random: &mut Random) -> NetRoom {
     let mut room = NetRoom::for_leaves(leaves);
     if random.one_in(3) {
         room.nodes += random.index(4);
@@ -63,56 +59,48 @@ fn any_room(leaves: usize, random: &mut Random) -> NetLengths {
         room.cells += random.index(4);
         room.work += random.index(99);
     }
-    NetLengths::of(&room)
+    room
 }
 
 /// One node, edge, cell or work number short, or all of them.
-fn short_rooms(leaves: usize) -> Vec<NetLengths> {
-    let changes: [fn(&mut NetRoom); 5] = [
-        |room| room.nodes = room.nodes.saturating_sub(1),
-        |room| room.edges = room.edges.saturating_sub(1),
-        |room| room.cells = room.cells.saturating_sub(1),
-        |room| room.work = room.work.saturating_sub(1),
-        |room| *room = NetRoom::for_leaves(0),
-    ];
-    let short = |change: fn(&mut NetRoom)| {
-        let mut room = NetRoom::for_leaves(leaves);
-        change(&mut room);
-        NetLengths::of(&room)
-    };
-    changes.map(short).to_vec()
+fn short_rooms(leaves: usize) -> [NetRoom; 5] {
+    let room = NetRoom::for_leaves(leaves);
+    [
+        NetRoom { nodes: room.nodes.saturating_sub(1), ..room },
+        NetRoom { edges: room.edges.saturating_sub(1), ..room },
+        NetRoom { cells: room.cells.saturating_sub(1), ..room },
+        NetRoom { work: room.work.saturating_sub(1), ..room },
+        NetRoom::for_leaves(0),
+    ]
 }
 
-/// Each row by itself a few numbers shorter or longer. Where whole nodes come or go these are still
-/// rows of a net, otherwise none.
-fn unequal_rooms(leaves: usize) -> Vec<NetLengths> {
-    let rows: [fn(&mut NetLengths) -> &mut usize; 5] = [
-        |lengths| &mut lengths.nodes,
-        |lengths| &mut lengths.ends,
-        |lengths| &mut lengths.conductances,
-        |lengths| &mut lengths.corners,
-        |lengths| &mut lengths.sheets,
-    ];
-    let changed = |row: fn(&mut NetLengths) -> &mut usize, step: isize| {
-        let mut lengths = exact_room(leaves);
-        let length = row(&mut lengths);
-        *length = (*length as isize + step).max(0) as usize;
-        lengths
+/// Each row by itself, and all of them, a few entries shorter or longer.
+fn uneven_rooms(leaves: usize) -> Vec<NetRoom> {
+    let changed = |step: isize| {
+        let room = NetRoom::for_leaves(leaves);
+        let moved = |length: usize| (length as isize + step).max(0) as usize;
+        let [nodes, edges, cells, work] =
+            [room.nodes, room.edges, room.cells, room.work].map(moved);
+        [
+            NetRoom { nodes, ..room },
+            NetRoom { edges, ..room },
+            NetRoom { cells, ..room },
+            NetRoom { work, ..room },
+            NetRoom { nodes, edges, cells, work },
+        ]
     };
-    let steps = [-4, -1, 1, 2, 4];
-    rows.into_iter().flat_map(|row| steps.map(|step| changed(row, step))).collect()
+    [-4, -1, 1, 2, 4].into_iter().flat_map(changed).collect()
 }
 
 /// The original's answer, and what it leaves in the rows.
 fn original(mesh: &Mesh, rows: &mut Rows) -> Answer<Net> {
     let table = &mesh.table;
     let (row, count, max_level) = (&table.row, table.count, table.max_level);
-    let net = network_in_rows(row, count, max_level, &mesh.polygons(), &rows.lengths())?;
-    put(&mut rows.nodes, &net.nodes);
-    put(&mut rows.ends, &net.ends);
-    put(&mut rows.conductances, &net.conductance);
-    put(&mut rows.corners, &net.corners);
-    put(&mut rows.sheets, &net.r_sheet);
+    let net = network(row, count, max_level, &mesh.polygons(), &rows.room())?;
+    let made = lent(&net);
+    put(&mut rows.nodes, &made.nodes);
+    put(&mut rows.edges, &made.edges);
+    put(&mut rows.cells, &made.cells);
     rows.work.fill(0);
     Ok(net)
 }
@@ -120,9 +108,9 @@ fn original(mesh: &Mesh, rows: &mut Rows) -> Answer<Net> {
 fn expected_outcome(answer: &Answer<Net>) -> NetOutcome {
     match answer {
         Ok(net) => NetOutcome {
-            nodes: net.rows().node_count() as u64,
-            edges: net.conductance.len() as u64,
-            cells: net.rows().cell_count() as u64,
+            nodes: net.nodes.len() as u64,
+            edges: net.edges.len() as u64,
+            cells: net.cells.len() as u64,
             ..NetOutcome::default()
         },
         Err(refusal) => {
@@ -131,36 +119,33 @@ fn expected_outcome(answer: &Answer<Net>) -> NetOutcome {
     }
 }
 
-/// Rows with a number of their own at each place.
-fn unused_rows(lengths: &NetLengths) -> Rows {
+/// Rows with numbers of their own at each place.
+fn unused_rows(room: &NetRoom) -> Rows {
+    let node = |n: u64| Node { layer: n as u16, component: n as u32, x: n as i64, y: -(n as i64) };
+    let edge = |n: u64| Edge { from: n as usize, to: !n as usize, conductance: n as f64 };
+    let cell = |n: u64| Cell { corners: [n as usize; 4], sheet: -(n as f64) };
     Rows {
-        nodes: unused(lengths.nodes, |number| number as i64),
-        ends: unused(lengths.ends, |number| number),
-        conductances: unused(lengths.conductances, |number| number as f64),
-        corners: unused(lengths.corners, |number| number),
-        sheets: unused(lengths.sheets, |number| -(number as f64)),
-        work: unused(lengths.work, |number| number),
+        nodes: unused(room.nodes, node),
+        edges: unused(room.edges, edge),
+        cells: unused(room.cells, cell),
+        work: unused(room.work, |number| number),
     }
 }
 
 /// Where rows differ first, empty if nowhere.
 fn differences(rows: &Rows, port_rows: &Rows) -> String {
-    let fractions =
-        |row: &[f64], port_row: &[f64], name: &str| difference(name, &bits(row), &bits(port_row));
     [
-        difference("node number", &rows.nodes, &port_rows.nodes),
-        difference("end", &rows.ends, &port_rows.ends),
-        fractions(&rows.conductances, &port_rows.conductances, "conductance's bits"),
-        difference("corner", &rows.corners, &port_rows.corners),
-        fractions(&rows.sheets, &port_rows.sheets, "sheet's bits"),
+        difference("node", &rows.nodes, &port_rows.nodes),
+        difference("edge, with bits,", &edge_bits(&rows.edges), &edge_bits(&port_rows.edges)),
+        difference("cell, with bits,", &cell_bits(&rows.cells), &cell_bits(&port_rows.cells)),
         difference("work number", &rows.work, &port_rows.work),
     ]
     .concat()
 }
 
 impl Tally {
-    fn run(&mut self, mesh: &Mesh, lengths: &NetLengths) {
-        let mut rows = unused_rows(lengths);
+    fn run(&mut self, mesh: &Mesh, room: &NetRoom) {
+        let mut rows = unused_rows(room);
         let mut port_rows = rows.clone();
         let answer = original(mesh, &mut rows);
         let expected = expected_outcome(&answer);
@@ -169,46 +154,46 @@ impl Tally {
         let outcome = outcome_of(answer.as_ref().map(|_| expected.cells).map_err(|why| *why));
         self.report.ran(outcome, got == expected && differ.is_empty(), || {
             let words = format!(
-                "{}, {lengths:?}; {differ}original {expected:?}, port {got:?}",
+                "{}, {room:?}; {differ}original {expected:?}, port {got:?}",
                 mesh_words(mesh)
             );
             ((mesh.table.row.len() + mesh.layers.len()) as u128, words)
         });
         if let Ok(net) = answer {
             self.nets += 1;
-            self.hanging += u64::from(net.rows().has_hanging_nodes());
+            self.hanging += u64::from(net.has_hanging_nodes());
         }
     }
 
     fn run_in_rooms(&mut self, mesh: &Mesh) {
         let leaves = mesh.leaves();
-        self.run(mesh, &exact_room(leaves));
-        let rooms = [short_rooms(leaves), unequal_rooms(leaves)].concat();
-        rooms.iter().for_each(|lengths| self.run(mesh, lengths));
+        self.run(mesh, &NetRoom::for_leaves(leaves));
+        let rooms = short_rooms(leaves).into_iter().chain(uneven_rooms(leaves));
+        rooms.for_each(|room| self.run(mesh, &room));
     }
 
-    /// With a fault or two, in too little room, in rows that don't fit together, or several of these.
+    /// With a fault or two, in too little room, in rows of other lengths, or several of these.
     fn run_faulty(&mut self, mut mesh: Mesh, random: &mut Random) {
         let leaves = mesh.leaves();
-        let (short, unequal) = (short_rooms(leaves), unequal_rooms(leaves));
-        let [short, unequal] = [random.pick(&short), random.pick(&unequal)];
+        let short = random.pick(&short_rooms(leaves));
+        let uneven = random.pick(&uneven_rooms(leaves));
         let fits = any_room(leaves, random);
-        let lengths = match random.below(8) {
+        let room = match random.below(8) {
             0..=1 => return self.run(&mesh, &short),
-            2 => return self.run(&mesh, &unequal),
+            2 => return self.run(&mesh, &uneven),
             3 => short,
-            4 => unequal,
+            4 => uneven,
             _ => fits,
         };
         for _ in 0..random.pick(&[1, 1, 2]) {
             put_fault(&mut mesh, random);
         }
-        self.run(&mesh, &lengths);
+        self.run(&mesh, &room);
     }
 
     fn run_large(&mut self, mesh: &Mesh) {
         self.large += usize::from(LARGE.contains(&mesh.leaves()));
-        self.run(mesh, &exact_room(mesh.leaves()));
+        self.run(mesh, &NetRoom::for_leaves(mesh.leaves()));
     }
 
     /// Says what was run; true if nothing differed.

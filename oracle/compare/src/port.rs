@@ -7,12 +7,26 @@ pub mod network;
 use calls::contact::Rect;
 use calls::{Answer, Refusal};
 use leafmesh::ffi::{self, Outcome};
+use leafmesh::{Cell, Edge, Net, Node};
 
 /// An answer as the port's library hands it back.
 pub fn outcome_of(answer: Answer<u64>) -> Outcome {
     match answer {
         Ok(value) => Outcome { number: 0, place: 0, value },
         Err(Refusal { number, place }) => Outcome { number, place, value: 0 },
+    }
+}
+
+/// A net as the port is lent it.
+pub fn lent(net: &calls::net::Net) -> Net {
+    use calls::net as own;
+    let node = |&own::Node { layer, component, x, y }: &own::Node| Node { layer, component, x, y };
+    let edge = |&own::Edge { from, to, conductance }: &own::Edge| Edge { from, to, conductance };
+    let cell = |&own::Cell { corners, r_sheet }: &own::Cell| Cell { corners, sheet: r_sheet };
+    Net {
+        nodes: net.nodes.iter().map(node).collect(),
+        edges: net.edges.iter().map(edge).collect(),
+        cells: net.cells.iter().map(cell).collect(),
     }
 }
 
@@ -167,23 +181,19 @@ pub mod record {
 }
 
 pub mod power {
-    use calls::net::NetRows;
     use leafmesh::ffi::{self, Outcome};
+    use leafmesh::NetRows;
 
-    pub fn power(net: &NetRows, potentials: &[f64], answers: &mut [f64]) -> Outcome {
+    pub fn power(net: NetRows, potentials: &[f64], answers: &mut [f64]) -> Outcome {
         // SAFETY: each pointer comes with the length of its slice, which outlives the call.
         unsafe {
             ffi::leafmesh_power(
                 net.nodes.as_ptr(),
                 net.nodes.len(),
-                net.ends.as_ptr(),
-                net.ends.len(),
-                net.conductance.as_ptr(),
-                net.conductance.len(),
-                net.corners.as_ptr(),
-                net.corners.len(),
-                net.r_sheet.as_ptr(),
-                net.r_sheet.len(),
+                net.edges.as_ptr(),
+                net.edges.len(),
+                net.cells.as_ptr(),
+                net.cells.len(),
                 potentials.as_ptr(),
                 potentials.len(),
                 answers.as_mut_ptr(),

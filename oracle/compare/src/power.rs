@@ -1,10 +1,10 @@
 //! The power of a net's cells.
 
-use crate::port::{outcome_of, power as port};
+use crate::port::{lent, outcome_of, power as port};
 use crate::report::Report;
 use crate::rows::{bits, difference, shown, unused};
 use calls::limits::{COORDINATE, POTENTIAL};
-use calls::net::Net;
+use calls::net::{Cell, Edge, Net, Node};
 use calls::power::cell_power;
 use inputs::nets::{damage_net, every_damage, random_net, random_potentials, spoil_potentials};
 use inputs::Random;
@@ -17,8 +17,8 @@ pub fn compare(count: u64, seed: u64) -> bool {
     for net in boundary_nets() {
         run_sound(&net, &mut random, &mut report);
         for damaged in every_damage(&net) {
-            let potentials = random_potentials(&mut random, damaged.nodes.len() / 4);
-            run(&damaged, &potentials, damaged.r_sheet.len(), &mut report);
+            let potentials = random_potentials(&mut random, damaged.nodes.len());
+            run(&damaged, &potentials, damaged.cells.len(), &mut report);
         }
     }
     run_corners(&mut report);
@@ -35,27 +35,28 @@ fn boundary_nets() -> Vec<Net> {
     let far = COORDINATE;
     let p8 = net_of(&[[0, 0, 4, 4]]);
     let mut pair = net_of(&[[0, 0, 4, 4]]);
-    pair.nodes.extend([1, 0, 8, 0, 1, 0, 8, 4]);
-    pair.corners.extend([1, 4, 5, 2]);
-    pair.r_sheet.push(3.0);
-    let mut no_cell = p8.clone();
-    no_cell.corners.clear();
-    no_cell.r_sheet.clear();
+    pair.nodes.extend([node(8, 0), node(8, 4)]);
+    pair.cells.push(Cell { corners: [1, 4, 5, 2], r_sheet: 3.0 });
+    let no_cell = Net { cells: Vec::new(), ..p8.clone() };
     let wide = net_of(&[[-far, -far, far, far], [0, 0, 1, 1], [far - 1, -far, far, far]]);
     vec![p8, pair, wide, no_cell, Net::default()]
+}
+
+/// Of layer 1 and component 0.
+fn node(x: i64, y: i64) -> Node {
+    Node { layer: 1, component: 0, x, y }
 }
 
 /// Each cell with nodes and two edges of its own.
 fn net_of(cells: &[[i64; 4]]) -> Net {
     let mut net = Net::default();
     for &[x0, y0, x1, y1] in cells {
-        let first = net.nodes.len() as u64 / 4;
-        net.nodes
-            .extend([[x0, y0], [x1, y0], [x1, y1], [x0, y1]].map(|[x, y]| [1, 0, x, y]).concat());
-        net.ends.extend([first, first + 1, first + 3, first + 2]);
-        net.conductance.extend([0.5, 0.5]);
-        net.corners.extend([0, 1, 2, 3].map(|corner| first + corner));
-        net.r_sheet.push(1.0);
+        let corners = [0, 1, 2, 3].map(|corner| net.nodes.len() + corner);
+        let [sw, se, ne, nw] = corners;
+        net.nodes.extend([node(x0, y0), node(x1, y0), node(x1, y1), node(x0, y1)]);
+        net.edges.push(Edge { from: sw, to: se, conductance: 0.5 });
+        net.edges.push(Edge { from: nw, to: ne, conductance: 0.5 });
+        net.cells.push(Cell { corners, r_sheet: 1.0 });
     }
     net
 }
@@ -75,7 +76,7 @@ fn run_corners(report: &mut Report) {
 
 /// With potentials of two kinds, in rows for exactly its cells and in others.
 fn run_sound(net: &Net, random: &mut Random, report: &mut Report) {
-    let (nodes, cells) = (net.nodes.len() / 4, net.r_sheet.len());
+    let (nodes, cells) = (net.nodes.len(), net.cells.len());
     for room in [cells, random.pick(&[cells + 2, cells, cells.saturating_sub(1), 0])] {
         let potentials = random_potentials(random, nodes);
         run(net, &potentials, room, report);
@@ -84,7 +85,7 @@ fn run_sound(net: &Net, random: &mut Random, report: &mut Report) {
 
 /// Damage to the net, the potentials or both; the room may be short besides.
 fn run_spoiled(mut net: Net, random: &mut Random, report: &mut Report) {
-    let mut potentials = random_potentials(random, net.nodes.len() / 4);
+    let mut potentials = random_potentials(random, net.nodes.len());
     let what = random.below(8);
     if what < 6 {
         damage_net(&mut net, random);
@@ -92,7 +93,7 @@ fn run_spoiled(mut net: Net, random: &mut Random, report: &mut Report) {
     if what >= 5 {
         spoil_potentials(&mut potentials, random);
     }
-    let cells = net.r_sheet.len();
+    let cells = net.cells.len();
     let room = random.pick(&[cells, cells, cells + 1, cells.saturating_sub(1)]);
     run(&net, &potentials, room, report);
 }
@@ -101,9 +102,9 @@ fn run_spoiled(mut net: Net, random: &mut Random, report: &mut Report) {
 fn run(net: &Net, potentials: &[f64], room: usize, report: &mut Report) {
     let mut answers = unused(room, |number| number as f64);
     let mut port_answers = answers.clone();
-    let answer = cell_power(&net.rows(), potentials, &mut answers);
+    let answer = cell_power(net, potentials, &mut answers);
     let expected = outcome_of(answer.map(|_| 0));
-    let got = port::power(&net.rows(), potentials, &mut port_answers);
+    let got = port::power(lent(net).rows(), potentials, &mut port_answers);
     let (row, port_row) = (bits(&answers), bits(&port_answers));
     report.ran(outcome_of(answer), got == expected && port_row == row, || {
         let differ = difference("answer's bits", &row, &port_row);
@@ -117,12 +118,5 @@ fn run(net: &Net, potentials: &[f64], room: usize, report: &mut Report) {
 }
 
 fn net_words(net: &Net) -> String {
-    format!(
-        "nodes {}, ends {}, conductances {}, corners {}, sheets {}",
-        shown(&net.nodes),
-        shown(&net.ends),
-        shown(&net.conductance),
-        shown(&net.corners),
-        shown(&net.r_sheet)
-    )
+    format!("nodes {}, edges {}, cells {}", shown(&net.nodes), shown(&net.edges), shown(&net.cells))
 }

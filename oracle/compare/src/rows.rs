@@ -1,5 +1,6 @@
 //! Answer rows: what they hold before a call, and where two of them differ.
 
+use leafmesh::{Cell, Edge};
 use std::fmt::Debug;
 
 /// What a number of a row holds before the call, one of its own at each place.
@@ -18,6 +19,16 @@ pub fn put<T: Copy>(row: &mut [T], answers: &[T]) {
 /// The numbers of a row as bits, so that zeros of both signs differ and a NaN equals itself.
 pub fn bits(row: &[f64]) -> Vec<u64> {
     row.iter().map(|number| number.to_bits()).collect()
+}
+
+/// Edges with their conductances as bits.
+pub fn edge_bits(edges: &[Edge]) -> Vec<(usize, usize, u64)> {
+    edges.iter().map(|edge| (edge.from, edge.to, edge.conductance.to_bits())).collect()
+}
+
+/// Cells with their sheet resistances as bits.
+pub fn cell_bits(cells: &[Cell]) -> Vec<([usize; 4], u64)> {
+    cells.iter().map(|cell| (cell.corners, cell.sheet.to_bits())).collect()
 }
 
 /// Where two rows of one length differ first.

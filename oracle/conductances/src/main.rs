@@ -16,7 +16,7 @@ use calls::network::{network, NetRoom};
 use calls::sheets::Sheets;
 use calls::table::{leaf_count, refine};
 use calls::{Answer, Refusal};
-use leafmesh::{text, Mesh, OwnedNet, SLOT, SLOTS};
+use leafmesh::{text, Mesh, SLOT, SLOTS};
 use std::error::Error;
 use std::io::{stdout, Write};
 
@@ -47,26 +47,23 @@ fn main() -> Result<(), Box<dyn Error>> {
 fn held(
     words: &str,
     mesh: &Mesh,
-    made: &OwnedNet,
+    made: &leafmesh::Net,
     original: Answer<(Vec<i64>, Net)>,
 ) -> Result<usize, Box<dyn Error>> {
     let (table, net) = original.map_err(|Refusal { number, place }| {
         format!("{words}: the original's side refuses {number} {place}")
     })?;
-    let rows = made.net();
-    let bits = |row: &[f64]| -> Vec<u64> { row.iter().map(|number| number.to_bits()).collect() };
+    let nodes = net.nodes.iter().map(|n| (n.layer, n.component, n.x, n.y));
+    let edges = net.edges.iter().map(|e| (e.from, e.to, e.conductance.to_bits()));
+    let cells = net.cells.iter().map(|c| (c.corners, c.r_sheet.to_bits()));
     let same = table == mesh.table
-        && net.nodes == rows.nodes
-        && net.ends == rows.ends
-        && bits(&net.conductance) == bits(rows.conductances)
-        && net.corners == rows.corners
-        && bits(&net.r_sheet) == bits(rows.sheets);
+        && nodes.eq(made.nodes.iter().map(|n| (n.layer, n.component, n.x, n.y)))
+        && edges.eq(made.edges.iter().map(|e| (e.from, e.to, e.conductance.to_bits())))
+        && cells.eq(made.cells.iter().map(|c| (c.corners, c.sheet.to_bits())));
     if !same {
         return Err(format!("{words}: another net than the original's").into());
     }
-    let net = [net.nodes.len(), net.ends.len(), net.corners.len()].iter().sum::<usize>()
-        + net.conductance.len()
-        + net.r_sheet.len();
+    let net = 4 * net.nodes.len() + 3 * net.edges.len() + 5 * net.cells.len();
     Ok(SLOT * mesh.head.count + net)
 }
 

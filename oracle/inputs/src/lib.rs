@@ -3,7 +3,7 @@
 pub mod boards;
 pub mod damage;
 pub mod large_meshes;
-pub mod limit_nets;
+pub mod limit_plans;
 pub mod limit_records;
 pub mod limit_tables;
 pub mod long_rings;

@@ -6,7 +6,7 @@ use crate::random::Random;
 use crate::ring_faults::some_place;
 use calls::even::balance;
 use calls::limits::{COORDINATE, POTENTIAL, R_SHEET};
-use calls::net::Net;
+use calls::net::{Cell, Edge, Net, Node};
 use calls::network::{network, NetRoom};
 
 const SLOTS: usize = 120;
@@ -40,18 +40,18 @@ fn net_of_a_board(random: &mut Random) -> Option<Net> {
 /// Cells anywhere and of any size, each with nodes of its own.
 fn loose_net(random: &mut Random) -> Net {
     let mut net = Net::default();
-    for cell in 0..random.below(8) {
+    for cell in 0..random.index(8) {
         let [x0, x1] = span(random);
         let [y0, y1] = span(random);
-        let (layer, component) = (random.within(0, 65_535), random.within(0, 4_294_967_295));
-        for [x, y] in [[x0, y0], [x1, y0], [x1, y1], [x0, y1]] {
-            net.nodes.extend([layer, component, x, y]);
-        }
-        let first = 4 * cell;
-        net.ends.extend([first, first + 1, first + 3, first + 2]);
-        net.conductance.extend([1.0, f64::NAN]);
-        net.corners.extend([first, first + 1, first + 2, first + 3]);
-        net.r_sheet.push(any_sheet(random));
+        let layer = random.within(0, i64::from(u16::MAX)) as u16;
+        let component = random.within(0, i64::from(u32::MAX)) as u32;
+        let node = |(x, y)| Node { layer, component, x, y };
+        net.nodes.extend([(x0, y0), (x1, y0), (x1, y1), (x0, y1)].map(node));
+        let corners = [0, 1, 2, 3].map(|corner| 4 * cell + corner);
+        let [sw, se, ne, nw] = corners;
+        net.edges.push(Edge { from: sw, to: se, conductance: 1.0 });
+        net.edges.push(Edge { from: nw, to: ne, conductance: f64::NAN });
+        net.cells.push(Cell { corners, r_sheet: any_sheet(random) });
     }
     net
 }
@@ -136,72 +136,102 @@ pub fn spoil_potentials(potentials: &mut Vec<f64>, random: &mut Random) {
     }
 }
 
-/// One damage: a number, an end, a corner, a sheet resistance, or a row's length. Now and then it
-/// leaves a sound net.
+/// One damage: a node, an end, a corner, a sheet resistance, or one of them more or less. Now and then
+/// it leaves a sound net.
 pub fn damage_net(net: &mut Net, random: &mut Random) {
     match random.below(10) {
         0..=3 => damage_node(net, random),
-        4 => damage_name(&mut net.ends, random),
-        5..=6 => damage_name(&mut net.corners, random),
+        4 => damage_end(net, random),
+        5..=6 => damage_corner(net, random),
         7 => damage_sheet(net, random),
         8 => exchange_corners(net, random),
-        _ => damage_length(net, random),
+        _ => damage_count(net, random),
     }
 }
 
 fn damage_node(net: &mut Net, random: &mut Random) {
     if net.nodes.is_empty() {
-        return net.nodes.push(0);
+        return net.nodes.push(Node::default());
     }
     let at = some_place(random, net.nodes.len());
-    let choice = node_replacements(net.nodes[at]);
+    let node = net.nodes[at];
+    let choice = match random.below(4) {
+        0 => other_layers(node),
+        1 => other_components(node),
+        2 => other_places(node.x).map(|x| Node { x, ..node }).collect(),
+        _ => other_places(node.y).map(|y| Node { y, ..node }).collect(),
+    };
     net.nodes[at] = random.pick(&choice);
 }
 
-/// What a number of a node is replaced by: neighbours, limits, and what fewer bits would hide.
-fn node_replacements(number: i64) -> Vec<i64> {
-    let mut list: Vec<i64> =
-        [1, -1, 2, -2, 1 << 16, 1 << 32, i64::MIN].map(|off| number.wrapping_add(off)).to_vec();
-    list.extend([0, -1, 65_535, 65_536, 4_294_967_295, 4_294_967_296, number.wrapping_neg()]);
-    list.extend([COORDINATE, COORDINATE + 1, -COORDINATE, -COORDINATE - 1, i64::MIN, i64::MAX]);
-    list.retain(|&other| other != number);
-    list
+/// The node with each bit of its layer turned.
+fn other_layers(node: Node) -> Vec<Node> {
+    (0..u16::BITS).map(|bit| Node { layer: node.layer ^ 1 << bit, ..node }).collect()
 }
 
-/// An end or a corner names another node, or none.
-fn damage_name(names: &mut Vec<u64>, random: &mut Random) {
-    if names.is_empty() {
-        return names.push(0);
+/// The node with each bit of its component turned.
+fn other_components(node: Node) -> Vec<Node> {
+    (0..u32::BITS).map(|bit| Node { component: node.component ^ 1 << bit, ..node }).collect()
+}
+
+/// What a coordinate is replaced by: neighbours, limits, and what fewer bits would hide.
+fn other_places(number: i64) -> impl Iterator<Item = i64> {
+    let off = [1, -1, 2, -2, 1 << 16, 1 << 32, i64::MIN].map(|off| number.wrapping_add(off));
+    let limits = [COORDINATE, COORDINATE + 1, -COORDINATE, -COORDINATE - 1, i64::MIN, i64::MAX];
+    let all = off.into_iter().chain(limits).chain([0, -1, number.wrapping_neg()]);
+    all.filter(move |&other| other != number)
+}
+
+/// An end names another node, or none.
+fn damage_end(net: &mut Net, random: &mut Random) {
+    if net.edges.is_empty() {
+        return net.edges.push(Edge::default());
     }
-    let at = some_place(random, names.len());
-    let choice = name_replacements(names[at], names);
-    names[at] = random.pick(&choice);
+    let at = some_place(random, net.edges.len());
+    let Edge { from, to, conductance } = net.edges[at];
+    let choice = other_names(random.pick(&[from, to]), net.nodes.len());
+    let name = random.pick(&choice);
+    net.edges[at] = match random.below(2) {
+        0 => Edge { from: name, to, conductance },
+        _ => Edge { from, to: name, conductance },
+    };
 }
 
-fn name_replacements(name: u64, names: &[u64]) -> Vec<u64> {
-    let count = names.iter().max().map_or(0, |&most| most.saturating_add(1));
-    let hidden = [1 << 32 | name, 1 << 63 | name, 1 << 62 | name, u64::MAX, 4_294_967_295];
-    let mut list = vec![0, count / 2, count, count.saturating_sub(1), name ^ 1, name ^ 2];
+/// A corner names another node, or none.
+fn damage_corner(net: &mut Net, random: &mut Random) {
+    if net.cells.is_empty() {
+        return net.cells.push(Cell::default());
+    }
+    let (at, corner) = (some_place(random, net.cells.len()), random.index(4));
+    let choice = other_names(net.cells[at].corners[corner], net.nodes.len());
+    net.cells[at].corners[corner] = random.pick(&choice);
+}
+
+/// What a node's number is replaced by, of so many nodes: others, the first that isn't there, and what
+/// fewer bits would hide.
+fn other_names(name: usize, nodes: usize) -> Vec<usize> {
+    let hidden = [1 << 32 | name, 1 << 63 | name, 1 << 62 | name, usize::MAX, u32::MAX as usize];
+    let mut list = vec![0, nodes / 2, nodes, nodes.saturating_sub(1), name ^ 1, name ^ 2];
     list.extend(hidden);
     list.retain(|&other| other != name);
     list
 }
 
 fn damage_sheet(net: &mut Net, random: &mut Random) {
-    if net.r_sheet.is_empty() {
-        return net.r_sheet.push(1.0);
+    if net.cells.is_empty() {
+        return net.cells.push(Cell::default());
     }
-    let at = some_place(random, net.r_sheet.len());
-    net.r_sheet[at] = random.pick(&bad_sheets());
+    let at = some_place(random, net.cells.len());
+    net.cells[at].r_sheet = random.pick(&bad_sheets());
 }
 
 /// Two corners of a cell change places, or all of them move round by one.
 fn exchange_corners(net: &mut Net, random: &mut Random) {
-    if net.r_sheet.is_empty() || net.corners.len() != 4 * net.r_sheet.len() {
-        return damage_length(net, random);
+    if net.cells.is_empty() {
+        return damage_count(net, random);
     }
-    let cell = some_place(random, net.r_sheet.len());
-    let corners = &mut net.corners[4 * cell..4 * cell + 4];
+    let at = some_place(random, net.cells.len());
+    let corners = &mut net.cells[at].corners;
     if random.one_in(3) {
         corners.rotate_left(1 + random.index(3));
     } else {
@@ -209,19 +239,15 @@ fn exchange_corners(net: &mut Net, random: &mut Random) {
     }
 }
 
-/// One number less or more in one row.
-fn damage_length(net: &mut Net, random: &mut Random) {
-    match random.below(10) {
+/// A node, an edge or a cell more or less.
+fn damage_count(net: &mut Net, random: &mut Random) {
+    match random.below(6) {
         0 => drop(net.nodes.pop()),
-        1 => drop(net.ends.pop()),
-        2 => drop(net.conductance.pop()),
-        3 => drop(net.corners.pop()),
-        4 => drop(net.r_sheet.pop()),
-        5 => net.nodes.push(0),
-        6 => net.ends.push(0),
-        7 => net.conductance.push(1.0),
-        8 => net.corners.push(0),
-        _ => net.r_sheet.push(1.0),
+        1 => drop(net.edges.pop()),
+        2 => drop(net.cells.pop()),
+        3 => net.nodes.push(Node::default()),
+        4 => net.edges.push(Edge::default()),
+        _ => net.cells.push(Cell::default()),
     }
 }
 
@@ -233,19 +259,22 @@ pub fn every_damage(net: &Net) -> Vec<Net> {
         change(&mut damaged);
         list.push(damaged);
     };
-    for (at, &number) in net.nodes.iter().enumerate() {
-        node_replacements(number).iter().for_each(|&other| keep(&|net| net.nodes[at] = other));
+    for (at, &node) in net.nodes.iter().enumerate() {
+        other_layers(node).iter().for_each(|&other| keep(&|net| net.nodes[at] = other));
+        other_components(node).iter().for_each(|&other| keep(&|net| net.nodes[at] = other));
+        other_places(node.x).for_each(|x| keep(&|net| net.nodes[at].x = x));
+        other_places(node.y).for_each(|y| keep(&|net| net.nodes[at].y = y));
     }
-    for (at, &name) in net.ends.iter().enumerate() {
-        let choice = name_replacements(name, &net.corners);
-        choice.iter().for_each(|&other| keep(&|net| net.ends[at] = other));
+    let others = |name: usize| other_names(name, net.nodes.len()).into_iter();
+    for (at, edge) in net.edges.iter().enumerate() {
+        others(edge.from).for_each(|other| keep(&|net| net.edges[at].from = other));
+        others(edge.to).for_each(|other| keep(&|net| net.edges[at].to = other));
     }
-    for (at, &name) in net.corners.iter().enumerate() {
-        let choice = name_replacements(name, &net.corners);
-        choice.iter().for_each(|&other| keep(&|net| net.corners[at] = other));
-    }
-    for at in 0..net.r_sheet.len() {
-        bad_sheets().iter().for_each(|&other| keep(&|net| net.r_sheet[at] = other));
+    for (at, cell) in net.cells.iter().enumerate() {
+        for (corner, &name) in cell.corners.iter().enumerate() {
+            others(name).for_each(|other| keep(&|net| net.cells[at].corners[corner] = other));
+        }
+        bad_sheets().iter().for_each(|&ohms| keep(&|net| net.cells[at].r_sheet = ohms));
     }
     list
 }

@@ -134,18 +134,17 @@ fn meshes(seed: u64, wanted: usize) -> Vec<(Board, Table, Net)> {
 fn nets_keep_their_bounds() {
     let mut hanging = 0;
     for (_, table, net) in meshes(24, 2_000) {
-        let leaves = net.r_sheet.len();
-        assert!(net.nodes.len() / 4 <= 4 * leaves && net.conductance.len() <= 8 * leaves);
-        assert!(net.conductance.iter().all(|g| g.is_finite() && *g > 0.0));
+        let leaves = net.cells.len();
+        assert!(net.nodes.len() <= 4 * leaves && net.edges.len() <= 8 * leaves);
+        let mut conductances = net.edges.iter().map(|edge| edge.conductance);
+        assert!(conductances.all(|g| g.is_finite() && g > 0.0));
         let mut order = vec![0; leaves];
         let listed = leaf_order(&table.row, table.count, table.max_level, &mut order);
         assert_eq!(listed, Ok(leaves as u64));
-        for (id, cell) in order.iter().zip(net.corners.chunks(4)) {
+        for (id, cell) in order.iter().zip(&net.cells) {
             let [x0, y0, x1, y1] = table.slot(*id as usize).rect();
-            let rows = net.rows();
-            let places: Vec<[i64; 4]> = cell.iter().map(|&node| rows.node(node as usize)).collect();
-            let corners = [(x0, y0), (x1, y0), (x1, y1), (x0, y1)];
-            assert!(places.iter().zip(corners).all(|(node, (x, y))| node[2..] == [x, y]));
+            let places = cell.corners.map(|node| net.nodes[node].place());
+            assert_eq!(places, [[x0, y0], [x1, y0], [x1, y1], [x0, y1]]);
         }
         hanging += usize::from(has_level_steps(&table));
     }
@@ -168,23 +167,19 @@ fn the_checks_agree_where_there_is_one_polygon() {
             continue;
         }
         let mut damaged = net.clone();
-        if let edges @ 1.. = damaged.conductance.len() {
-            let gone = random.index(edges);
-            damaged.conductance.remove(gone);
-            damaged.ends.drain(2 * gone..2 * gone + 2);
+        if let edges @ 1.. = damaged.edges.len() {
+            damaged.edges.remove(random.index(edges));
         }
         for net in [&net, &damaged] {
-            let rows = net.rows();
             let (row, count, level) = (&table.row, table.count, table.max_level);
-            let by_layer = check_by_layer(row, count, level, &board.sheets(), &rows);
-            assert_eq!(check_network_conforming(row, count, level, &rows), by_layer);
+            let by_layer = check_by_layer(row, count, level, &board.sheets(), net);
+            assert_eq!(check_network_conforming(row, count, level, net), by_layer);
             match by_layer.expect("both are sound") {
                 None => none += 1,
                 Some(_) => some += 1,
             }
         }
-        let whole =
-            check_by_layer(&table.row, table.count, table.max_level, &board.sheets(), &net.rows());
+        let whole = check_by_layer(&table.row, table.count, table.max_level, &board.sheets(), &net);
         assert_eq!(whole, Ok(None));
     }
     assert!(none > 500 && some > 50, "{none} {some}");
@@ -196,21 +191,19 @@ fn powers_are_those_of_the_formula() {
     let mut random = Random::new(27);
     let mut cells = 0;
     for (_, _, net) in meshes(28, 500) {
-        let rows = net.rows();
-        let potentials: Vec<f64> = (0..rows.node_count())
+        let potentials: Vec<f64> = (0..net.nodes.len())
             .map(|_| random.within(-1_000_000, 1_000_000) as f64 / random.within(1, 999) as f64)
             .map(|volts| volts.clamp(-1e6, 1e6))
             .collect();
-        let mut out = vec![0.0; rows.cell_count()];
-        assert_eq!(cell_power(&rows, &potentials, &mut out), Ok(out.len() as u64));
-        for (cell, power) in out.iter().enumerate() {
-            let corner = |k: usize| net.corners[4 * cell + k] as usize;
-            let u = |k: usize| potentials[corner(k)];
-            let dx = metres(rows.node(corner(1))[2] - rows.node(corner(0))[2]);
-            let dy = metres(rows.node(corner(3))[3] - rows.node(corner(0))[3]);
+        let mut out = vec![0.0; net.cells.len()];
+        assert_eq!(cell_power(&net, &potentials, &mut out), Ok(out.len() as u64));
+        for (cell, power) in net.cells.iter().zip(&out) {
+            let u = |corner: usize| potentials[cell.corners[corner]];
+            let [sw, se, _, nw] = cell.corners.map(|node| net.nodes[node]);
+            let (dx, dy) = (metres(se.x - sw.x), metres(nw.y - sw.y));
             let gx = ((u(1) + u(2)) - (u(0) + u(3))) / (2.0 * dx);
             let gy = ((u(2) + u(3)) - (u(0) + u(1))) / (2.0 * dy);
-            let expected = (((gx * gx + gy * gy) * dx) * dy) / net.r_sheet[cell];
+            let expected = (((gx * gx + gy * gy) * dx) * dy) / cell.r_sheet;
             assert_eq!(power.to_bits(), expected.to_bits());
             cells += 1;
         }

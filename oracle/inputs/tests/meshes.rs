@@ -29,7 +29,7 @@ fn more_than_a_third_of_the_nets_have_hanging_nodes() {
         let mesh = any_mesh(&mut random);
         assert!(is_well_formed(&mesh), "{mesh:?}");
         let net = mesh.net().expect("a sound mesh has a net");
-        let hangs = net.rows().has_hanging_nodes();
+        let hangs = net.has_hanging_nodes();
         hanging += usize::from(hangs);
         deepest += usize::from(hangs && finest(&mesh) == 12);
         layered += usize::from(mesh.layers.iter().any(|layer| *layer != mesh.layers[0]));
@@ -47,8 +47,8 @@ fn boundary_meshes_have_nets() {
 
 /// Odd gaps give halves of a tick; where faces are 0 a conductance stays 1 / r.
 #[test]
-fn squares_over_each_other_have_the_edges_of_the_readings() {
-    let first = |mesh: &Mesh| mesh.net().expect("it is sound").conductance[0];
+fn squares_over_each_other_have_the_edges_of_both() {
+    let first = |mesh: &Mesh| mesh.net().expect("it is sound").edges[0].conductance;
     let meshes = boundary_meshes();
     assert_eq!([first(&meshes[2]), first(&meshes[4]), first(&meshes[5])], [0.25, 1.0, 1.0]);
     assert_eq!(first(&meshes[6]), 0.5);
@@ -93,9 +93,8 @@ fn changed_nets_give_the_checks_something_to_find() {
         let mut net = mesh.net().expect("a sound mesh has a net");
         change_net(&mut net, &mut random);
         let (row, count, level) = (&mesh.table.row, mesh.table.count, mesh.table.max_level);
-        let rows = net.rows();
-        let checked = check_network_conforming(row, count, level, &rows);
-        let layered = check_by_layer(row, count, level, &mesh.polygons(), &rows);
+        let checked = check_network_conforming(row, count, level, &net);
+        let layered = check_by_layer(row, count, level, &mesh.polygons(), &net);
         sound += usize::from(checked.is_ok());
         broken += usize::from(matches!(checked, Ok(Some(_))));
         by_layer += usize::from(matches!(layered, Ok(Some(_))));

@@ -21,7 +21,7 @@ fn most_random_records_are_meshed_and_all_refusals_met() {
     for _ in 0..RECORDS {
         match mesh(&random_whole_record(&mut random)) {
             Ok(meshed) => {
-                hanging += usize::from(meshed.net.rows().has_hanging_nodes());
+                hanging += usize::from(meshed.net.has_hanging_nodes());
                 split += usize::from(meshed.splits > 0);
             }
             Err(refusal) => refused[refusal.number as usize] += 1,

@@ -1,18 +1,19 @@
 //! Power, the two checks and network, on nets of at most 64 nodes or so.
 
+use crate::limit_nets::{limit_nets, NetCase};
+use crate::loose::{NetLengths, Rows};
 use crate::replay::{class, Case, Replay};
 use calls::checks::{check_by_layer, check_network_conforming, Hanging};
 use calls::net::Net;
-use calls::network::{network_in_rows, NetLengths};
+use calls::network::network;
 use calls::power::cell_power;
 use calls::sheets::Sheets;
 use calls::Answer;
 use inputs::damage::damage;
-use inputs::limit_nets::{limit_nets, NetCase};
 use inputs::mesh_faults::{add_too_many, drop_polygons, spoil_rows};
 use inputs::meshes::{any_mesh, boundary_meshes, Mesh};
-use inputs::net_changes::change_net;
-use inputs::nets::{damage_net, random_net, random_potentials, spoil_potentials};
+use inputs::net_changes::change_softly;
+use inputs::nets::{random_net, random_potentials, spoil_potentials};
 use inputs::Random;
 
 const POWER: u64 = 1;
@@ -49,12 +50,12 @@ pub fn replay(count: u64, random: &mut Random) -> Replay {
     for mesh in boundary_meshes() {
         let net = mesh.net().expect("a sound mesh has a net");
         run_power(&net, random, &mut replay);
-        run_checks(&mesh, &net, random, &mut replay);
+        run_checks(&mesh, &Rows::of(&net), random, &mut replay);
     }
     replay.draw();
     for _ in 0..DRAWS * count {
         let net = random_net(random);
-        if is_small(numbers(&net), random) {
+        if is_small(numbers(&Rows::of(&net)), random) {
             run_power(&net, random, &mut replay);
         }
         run_mesh(any_mesh(random), random, &mut replay);
@@ -77,38 +78,34 @@ fn run_network(lent: &NetCase, replay: &mut Replay) {
     case.fraction_row(&mesh.sheets);
     lend_net(&mut case, &rows);
     case.row(&work);
-    let answer =
-        network_in_rows(&table.row, table.count, table.max_level, &mesh.polygons(), lengths);
+    let answer = lengths.room().and_then(|room| {
+        network(&table.row, table.count, table.max_level, &mesh.polygons(), &room)
+    });
     if let Ok(net) = &answer {
-        rows.nodes[..net.nodes.len()].copy_from_slice(&net.nodes);
-        rows.ends[..net.ends.len()].copy_from_slice(&net.ends);
-        rows.conductance[..net.conductance.len()].copy_from_slice(&net.conductance);
-        rows.corners[..net.corners.len()].copy_from_slice(&net.corners);
-        rows.r_sheet[..net.r_sheet.len()].copy_from_slice(&net.r_sheet);
+        rows.put(net);
         work.fill(0);
     }
-    let counts = |net: Net| {
-        [net.nodes.len() / 4, net.conductance.len(), net.r_sheet.len()].map(|n| n as u64).to_vec()
-    };
+    let counts =
+        |net: Net| [net.nodes.len(), net.edges.len(), net.cells.len()].map(|n| n as u64).to_vec();
     let number = answer.as_ref().err().map_or(0, |why| why.number);
     case.answer("network", answer.map(counts));
     case.print(&rows.nodes);
     case.print(&rows.ends);
-    case.print_fractions(&rows.conductance);
+    case.print_fractions(&rows.conductances);
     case.print(&rows.corners);
-    case.print_fractions(&rows.r_sheet);
+    case.print_fractions(&rows.sheets);
     case.print_filled(&work);
     replay.offer(("network", number, 0), case);
 }
 
-fn unused(lengths: &NetLengths) -> Net {
+fn unused(lengths: &NetLengths) -> Rows {
     let place = |at: usize| SENTINEL + at as u64;
-    Net {
+    Rows {
         nodes: (0..lengths.nodes).map(|at| place(at) as i64).collect(),
         ends: (0..lengths.ends).map(place).collect(),
-        conductance: (0..lengths.conductances).map(|at| place(at) as f64).collect(),
+        conductances: (0..lengths.conductances).map(|at| place(at) as f64).collect(),
         corners: (0..lengths.corners).map(place).collect(),
-        r_sheet: (0..lengths.sheets).map(|at| place(at) as f64).collect(),
+        sheets: (0..lengths.sheets).map(|at| place(at) as f64).collect(),
     }
 }
 
@@ -117,31 +114,31 @@ fn is_small(numbers: usize, random: &mut Random) -> bool {
     numbers <= SMALL || random.one_in(LARGE_ONE_IN)
 }
 
-fn numbers(net: &Net) -> usize {
-    net.nodes.len() + net.ends.len() + net.corners.len()
+fn numbers(rows: &Rows) -> usize {
+    rows.nodes.len() + rows.ends.len() + rows.corners.len()
 }
 
-/// Whether the program has room for the net.
-fn fits(net: &Net) -> bool {
-    net.nodes.len() <= NODES
-        && net.ends.len() <= ENDS
-        && net.conductance.len() <= EDGES
-        && net.corners.len() <= CORNERS
-        && net.r_sheet.len() < CELLS
+/// Whether the program has room for the rows.
+fn fits(rows: &Rows) -> bool {
+    rows.nodes.len() <= NODES
+        && rows.ends.len() <= ENDS
+        && rows.conductances.len() <= EDGES
+        && rows.corners.len() <= CORNERS
+        && rows.sheets.len() < CELLS
 }
 
-fn lent(kind: u64, net: &Net) -> Case {
+fn lent(kind: u64, rows: &Rows) -> Case {
     let mut case = Case::of_kind(kind);
-    lend_net(&mut case, net);
+    lend_net(&mut case, rows);
     case
 }
 
-fn lend_net(case: &mut Case, net: &Net) {
-    case.signed_row(&net.nodes);
-    case.row(&net.ends);
-    case.fraction_row(&net.conductance);
-    case.row(&net.corners);
-    case.fraction_row(&net.r_sheet);
+fn lend_net(case: &mut Case, rows: &Rows) {
+    case.signed_row(&rows.nodes);
+    case.row(&rows.ends);
+    case.fraction_row(&rows.conductances);
+    case.row(&rows.corners);
+    case.fraction_row(&rows.sheets);
 }
 
 fn lend_polygons(case: &mut Case, mesh: &Mesh) {
@@ -152,25 +149,25 @@ fn lend_polygons(case: &mut Case, mesh: &Mesh) {
 /// Sound, with a damaged net, with bad potentials, in too little room; what was done to it is part
 /// of the class.
 fn run_power(net: &Net, random: &mut Random, replay: &mut Replay) {
-    let mut net = net.clone();
-    let mut potentials = random_potentials(random, net.nodes.len() / 4);
+    let mut rows = Rows::of(net);
+    let mut potentials = random_potentials(random, net.nodes.len());
     let fault = random.below(4);
     match fault {
-        0 => damage_net(&mut net, random),
+        0 => rows.damage(random),
         1 => spoil_potentials(&mut potentials, random),
         _ => {}
     }
-    if !fits(&net) {
+    if !fits(&rows) {
         return;
     }
-    let cells = net.r_sheet.len();
+    let cells = rows.sheets.len();
     let room = random.pick(&[cells, cells, cells + 2, cells.saturating_sub(1)]).min(CELLS);
     let mut answers: Vec<f64> = (0..room as u64).map(|place| (SENTINEL + place) as f64).collect();
 
-    let mut case = lent(POWER, &net);
+    let mut case = lent(POWER, &rows);
     case.fraction_row(&potentials);
     case.fraction_row(&answers);
-    let answer = cell_power(&net.rows(), &potentials, &mut answers);
+    let answer = rows.net().and_then(|net| cell_power(&net, &potentials, &mut answers));
     case.answer("power", answer.map(|_| Vec::new()));
     case.print_fractions(&answers);
     let (call, number, value) = class("power", &answer, |&cells| cells.min(2));
@@ -180,7 +177,8 @@ fn run_power(net: &Net, random: &mut Random, replay: &mut Replay) {
 /// The mesh with its own net, with a changed one, and with a fault of its own.
 fn run_mesh(mut mesh: Mesh, random: &mut Random, replay: &mut Replay) {
     let mut net = mesh.net().expect("a sound mesh has a net");
-    if !is_small(numbers(&net).max(mesh.table.row.len()), random) {
+    let mut rows = Rows::of(&net);
+    if !is_small(numbers(&rows).max(mesh.table.row.len()), random) {
         return;
     }
     match random.below(8) {
@@ -189,32 +187,36 @@ fn run_mesh(mut mesh: Mesh, random: &mut Random, replay: &mut Replay) {
         2 => spoil_rows(&mut mesh, random),
         3 => drop_polygons(&mut mesh),
         4 if random.one_in(8) => add_too_many(&mut mesh, random),
-        _ => change_net(&mut net, random),
+        _ if change_softly(&mut net, random) => rows = Rows::of(&net),
+        _ => rows.damage(random),
     }
-    run_checks(&mesh, &net, random, replay);
+    run_checks(&mesh, &rows, random, replay);
 }
 
 /// Both checks. A work room that is long enough and one that isn't are two classes.
-fn run_checks(mesh: &Mesh, net: &Net, random: &mut Random, replay: &mut Replay) {
+fn run_checks(mesh: &Mesh, rows: &Rows, random: &mut Random, replay: &mut Replay) {
     let polygons = mesh.layers.len().max(mesh.components.len());
-    if !fits(net) || mesh.table.row.len() > TABLE || polygons > POLYGONS {
+    if !fits(rows) || mesh.table.row.len() > TABLE || polygons > POLYGONS {
         return;
     }
-    let (table, rows) = (&mesh.table, net.rows());
-    let need = WORK_A_NODE * (net.nodes.len() / 4) + WORK_AN_EDGE * (net.ends.len() / 2);
+    let (table, net) = (&mesh.table, rows.net());
+    let need = WORK_A_NODE * (rows.nodes.len() / 4) + WORK_AN_EDGE * (rows.ends.len() / 2);
     let room = random.pick(&[0, need.saturating_sub(1).min(40), need, need, need + 5]);
 
-    let mut case = lent(NETWORK_CONFORMING, net);
+    let mut case = lent(NETWORK_CONFORMING, rows);
     lend_table(&mut case, mesh);
-    let answer = check_network_conforming(&table.row, table.count, table.max_level, &rows);
+    let lent_net = net.as_ref().map_err(|why| *why);
+    let answer = lent_net
+        .and_then(|net| check_network_conforming(&table.row, table.count, table.max_level, net));
     finish("check_network_conforming", case, answer, room, need, replay);
 
-    let mut case = lent(BY_LAYER, net);
+    let mut case = lent(BY_LAYER, rows);
     lend_table(&mut case, mesh);
     lend_polygons(&mut case, mesh);
     let r_sheet = vec![1.0; mesh.layers.len()];
     let sheets = Sheets { layer: &mesh.layers, component: &mesh.components, r_sheet: &r_sheet };
-    let answer = check_by_layer(&table.row, table.count, table.max_level, &sheets, &rows);
+    let answer = lent_net
+        .and_then(|net| check_by_layer(&table.row, table.count, table.max_level, &sheets, net));
     finish("check_by_layer", case, answer, room, need, replay);
 }
 
@@ -238,7 +240,8 @@ fn finish(
     if answer.is_ok() && room >= need {
         work.fill(0);
     }
-    let named = |found: Hanging| vec![found.node, found.from, found.to];
+    let named =
+        |found: Hanging| [found.node, found.from, found.to].map(|node| node as u64).to_vec();
     case.answer(call, answer.map(|found| found.map_or(Vec::new(), named)));
     case.print_filled(&work);
     let (call, number, broken) = class(call, &answer, |found| u64::from(found.is_some()));

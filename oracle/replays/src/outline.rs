@@ -6,6 +6,7 @@ use calls::contact::Rect;
 use calls::limits::{COORDINATE, RING_POINTS};
 use calls::strips::{strips, strips_by_the_words, TickPoint};
 use calls::table::WIDTH;
+use inputs::limit_plans::{limit_plans, limit_plans_in_zeros};
 use inputs::long_rings::pad;
 use inputs::plan_faults::{every_two_faults, put_fault};
 use inputs::plans::{random_plan, Plan, Polygon};
@@ -15,6 +16,7 @@ use inputs::Random;
 
 const STRIPS: u64 = 1;
 const BUILD: u64 = 2;
+const BUILD_IN_ZEROS: u64 = 3;
 
 /// The longest rows of an ordinary case.
 const POINTS: usize = 64;
@@ -33,6 +35,14 @@ const SOME_ROOM: usize = 2;
 
 pub fn replay(count: u64, random: &mut Random) -> Replay {
     let mut replay = Replay::new("replay_outline", count);
+    for (name, plan, length) in limit_plans_in_zeros() {
+        replay.name(&format!("build: {name}"));
+        run_build_in_zeros(&plan, length, &mut replay);
+    }
+    for (name, plan, length) in limit_plans() {
+        replay.name(&format!("build: {name}"));
+        run_build(&plan, length, &mut replay);
+    }
     replay.name("a ring that shows one thing");
     for ring in boundary_rings(random) {
         run_strips(&ring, random, &mut replay);
@@ -97,22 +107,16 @@ fn run_strips(ring: &[TickPoint], random: &mut Random, replay: &mut Replay) {
     replay.offer(class("strips", &answer, |&found| found.min(3)), case);
 }
 
-/// The worked board in rooms around one root, 257 polygons, and boards with two faults in rooms that
-/// are right, short and ragged.
+/// The worked board in rooms around one root, and boards with two faults in rooms that are right, short and
+/// ragged.
 fn boundary_boards(random: &mut Random) -> Vec<(Plan, usize)> {
     let square = vec![[0, 0], [4, 0], [4, 4], [0, 4]];
     let polygon = Polygon { layer: 1, component: 0, sheet: 1.0, ring: square };
     let mut worked = Plan { max_level: 1, cap: 256, target: 4, ..Plan::default() };
     worked.push(&polygon);
-    let mut many = worked.clone();
-    let empty = Polygon { ring: Vec::new(), ..polygon };
-    (0..255).for_each(|_| many.push(&empty));
-    let mut too_many = many.clone();
-    too_many.push(&empty);
 
     let lengths = [0, 7, 8, 9, 16];
     let mut list: Vec<(Plan, usize)> = lengths.map(|length| (worked.clone(), length)).to_vec();
-    list.extend([(many, WIDTH), (too_many, WIDTH)]);
     for plan in every_two_faults() {
         if plan.points.len() <= POINTS && random.one_in(FAULTS_ONE_IN) {
             let length = random.pick(&[5 * WIDTH, 5 * WIDTH, 4 * WIDTH, 5 * WIDTH + 1]);
@@ -145,16 +149,7 @@ fn any_length(plan: &Plan, random: &mut Random) -> usize {
 /// A refusal at the first polygon and one at a later are two classes, and so are few roots and more.
 fn run_build(plan: &Plan, length: usize, replay: &mut Replay) {
     let mut table: Vec<i64> = (0..length as i64).map(|place| SENTINEL + place).collect();
-    let mut case = Case::of_kind(BUILD);
-    case.numbers([plan.max_level, plan.cap, plan.target]);
-    case.number(plan.list.len() as u64);
-    case.numbers(plan.list.iter().flatten().copied());
-    case.row(&plan.layers.iter().map(|&layer| u64::from(layer)).collect::<Vec<_>>());
-    case.row(&plan.components.iter().map(|&number| u64::from(number)).collect::<Vec<_>>());
-    case.fraction_row(&plan.sheets);
-    case.row(&plan.counts);
-    case.number(plan.points.len() as u64);
-    case.numbers(plan.points.iter().flatten().map(|&number| number as u64));
+    let mut case = lent(BUILD, plan);
     case.signed_row(&table);
 
     let answer = plan.with_calls_rows(|settings, outlines| build(settings, outlines, &mut table));
@@ -165,4 +160,29 @@ fn run_build(plan: &Plan, length: usize, replay: &mut Replay) {
         Err(why) => ("build", why.number, why.place.min(1)),
     };
     replay.offer(class, case);
+}
+
+/// In a table of zeros, of which only the length is stored; the table isn't printed.
+fn run_build_in_zeros(plan: &Plan, length: usize, replay: &mut Replay) {
+    let mut table = vec![0; length];
+    let mut case = lent(BUILD_IN_ZEROS, plan);
+    case.number(length as u64);
+    let answer = plan.with_calls_rows(|settings, outlines| build(settings, outlines, &mut table));
+    case.answer("build", answer.map(|roots| vec![roots]));
+    replay.offer(class("build", &answer, |&roots| roots), case);
+}
+
+/// Settings, layer list and polygons as they are lent.
+fn lent(kind: u64, plan: &Plan) -> Case {
+    let mut case = Case::of_kind(kind);
+    case.numbers([plan.max_level, plan.cap, plan.target]);
+    case.number(plan.list.len() as u64);
+    case.numbers(plan.list.iter().flatten().copied());
+    case.row(&plan.layers.iter().map(|&layer| u64::from(layer)).collect::<Vec<_>>());
+    case.row(&plan.components.iter().map(|&number| u64::from(number)).collect::<Vec<_>>());
+    case.fraction_row(&plan.sheets);
+    case.row(&plan.counts);
+    case.number(plan.points.len() as u64);
+    case.numbers(plan.points.iter().flatten().map(|&number| number as u64));
+    case
 }

@@ -72,7 +72,7 @@ fn boundary_pairs() -> Vec<Pair> {
     others.iter().map(|&b| (a, b)).collect()
 }
 
-/// P1 to P4, the overlap of readings' C1, roots behind split cells, a full table of 64 slots.
+/// P1 to P4, two squares over each other, roots behind split cells, a full table of 64 slots.
 fn boundary_tables() -> Vec<Table> {
     let mut list = vec![Table::new(3), Table::new(12)];
     for slots in [10, 13, 14, 18, 41, 42, 64] {

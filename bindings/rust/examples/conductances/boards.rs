@@ -1,7 +1,8 @@
 //! The boards of docs/CONDUCTANCES.md: each with what its copper does, and what the net and its cells say.
 
+use leafmesh::columns::{NE, SW};
 use leafmesh::solving::{across, System};
-use leafmesh::{power, text, Mesh, Net, OwnedNet};
+use leafmesh::{power, text, Cell, Mesh, Net, NetRows};
 use std::error::Error;
 
 /// What is measured with 1 V from the bottom to the top of component 0.
@@ -122,7 +123,7 @@ pub const CASES: [Case; 10] = [
 pub struct Meshed {
     pub case: Case,
     pub mesh: Mesh,
-    pub net: OwnedNet,
+    pub net: Net,
 }
 
 pub fn meshed(case: Case) -> Result<Meshed, Box<dyn Error>> {
@@ -133,10 +134,10 @@ pub fn meshed(case: Case) -> Result<Meshed, Box<dyn Error>> {
 }
 
 /// The figure by a system made of the net: its conductances, or its cells.
-fn figure(figure: Figure, net: Net, system: &System) -> Result<f64, Box<dyn Error>> {
+fn figure(figure: Figure, net: NetRows, system: &System) -> Result<f64, Box<dyn Error>> {
     let mut held = across(net.nodes);
-    for (volt, node) in held.iter_mut().zip(net.nodes.chunks_exact(4)) {
-        *volt = volt.filter(|_| node[1] == 0);
+    for (volt, node) in held.iter_mut().zip(net.nodes) {
+        *volt = volt.filter(|_| node.component == 0);
     }
     let volts = system.solve(&held)?;
     let amperes = system.watts(&volts);
@@ -147,32 +148,27 @@ fn figure(figure: Figure, net: Net, system: &System) -> Result<f64, Box<dyn Erro
 }
 
 /// Of all cells the largest power over area, times the square of the board's width.
-fn largest_density(net: Net, volts: &[f64]) -> Result<f64, Box<dyn Error>> {
-    let mut watts = vec![0.0; net.sheets.len()];
+fn largest_density(net: NetRows, volts: &[f64]) -> Result<f64, Box<dyn Error>> {
+    let mut watts = vec![0.0; net.cells.len()];
     power(net, volts, &mut watts)?;
-    let at = |node: u64, column: usize| net.nodes[4 * node as usize + column] as f64;
-    let width = net
-        .nodes
-        .chunks_exact(4)
-        .map(|node| node[2])
-        .max()
-        .unwrap_or(0) as f64;
-    let cells = net.corners.chunks_exact(4).zip(&watts);
-    let density = |(cell, watts): (&[u64], &f64)| {
-        let area = (at(cell[2], 2) - at(cell[0], 2)) * (at(cell[2], 3) - at(cell[0], 3));
+    let width = net.nodes.iter().map(|node| node.x).max().unwrap_or(0) as f64;
+    let density = |(cell, watts): (&Cell, &f64)| {
+        let [low, high] = [SW, NE].map(|corner| net.nodes[cell.corners[corner]]);
+        let area = (high.x - low.x) as f64 * (high.y - low.y) as f64;
         watts / area * width * width
     };
+    let cells = net.cells.iter().zip(&watts);
     Ok(cells.map(density).fold(0.0, f64::max))
 }
 
 pub fn by_net(meshed: &Meshed) -> Result<f64, Box<dyn Error>> {
-    let net = meshed.net.net();
+    let net = meshed.net.rows();
     figure(meshed.case.figure, net, &System::of_net(net))
 }
 
 /// None where the cells don't fit together.
 pub fn by_cells(meshed: &Meshed) -> Result<Option<f64>, Box<dyn Error>> {
-    let net = meshed.net.net();
+    let net = meshed.net.rows();
     match System::of_cells(net) {
         Ok(system) => figure(meshed.case.figure, net, &system).map(Some),
         Err(_) => Ok(None),

@@ -1,8 +1,7 @@
 //! A neck 0.2 mm wide that lies across, between two pads, refined round by round where the net's power is largest.
 
-use leafmesh::columns::NODE_X;
 use leafmesh::solving::System;
-use leafmesh::{power, Mesh, Net, OwnedNet, Pitch, Polygons, Settings};
+use leafmesh::{power, Mesh, Net, NetRows, Pitch, Polygons, Settings};
 use std::error::Error;
 
 /// In millimetres.
@@ -33,7 +32,7 @@ const OUTLINE: [[f64; 2]; 12] = [
 pub struct Round {
     pub splits: Vec<usize>,
     pub mesh: Mesh,
-    pub net: OwnedNet,
+    pub net: Net,
 }
 
 /// All rounds, from the base cells on.
@@ -44,7 +43,7 @@ pub fn rounds() -> Result<Vec<Round>, Box<dyn Error>> {
     for _ in 0..=ROUNDS {
         mesh.balance()?;
         let net = mesh.net()?;
-        let next = hottest(&mesh, net.net())?;
+        let next = hottest(&mesh, net.rows())?;
         rounds.push(Round {
             splits,
             mesh: mesh.clone(),
@@ -72,7 +71,7 @@ fn base_cells() -> Result<Mesh, Box<dyn Error>> {
 }
 
 /// The leaves of the largest power by the net, those at the last level left out.
-fn hottest(mesh: &Mesh, net: Net) -> Result<Vec<usize>, Box<dyn Error>> {
+fn hottest(mesh: &Mesh, net: NetRows) -> Result<Vec<usize>, Box<dyn Error>> {
     let (_, watts) = watts(net, &System::of_net(net))?;
     let mut by_heat: Vec<(f64, usize)> = watts.into_iter().zip(mesh.order()?).collect();
     by_heat.sort_by(|a, b| b.0.total_cmp(&a.0));
@@ -82,21 +81,21 @@ fn hottest(mesh: &Mesh, net: Net) -> Result<Vec<usize>, Box<dyn Error>> {
 }
 
 /// 1 V from the left to the right.
-fn across(net: Net) -> Vec<Option<f64>> {
-    let nodes = || net.nodes.chunks_exact(4).map(|node| node[NODE_X]);
-    let (low, high) = (nodes().min(), nodes().max());
+fn across(net: NetRows) -> Vec<Option<f64>> {
+    let along = || net.nodes.iter().map(|node| node.x);
+    let (low, high) = (along().min(), along().max());
     let held = |x: i64| match Some(x) {
         at if at == low => Some(0.0),
         at if at == high => Some(1.0),
         _ => None,
     };
-    nodes().map(held).collect()
+    along().map(held).collect()
 }
 
 /// Watts in all, as the system has them, and of each cell, as the library works them out.
-fn watts(net: Net, system: &System) -> Result<(f64, Vec<f64>), Box<dyn Error>> {
+fn watts(net: NetRows, system: &System) -> Result<(f64, Vec<f64>), Box<dyn Error>> {
     let volts = system.solve(&across(net))?;
-    let mut watts = vec![0.0; net.sheets.len()];
+    let mut watts = vec![0.0; net.cells.len()];
     power(net, &volts, &mut watts)?;
     Ok((system.watts(&volts), watts))
 }
@@ -108,7 +107,7 @@ pub fn table(rounds: &[Round]) -> Result<String, Box<dyn Error>> {
          |---|---|---|---|\n",
     );
     for (number, round) in rounds.iter().enumerate() {
-        let net = round.net.net();
+        let net = round.net.rows();
         let (all, by_net) = watts(net, &System::of_net(net))?;
         let (_, by_cells) = watts(net, &System::of_cells(net)?)?;
         let hotter = |a: &usize, b: &usize| by_net[*a].total_cmp(&by_net[*b]);

@@ -53,22 +53,21 @@ fn main() -> Result<(), Box<dyn Error>> {
     writeln!(out, "round leaves   elements, in 100 off   net, in 100 off")?;
     let mut mesh = base_cells()?;
     for round in 0..=ROUNDS {
-        let made = mesh.net()?;
-        let net = made.net();
-        let (cells, volts) = solved(&System::of_cells(net)?, net)?;
-        let (edges, _) = solved(&System::of_net(net), net)?;
+        let net = mesh.net()?;
+        let (cells, volts) = solved(&System::of_cells(net.rows())?, &net)?;
+        let (edges, _) = solved(&System::of_net(net.rows()), &net)?;
         let off = |own: f64| 100.0 * (own / squares - 1.0);
         writeln!(
             out,
             "{round:5} {:6}   {cells:8.4} {:+13.2}   {edges:8.4} {:+8.2}",
-            net.sheets.len(),
+            net.cells.len(),
             off(cells),
             off(edges)
         )?;
         if round < ROUNDS {
-            refine_hottest(&mut mesh, net, &volts)?;
+            refine_hottest(&mut mesh, &net, &volts)?;
         } else if let Some(folder) = env::args().nth(1) {
-            pictures::put(&folder, &mesh, net, &volts, AMPERES * cells * SHEET)?;
+            pictures::put(&folder, &mesh, &net, &volts, AMPERES * cells * SHEET)?;
         }
     }
     Ok(())
@@ -89,15 +88,15 @@ fn base_cells() -> Result<Mesh, Box<dyn Error>> {
 }
 
 /// The resistance in squares, and the potentials at 1 V from the bottom to the top.
-fn solved(system: &System, net: Net) -> Result<(f64, Vec<f64>), Box<dyn Error>> {
-    let volts = system.solve(&across(net.nodes))?;
+fn solved(system: &System, net: &Net) -> Result<(f64, Vec<f64>), Box<dyn Error>> {
+    let volts = system.solve(&across(&net.nodes))?;
     Ok((1.0 / (system.watts(&volts) * SHEET), volts))
 }
 
 /// Splits the leaves of the largest power, and balances.
-fn refine_hottest(mesh: &mut Mesh, net: Net, volts: &[f64]) -> Result<(), Refusal> {
-    let mut watts = vec![0.0; net.sheets.len()];
-    power(net, volts, &mut watts)?;
+fn refine_hottest(mesh: &mut Mesh, net: &Net, volts: &[f64]) -> Result<(), Refusal> {
+    let mut watts = vec![0.0; net.cells.len()];
+    power(net.rows(), volts, &mut watts)?;
     // Cell i of the net is the i-th leaf of the order.
     let mut by_heat: Vec<(f64, usize)> = watts.into_iter().zip(mesh.order()?).collect();
     by_heat.sort_by(|a, b| b.0.total_cmp(&a.0));

@@ -1,7 +1,7 @@
 //! The reference: the same outline in equal squares, without the library.
 
 use leafmesh::solving::{across, System};
-use leafmesh::Net;
+use leafmesh::{Cell, NetRows, Node};
 use std::collections::BTreeMap;
 use std::error::Error;
 
@@ -10,28 +10,33 @@ pub fn squares(outline: &[[f64; 2]], side: f64) -> Result<f64, Box<dyn Error>> {
     let whole = |length: f64| (length / side).round() as i64;
     let ring: Vec<[i64; 2]> = outline.iter().map(|point| point.map(whole)).collect();
     let most = |axis: usize| ring.iter().map(|point| point[axis]).max().unwrap_or(0);
-    let mut numbers: BTreeMap<[i64; 2], u64> = BTreeMap::new();
-    let (mut nodes, mut corners) = (Vec::new(), Vec::new());
+    let mut numbers: BTreeMap<[i64; 2], usize> = BTreeMap::new();
+    let (mut nodes, mut cells) = (Vec::new(), Vec::new());
     for y in 0..most(1) {
         for x in (0..most(0)).filter(|&x| is_inside(&ring, x, y)) {
-            for [cx, cy] in [[x, y], [x + 1, y], [x + 1, y + 1], [x, y + 1]] {
-                let next = numbers.len() as u64;
-                corners.push(*numbers.entry([cx, cy]).or_insert_with(|| {
-                    nodes.extend([1, 0, cx, cy]);
-                    next
-                }));
-            }
+            let mut number = |[x, y]: [i64; 2]| {
+                *numbers.entry([x, y]).or_insert_with(|| {
+                    nodes.push(Node {
+                        layer: 1,
+                        component: 0,
+                        x,
+                        y,
+                    });
+                    nodes.len() - 1
+                })
+            };
+            let corners = [[x, y], [x + 1, y], [x + 1, y + 1], [x, y + 1]];
+            cells.push(Cell {
+                corners: corners.map(&mut number),
+                sheet: 1.0,
+            });
         }
     }
-    let sheets = vec![1.0; corners.len() / 4];
-    let net = Net {
+    let system = System::of_cells(NetRows {
         nodes: &nodes,
-        ends: &[],
-        conductances: &[],
-        corners: &corners,
-        sheets: &sheets,
-    };
-    let system = System::of_cells(net)?;
+        edges: &[],
+        cells: &cells,
+    })?;
     Ok(1.0 / system.watts(&system.solve(&across(&nodes))?))
 }
 

@@ -44,11 +44,11 @@ fn unpack(record: &[u8]) -> Result<String, String> {
 }
 
 fn in_text(given: &Given) -> Result<String, String> {
-    let (mesh, made) = given.mesh()?;
-    printed::show_mesh(&given.board, &mesh, &made).map_err(|why| why.to_string())
+    let (mesh, net) = given.mesh()?;
+    printed::show_mesh(&given.board, &mesh, &net).map_err(|why| why.to_string())
 }
 
 fn in_vtk(given: &Given) -> Result<String, String> {
-    let (mesh, made) = given.mesh()?;
-    vtk::of_mesh(&mesh, made.net(), &[]).map_err(|why| why.to_string())
+    let (mesh, net) = given.mesh()?;
+    vtk::of_mesh(&mesh, net.rows(), &[]).map_err(|why| why.to_string())
 }

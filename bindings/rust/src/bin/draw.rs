@@ -9,7 +9,7 @@
 use leafmesh::drawing::{densities, Picture};
 use leafmesh::solving::{across, System};
 use leafmesh::tool::{self, Given};
-use leafmesh::{power, printed, Mesh, Net};
+use leafmesh::{power, printed, Mesh, NetRows};
 use std::env;
 use std::process::ExitCode;
 
@@ -59,23 +59,23 @@ fn asked(mut words: impl Iterator<Item = String>) -> Option<Asked> {
 
 fn of_board(file: &str, asked: &Asked) -> Result<Picture, String> {
     let given = Given::of_bytes(tool::file(file)?);
-    let made = given.and_then(|given| given.mesh());
-    let (mesh, made) = made.map_err(|why| format!("{file}: {why}"))?;
+    let meshed = given.and_then(|given| given.mesh());
+    let (mesh, net) = meshed.map_err(|why| format!("{file}: {why}"))?;
     let title = asked.title.as_deref().unwrap_or(file);
-    let picture = Picture::of_mesh(title, &mesh, made.net()).map_err(|why| why.to_string())?;
+    let picture = Picture::of_mesh(title, &mesh, net.rows()).map_err(|why| why.to_string())?;
     if !asked.power {
         return Ok(picture);
     }
-    let (system, by) = match System::of_cells(made.net()) {
+    let (system, by) = match System::of_cells(net.rows()) {
         Ok(system) => (system, ""),
         // A side's end that hangs itself, as polygons over each other may have: the conductances are what is left.
-        Err(_) => (System::of_net(made.net()), " by the net's conductances"),
+        Err(_) => (System::of_net(net.rows()), " by the net's conductances"),
     };
     let volts = system
-        .solve(&across(made.net().nodes))
+        .solve(&across(&net.nodes))
         .map_err(|why| why.to_string())?;
     let words = format!("{POWER} at 1 V from the bottom to the top{by}");
-    coloured(picture, &words, &mesh, made.net(), &volts)
+    coloured(picture, &words, &mesh, net.rows(), &volts)
 }
 
 fn of_text(asked: &Asked) -> Result<Picture, String> {
@@ -86,24 +86,24 @@ fn of_text(asked: &Asked) -> Result<Picture, String> {
     };
     let given = Given::of_bytes(tool::file(file)?).map_err(|why| format!("{file}: {why}"))?;
     let printed = printed::read(&text)?;
-    let (mesh, made) = given.mesh().map_err(|why| format!("{file}: {why}"))?;
+    let (mesh, net) = given.mesh().map_err(|why| format!("{file}: {why}"))?;
     let picture = Picture::of_printed(title, &printed, Some(&given.board))?;
     let Some(file) = &asked.potentials else {
         return Ok(picture);
     };
     let volts = numbers_in(file)?;
     let named = |why| format!("{file}: {why}");
-    coloured(picture, POWER, &mesh, made.net(), &volts).map_err(named)
+    coloured(picture, POWER, &mesh, net.rows(), &volts).map_err(named)
 }
 
 fn coloured(
     picture: Picture,
     words: &str,
     mesh: &Mesh,
-    net: Net,
+    net: NetRows,
     volts: &[f64],
 ) -> Result<Picture, String> {
-    let mut watts = vec![0.0; net.sheets.len()];
+    let mut watts = vec![0.0; net.cells.len()];
     power(net, volts, &mut watts).map_err(|why| why.to_string())?;
     let values = densities(mesh, &watts).map_err(|why| why.to_string())?;
     Ok(picture.by_value(words, &values))

@@ -4,7 +4,7 @@
 
 use leafmesh::printed::{self, Printed};
 use leafmesh::solving::{across, System};
-use leafmesh::{tool, Net};
+use leafmesh::{tool, NetRows};
 use std::env;
 use std::fmt::Write;
 use std::process::ExitCode;
@@ -26,14 +26,12 @@ fn run() -> Result<Vec<u8>, String> {
 }
 
 fn potentials(mesh: &Printed) -> Result<Vec<f64>, String> {
-    let nodes: Vec<i64> = mesh.nodes.iter().flatten().copied().collect();
-    let ends: Vec<u64> = mesh.edges.iter().flatten().map(|&end| end as u64).collect();
-    let system = System::of_net(Net {
-        nodes: &nodes,
-        ends: &ends,
-        conductances: &mesh.conductances,
-        corners: &[],
-        sheets: &[],
+    let system = System::of_net(NetRows {
+        nodes: &mesh.nodes,
+        edges: &mesh.edges,
+        cells: &[],
     });
-    system.solve(&across(&nodes)).map_err(|why| why.to_string())
+    system
+        .solve(&across(&mesh.nodes))
+        .map_err(|why| why.to_string())
 }

@@ -1,13 +1,14 @@
 -- The powers of the cells passed, and behind them what the row held.
-use Rattle.std.proofs.Common.{◌≤◌, ◌-◌, ◌≡◌, ◌++◌, length, drop}
-use Rattle.sound_net.specs.Nets.{net_in}
-use Rattle.power.specs.Powers.{power_at, listed}
+use Rattle.std.proofs.Common.{◌≤◌, ◌-◌, ◌≡◌, map, length, take}
+use Rattle.net_rows.specs.Written.{written}
+use Rattle.power.specs.Powers.{cell_power}
 use Rattle.power.proofs.fill.Given as goal
 
 abbrev pub invariant-loop-c : goal.invariant-loop-c
-invariant-loop-c l =
-    (l.c ≤ length l.net.rows.sheets.now)
-    × (l.answers ≡ listed (power_at (net_in l.net.rows) l.potentials) l.c ++ drop l.c l.fn.answers)
+invariant-loop-c l = record {
+  within : l.c ≤ length l.net.rows.cells.now;
+  filled : l.answers ≡ written (map (cell_power l.net.rows.nodes.now l.potentials) (take l.c l.net.rows.cells.now)) l.fn.answers;
+}
 
 abbrev pub decreases-loop-c : goal.decreases-loop-c
-decreases-loop-c l = length l.net.rows.sheets.now - l.c
+decreases-loop-c l = length l.net.rows.cells.now - l.c

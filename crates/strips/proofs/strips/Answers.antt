@@ -1,8 +1,8 @@
 -- Refused with 3, refused with 4, and then what the cut says.
 use Rattle.std.proofs.Common.{List, ℤ, true, false, length, ◌≡◌, refl, sym, ap, ◌∙◌}
-use Rattle.refusals.specs.Said.{Said}
+use Rattle.refusals.specs.Said.{Said, if_accepted}
 use Rattle.strips.specs.Rings.{ring_in_range, ring_slants}
-use Rattle.strips.specs.Said.{strips_says, strips_leave, counted, if_accepted, laid}
+use Rattle.strips.specs.Said.{strips_says, strips_leave, counted, laid}
 use Rattle.strips.specs.Strips.{strips_of}
 use Rattle.strips.proofs.Laying.{few-points}
 use Rattle.strips.proofs.strips.Goals as goal

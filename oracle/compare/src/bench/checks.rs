@@ -3,30 +3,34 @@
 use super::boards::balanced_board;
 use super::{best, compare, timed, Best};
 use crate::port::checks::{check_by_layer, check_network_conforming};
+use crate::port::lent;
 use calls::net::Net;
 use calls::table::to_grid;
 use inputs::meshes::Mesh;
 use leafmesh::ffi::CheckOutcome;
+use leafmesh::limits;
 
 /// Base cells a side.
 const CELLS: i64 = 99;
-/// More numbers of work room than the port asks for.
-const WORK: usize = 16;
+/// So many times the work room that the port asks for.
+const TIMES: usize = 2;
 
 /// True if all found nothing to name, as the net is sound.
 pub fn run() -> bool {
     let mesh = balanced_board(CELLS);
     let net = mesh.net().expect("a sound mesh has a net");
     let original = time_original(&mesh, &net);
+    let lent = lent(&net);
+    let enough = limits::check_work(net.nodes.len(), net.edges.len());
     let mut same = true;
-    for (work, room) in [(WORK, ""), (0, ", no work room")] {
+    for (work, room) in [(TIMES * enough, ""), (0, ", no work room")] {
         let words = format!("{} leaves{room}", mesh.leaves());
         let by_place =
-            time_port(&net, work, |work| check_network_conforming(&mesh.table, &net.rows(), work));
+            time_port(work, |work| check_network_conforming(&mesh.table, lent.rows(), work));
         same &= compare(&format!("check_network_conforming, {words}"), by_place, original);
         // The original has no by-layer check, so this one stands beside its other check.
-        let by_layer = time_port(&net, work, |work| {
-            check_by_layer(&mesh.table, &net.rows(), &mesh.layers, &mesh.components, work)
+        let by_layer = time_port(work, |work| {
+            check_by_layer(&mesh.table, lent.rows(), &mesh.layers, &mesh.components, work)
         });
         let words = format!("check_by_layer, {words}, beside the original's check");
         same &= compare(&words, by_layer, original);
@@ -38,7 +42,7 @@ pub fn run() -> bool {
 fn time_original(mesh: &Mesh, net: &Net) -> Best<bool> {
     let table = &mesh.table;
     let grid = to_grid(&table.row, table.count, table.max_level);
-    let original_net = net.rows().to_original();
+    let original_net = net.to_original();
     best(|| {
         let mut clear = false;
         let call = || clear = grid.check_network_conforming(&original_net).is_ok();
@@ -46,10 +50,10 @@ fn time_original(mesh: &Mesh, net: &Net) -> Best<bool> {
     })
 }
 
-/// With so many numbers of work room for each number of nodes and edge ends.
-fn time_port(net: &Net, work: usize, check: impl Fn(&mut [u64]) -> CheckOutcome) -> Best<bool> {
+/// With so many numbers of work room.
+fn time_port(work: usize, check: impl Fn(&mut [u64]) -> CheckOutcome) -> Best<bool> {
     best(|| {
-        let mut work = vec![1; work * (net.nodes.len() + net.ends.len())];
+        let mut work = vec![1; work];
         let mut outcome = None;
         let time = timed(|| outcome = Some(check(&mut work)));
         assert!(work.iter().all(|&number| number == 0), "work room is enough or none, and zero");

@@ -2,13 +2,15 @@
 
 use super::boards::balanced_board;
 use super::{best, compare, timed, Best};
+use crate::port::lent;
 use crate::port::network::{network, Rows};
-use crate::rows::bits;
-use calls::net::Net;
-use calls::network::{NetLengths, NetRoom};
+use crate::rows::{cell_bits, edge_bits};
+use calls::net;
+use calls::network::NetRoom;
 use calls::sheets::Sheets;
 use calls::table::to_grid;
 use inputs::meshes::Mesh;
+use leafmesh::{Cell, Edge, Net, Node};
 use original::adaptive::build_network;
 use original::sheet::{SheetNetwork, SheetPolygon};
 use std::time::Duration;
@@ -24,7 +26,7 @@ struct Times {
 }
 
 /// A net with its fractions as bits.
-type Bits = (Vec<i64>, Vec<u64>, Vec<u64>, Vec<u64>, Vec<u64>);
+type Bits = (Vec<Node>, Vec<(usize, usize, u64)>, Vec<([usize; 4], u64)>);
 
 /// True if both made the same net at each size.
 pub fn run() -> bool {
@@ -49,54 +51,44 @@ fn time_original(mesh: &Mesh) -> Best<Bits> {
     best(|| {
         let mut net = SheetNetwork::default();
         let time = timed(|| net = build_network(&grid, &polygons, &[], &[], &[]));
-        (time, net_bits(&Net::of_original(&net)))
+        (time, net_bits(lent(&net::Net::of_original(&net))))
     })
 }
 
 fn time_port(mesh: &Mesh) -> Best<Bits> {
-    let lengths = NetLengths::of(&NetRoom::for_leaves(mesh.leaves()));
+    let room = NetRoom::for_leaves(mesh.leaves());
     let polygons: Sheets = mesh.polygons();
     best(|| {
-        let mut rows = empty_rows(&lengths);
+        let mut rows = empty_rows(&room);
         let mut outcome = None;
         let time = timed(|| outcome = Some(network(&mesh.table, &polygons, &mut rows)));
         let outcome = outcome.expect("it was called");
         assert_eq!(outcome.number, 0, "there is room");
         let counts = [outcome.nodes, outcome.edges, outcome.cells].map(|count| count as usize);
-        (time, net_bits(&net_of_rows(rows, counts)))
+        (time, net_bits(net_of_rows(rows, counts)))
     })
 }
 
-fn empty_rows(lengths: &NetLengths) -> Rows {
+fn empty_rows(room: &NetRoom) -> Rows {
     Rows {
-        nodes: vec![0; lengths.nodes],
-        ends: vec![0; lengths.ends],
-        conductances: vec![0.0; lengths.conductances],
-        corners: vec![0; lengths.corners],
-        sheets: vec![0.0; lengths.sheets],
-        work: vec![0; lengths.work],
+        nodes: vec![Node::default(); room.nodes],
+        edges: vec![Edge::default(); room.edges],
+        cells: vec![Cell::default(); room.cells],
+        work: vec![0; room.work],
     }
 }
 
 /// The used part of the rows.
 fn net_of_rows(mut rows: Rows, [nodes, edges, cells]: [usize; 3]) -> Net {
-    rows.nodes.truncate(4 * nodes);
-    rows.ends.truncate(2 * edges);
-    rows.conductances.truncate(edges);
-    rows.corners.truncate(4 * cells);
-    rows.sheets.truncate(cells);
-    Net {
-        nodes: rows.nodes,
-        ends: rows.ends,
-        conductance: rows.conductances,
-        corners: rows.corners,
-        r_sheet: rows.sheets,
-    }
+    rows.nodes.truncate(nodes);
+    rows.edges.truncate(edges);
+    rows.cells.truncate(cells);
+    Net { nodes: rows.nodes, edges: rows.edges, cells: rows.cells }
 }
 
-fn net_bits(net: &Net) -> Bits {
-    let Net { nodes, ends, conductance, corners, r_sheet } = net;
-    (nodes.clone(), ends.clone(), bits(conductance), corners.clone(), bits(r_sheet))
+fn net_bits(net: Net) -> Bits {
+    let (edges, cells) = (edge_bits(&net.edges), cell_bits(&net.cells));
+    (net.nodes, edges, cells)
 }
 
 fn print_growth(few: &Times, many: &Times) {

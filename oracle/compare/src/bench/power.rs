@@ -17,21 +17,22 @@ const SIDE: i64 = 16;
 /// True if both answered the same bits.
 pub fn run() -> bool {
     let net = square_net();
-    let potentials = ordinary_potentials(&mut Random::new(1), net.nodes.len() / 4);
-    let original_net = net.rows().to_original();
+    let potentials = ordinary_potentials(&mut Random::new(1), net.nodes.len());
+    let original_net = net.to_original();
     let original = best(|| {
         let mut powers = Vec::new();
         let call = || powers = original::adaptive::cell_power(&original_net, &potentials);
         (timed(call), bits(&powers))
     });
+    let lent = port::lent(&net);
     let port = best(|| {
-        let mut answers = vec![0.0; net.r_sheet.len()];
+        let mut answers = vec![0.0; net.cells.len()];
         let time = timed(|| {
-            port::power::power(&net.rows(), &potentials, &mut answers);
+            port::power::power(lent.rows(), &potentials, &mut answers);
         });
         (time, bits(&answers))
     });
-    compare(&format!("power, {} leaves", net.r_sheet.len()), port, original)
+    compare(&format!("power, {} leaves", net.cells.len()), port, original)
 }
 
 fn square_net() -> Net {

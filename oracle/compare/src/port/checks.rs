@@ -1,13 +1,13 @@
 //! The two checks of a net.
 
-use calls::net::NetRows;
 use inputs::tables::Table;
 use leafmesh::ffi::{self, CheckOutcome};
+use leafmesh::NetRows;
 
 // SAFETY, of both: each pointer comes with the length of the slice it was taken from, and the slice
 // outlives the call.
 
-pub fn check_network_conforming(table: &Table, net: &NetRows, work: &mut [u64]) -> CheckOutcome {
+pub fn check_network_conforming(table: &Table, net: NetRows, work: &mut [u64]) -> CheckOutcome {
     unsafe {
         ffi::leafmesh_check_network_conforming(
             table.row.as_ptr(),
@@ -16,14 +16,10 @@ pub fn check_network_conforming(table: &Table, net: &NetRows, work: &mut [u64]) 
             table.max_level,
             net.nodes.as_ptr(),
             net.nodes.len(),
-            net.ends.as_ptr(),
-            net.ends.len(),
-            net.conductance.as_ptr(),
-            net.conductance.len(),
-            net.corners.as_ptr(),
-            net.corners.len(),
-            net.r_sheet.as_ptr(),
-            net.r_sheet.len(),
+            net.edges.as_ptr(),
+            net.edges.len(),
+            net.cells.as_ptr(),
+            net.cells.len(),
             work.as_mut_ptr(),
             work.len(),
         )
@@ -32,7 +28,7 @@ pub fn check_network_conforming(table: &Table, net: &NetRows, work: &mut [u64]) 
 
 pub fn check_by_layer(
     table: &Table,
-    net: &NetRows,
+    net: NetRows,
     layers: &[u16],
     components: &[u32],
     work: &mut [u64],
@@ -45,14 +41,10 @@ pub fn check_by_layer(
             table.max_level,
             net.nodes.as_ptr(),
             net.nodes.len(),
-            net.ends.as_ptr(),
-            net.ends.len(),
-            net.conductance.as_ptr(),
-            net.conductance.len(),
-            net.corners.as_ptr(),
-            net.corners.len(),
-            net.r_sheet.as_ptr(),
-            net.r_sheet.len(),
+            net.edges.as_ptr(),
+            net.edges.len(),
+            net.cells.as_ptr(),
+            net.cells.len(),
             layers.as_ptr(),
             layers.len(),
             components.as_ptr(),

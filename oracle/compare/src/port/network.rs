@@ -1,29 +1,26 @@
 //! The network of a table's leaves.
 
-use calls::network::NetLengths;
+use calls::network::NetRoom;
 use calls::sheets::Sheets;
 use inputs::tables::Table;
 use leafmesh::ffi::{self, NetOutcome};
+use leafmesh::{Cell, Edge, Node};
 
 /// The rows lent for a net, and the work room.
 #[derive(Clone, Debug)]
 pub struct Rows {
-    pub nodes: Vec<i64>,
-    pub ends: Vec<u64>,
-    pub conductances: Vec<f64>,
-    pub corners: Vec<u64>,
-    pub sheets: Vec<f64>,
+    pub nodes: Vec<Node>,
+    pub edges: Vec<Edge>,
+    pub cells: Vec<Cell>,
     pub work: Vec<u64>,
 }
 
 impl Rows {
-    pub fn lengths(&self) -> NetLengths {
-        NetLengths {
+    pub fn room(&self) -> NetRoom {
+        NetRoom {
             nodes: self.nodes.len(),
-            ends: self.ends.len(),
-            conductances: self.conductances.len(),
-            corners: self.corners.len(),
-            sheets: self.sheets.len(),
+            edges: self.edges.len(),
+            cells: self.cells.len(),
             work: self.work.len(),
         }
     }
@@ -45,14 +42,10 @@ pub fn network(table: &Table, polygons: &Sheets, rows: &mut Rows) -> NetOutcome 
             polygons.r_sheet.len(),
             rows.nodes.as_mut_ptr(),
             rows.nodes.len(),
-            rows.ends.as_mut_ptr(),
-            rows.ends.len(),
-            rows.conductances.as_mut_ptr(),
-            rows.conductances.len(),
-            rows.corners.as_mut_ptr(),
-            rows.corners.len(),
-            rows.sheets.as_mut_ptr(),
-            rows.sheets.len(),
+            rows.edges.as_mut_ptr(),
+            rows.edges.len(),
+            rows.cells.as_mut_ptr(),
+            rows.cells.len(),
             rows.work.as_mut_ptr(),
             rows.work.len(),
         )

@@ -65,7 +65,7 @@ impl Replay {
         self.stdin.extend(record);
         self.stdout.push_str(&printed(&answer));
         match answer {
-            Ok(meshed) => self.hanging += usize::from(meshed.net.rows().has_hanging_nodes()),
+            Ok(meshed) => self.hanging += usize::from(meshed.net.has_hanging_nodes()),
             Err(refusal) => self.refused[refusal.number as usize] += 1,
         }
     }

@@ -48,16 +48,3 @@ returns c =
           ∙ cleared c.args.table.now v.new.t b v.result (count ∙ ap length all)
           (put.slots ∙ ap (placed c.args.table.now 0) all) v.auto.t;
     }
-
-pub put_strips-k-requires : goal.put_strips-k-requires
-put_strips-k-requires c =
-    let j = c.args.board.now in
-    let b = board_of j.settings j.list.now j.outlines in
-    let g = c.cutter-cutter.ensures in
-    let z = c.requires.shape in
-    let tally = rw (g.unit, g.cap, g.cell, c.ready.ensures) at c.in-Some.ensures in
-    rw (g.cap, g.cell, c.ready.ensures)
-    (record {
-      room = record { room = omega (arith, tally.counted, c.if-slots-n.false, z.whole); few = omega (arith, z.whole, z.few) };
-      polygon_in_range = omega arith;
-    })

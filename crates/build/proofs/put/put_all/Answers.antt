@@ -12,13 +12,6 @@ loop-p-init c =
     let e = no-roots b in
     record { start = sym (sum_none b.counts); next = rw e refl; put = rw e (sym (placed-none a.t.now 0)) }
 
-pub ready-requires : goal.ready-requires
-ready-requires c =
-    let a = c.args in
-    let b = board_of a.board.now.settings a.board.now.list.now a.board.now.outlines in
-    let s = c.loop-p in
-    rw c.ring-points.ensures.points (a.board.now.fit.few s.p c.loop-p-test.true)
-
 pub put_strips-k-requires : goal.put_strips-k-requires
 put_strips-k-requires c =
     let a = c.args in

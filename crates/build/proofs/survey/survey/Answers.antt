@@ -16,13 +16,6 @@ loop-p-init c =
       fits = omega arith;
     }
 
-pub ready-requires : goal.ready-requires
-ready-requires c =
-    let a = c.args in
-    let b = board_of a.board.now.settings a.board.now.list.now a.board.now.outlines in
-    let s = c.loop-p in
-    rw c.ring-points.ensures.points (a.board.now.fit.few s.p c.loop-p-test.true)
-
 pub returns-in_default : goal.returns-in_default
 returns-in_default c = λ o.
     let a = c.args in

@@ -8,5 +8,5 @@ use Rattle.checks.proofs.walk.first_fault.Given as goal
 abbrev pub invariant-loop-i : goal.invariant-loop-i
 invariant-loop-i g l =
     None
-    ≡ first_fault (λ k. cell_fault l.table.row.now (g.L.Lookup.nodes l.net) (g.L.Lookup.ends l.net)
+    ≡ first_fault (λ k. cell_fault l.table.row.now (g.L.Lookup.nodes l.net) (g.L.Lookup.edges l.net)
     (class_of l.scope (cell_at l.table.row.now k).poly) k) l.i

@@ -1,16 +1,10 @@
 -- What is taken stands behind what was written.
-use Rattle.std.proofs.Common.{ℕ, ◌+◌, ◌-◌, ◌≤◌, ◌≡◌, List, ◌++◌, ap, sym, subst, ◌∙◌, append_assoc, arith, length, take, drop, length-drop, Option, Some, None}
+use Rattle.std.proofs.Common.{ℕ, ◌+◌, ◌-◌, ◌≤◌, ◌≡◌, List, ◌++◌, ap, sym, subst, ◌∙◌, arith, length, take, drop, length-drop}
 use Rattle.std.proofs.lemmas.List.{take_all}
 use Rattle.std.proofs.Math.Seq.{take-add}
 use Rattle.std.specs.Io.KnownBytes.{Appends}
+use Rattle.std.proofs.KnownBytes.{Appends-trans}
 use Rattle.leafnet_text.proofs.output.write_text.Goals as goal
-
--- bytes behind bytes
-joined : (a b c : Option (List ℕ)) (x y : List ℕ) → Appends a b x → Appends b c y → Appends a c (x ++ y)
-joined None b c x y p q = tt
-joined (Some s) None c x y p q = absurd p
-joined (Some s) (Some t) None x y p q = absurd q
-joined (Some s) (Some t) (Some u) x y p q = q ∙ ap (λ l. l ++ y) p ∙ append_assoc s x y
 
 pub loop-turn-preserved : goal.loop-turn-preserved
 loop-turn-preserved g c =
@@ -25,5 +19,5 @@ loop-turn-preserved g c =
       within = omega (arith, taken, length-drop done text, c.loop-turn.invariant.within);
       written =
           subst (Appends (g.W.Write.contents c.args.writer.now) (g.W.Write.contents c.write_once.new.writer)) more
-          (joined _ _ _ (take done text) _ c.loop-turn.invariant.written c.in_ok-done.ensures.bytes);
+          (Appends-trans _ _ _ (take done text) _ c.loop-turn.invariant.written c.in_ok-done.ensures.bytes);
     }

@@ -1,14 +1,10 @@
-use Rattle.std.proofs.Common.{◌≡◌, length, refl, ◌∙◌, arith}
-use Rattle.strips.specs.Rings.{some_below, ring_slants}
-use Rattle.strips.proofs.Picking.{some_more}
+use Rattle.std.proofs.Common.{◌≡◌, length, refl, ◌∙◌, arith, add-one}
+use Rattle.strips.specs.Rings.{ring_slants}
+use Rattle.strips.proofs.Picking.{some-suc}
 use Rattle.strips.proofs.ring.slanted.Goals as goal
 
-pub loop-i-init : goal.loop-i-init
-unfolding some_below
-loop-i-init c = refl
-
 pub loop-i-preserved : goal.loop-i-preserved
-loop-i-preserved c = rw (c.loop-i.invariant, c.slants_at-found.ensures, some_more) refl
+loop-i-preserved c = rw (c.loop-i.invariant, c.slants_at-found.ensures, add-one c.loop-i.i, some-suc) refl
 
 pub returns : goal.returns
 unfolding ring_slants

@@ -1,6 +1,7 @@
 -- So far some edge passed is slanted, or none is.
 use Rattle.std.proofs.Common.{◌≡◌}
-use Rattle.strips.specs.Rings.{some_below, slants_at}
+use Rattle.strips.proofs.Picking.{some_below}
+use Rattle.strips.specs.Rings.{slants_at}
 use Rattle.strips.proofs.ring.slanted.Given as goal
 
 abbrev pub invariant-loop-i : goal.invariant-loop-i

@@ -1,15 +1,9 @@
-use Rattle.std.proofs.Common.{get_or, ◌%◌, refl, sym, ◌∙◌, to_z-of_z, arith}
+use Rattle.std.proofs.Common.{get_or, ◌%◌, sym, ◌∙◌, to_z-of_z, arith}
 use Rattle.cell.proofs.Offsets.{on_fits}
 use Rattle.refusals.specs.Limits.{max_points}
 use Rattle.strips.proofs.Levels.{spans-is}
 use Rattle.strips.proofs.Walks.{crossed-end, from_end, crossed-yes, crossed-no}
 use Rattle.strips.proofs.walk.find.Goals as goal
-
-pub loop-k-init : goal.loop-k-init
-loop-k-init c = λ hi b. refl
-
-pub spans-requires : goal.spans-requires
-spans-requires c = c.requires c.loop-k.k c.loop-k-test.true
 
 pub returns-then-spans : goal.returns-then-spans
 returns-then-spans c = λ hi b.

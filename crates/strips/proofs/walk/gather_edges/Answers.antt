@@ -1,8 +1,7 @@
-use Rattle.std.proofs.Common.{ℕ, List, ℤ, length, take, ◌+◌, ◌≡◌, ◌≤◌, refl, sym, ap, ◌∙◌, arith, length-take-le}
+use Rattle.std.proofs.Common.{ℕ, List, ℤ, ◌+◌, ◌≡◌, ◌≤◌, refl, sym, ◌∙◌, arith}
 use Rattle.cell.proofs.Offsets.{off-le}
 use Rattle.refusals.specs.Limits.{coordinate}
 use Rattle.strips.specs.Rings.{edge_at}
-use Rattle.strips.specs.Sorted.{picked, up_to}
 use Rattle.strips.specs.Walk.{unsorted_edges}
 use Rattle.strips.specs.declared.ring.Edge.{Edge}
 use Rattle.strips.proofs.Picking.{front}
@@ -11,7 +10,7 @@ use Rattle.strips.proofs.walk.gather_edges.Goals as goal
 use Rattle.strips.proofs.walk.gather_edges.Goals.{then-vertical, else-vertical}
 
 pub loop-i-init : goal.loop-i-init
-unfolding unsorted_edges picked up_to
+unfolding unsorted_edges
 loop-i-init c = (omega arith, refl)
 
 -- an edge's x is a coordinate
@@ -42,11 +41,3 @@ loop-i-preserved c =
           let v = rw (c.vertical.ensures, c.edge_at-e.ensures) at w.if-vertical.false in
           (rw w.n-is (omega arith), rw (w.row-is, w.n-is) (s.invariant.1 ∙ sym (unsorted-no ps s.i v)))
     ]
-
-pub returns : goal.returns
-returns c =
-    let ps = c.args.points.now in
-    let s = c.loop-i in
-    let e : s.i ≡ length ps = omega arith in
-    let f : take s.n s.row ≡ unsorted_edges ps (length ps) = s.invariant.1 ∙ rw e refl in
-    record { front = f; count = sym (length-take-le s.n s.row (omega arith)) ∙ ap length f; fits = omega arith }

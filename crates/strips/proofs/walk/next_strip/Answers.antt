@@ -1,16 +1,13 @@
-use Rattle.std.proofs.Common.{length, get_or, ◌+◌, ◌-◌, refl, sym, ◌∙◌, arith}
+use Rattle.std.proofs.Common.{get_or, ◌+◌, sym, ◌∙◌, arith}
 use Rattle.strips.proofs.Levels.{left-none}
 use Rattle.strips.proofs.Bands.{ready-band}
-use Rattle.strips.proofs.Walks.{left_end, left-strip, left-thin, left-on, band-falls, bands-fall}
+use Rattle.strips.proofs.Walks.{left_end, left-strip, left-thin, left-on}
 use Rattle.strips.proofs.walk.next_strip.Goals as goal
 
 pub returns-then-heights-eq0 : goal.returns-then-heights-eq0
 returns-then-heights-eq0 c =
     let a = c.args in
     sym (left_end a.points.now a.edges.now a.heights.now a.edge a.band (omega arith))
-
-pub loop-k-init : goal.loop-k-init
-loop-k-init c = refl
 
 pub offset_bounds-edges-a : goal.offset_bounds-edges-a
 offset_bounds-edges-a c =
@@ -50,10 +47,6 @@ loop-k-preserved-else-x0-x1 c =
     (omega (arith, c.loop-k-test.true)) (c.find-a.ensures hi band) (c.find-b.ensures hi band) c.if-b-edges.true c.if-x0-x1.false)
     ∙ s.invariant
 
-pub loop-k-smaller-else-b-edges : goal.loop-k-smaller-else-b-edges
-loop-k-smaller-else-b-edges c =
-    band-falls (length c.args.heights.now - 1) c.loop-k.k (length c.args.edges.now) c.loop-k.j c.loop-k-test.true
-
 pub loop-k-preserved-else-b-edges : goal.loop-k-preserved-else-b-edges
 loop-k-preserved-else-b-edges c =
     let a = c.args in
@@ -64,11 +57,6 @@ loop-k-preserved-else-b-edges c =
     (left-on a.points.now a.edges.now a.heights.now s.j s.k c.find-a.result c.find-b.result
     (omega (arith, c.loop-k-test.true)) (c.find-a.ensures hi band) (c.find-b.ensures hi band) c.if-b-edges.false)
     ∙ s.invariant
-
-pub loop-k-smaller : goal.loop-k-smaller
-loop-k-smaller c =
-    bands-fall (length c.args.heights.now - 1) c.loop-k.k c.skip-k.result (length c.args.edges.now) c.loop-k.j
-    c.loop-k-test.true c.skip-k.ensures.low
 
 pub loop-k-preserved : goal.loop-k-preserved
 loop-k-preserved c =

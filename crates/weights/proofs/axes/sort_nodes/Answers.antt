@@ -1,24 +1,20 @@
-use Rattle.std.proofs.Common.{subst, List, ℕ, arith, IsPermutation}
-use Rattle.weights.specs.Lines.{entry_of}
+use Rattle.std.proofs.Common.{◌∙◌, List, ℕ, ◌≡◌, map, length, take, length-take, subst, arith, IsPermutation}
+use Rattle.std.specs.List.{range_with_len}
+use Rattle.weights.specs.Lines.{entry_of, Lined}
 use Rattle.weights.specs.Bare.{faced}
-use Rattle.weights.proofs.Entries.{filled_more, filled_all}
-use Rattle.weights.proofs.Nets.{faced-long, entry-is}
+use Rattle.weights.proofs.Facing.{faced-long}
+use Rattle.weights.proofs.Neighbours.{numbers}
 use Rattle.weights.proofs.axes.sort_nodes.Goals as goal
-
-pub loop-i-preserved : goal.loop-i-preserved
-loop-i-preserved c =
-    let net = c.args.net.now in
-    let i = c.loop-i.i in
-    let h = c.loop-i-test.true in
-    filled_more (entry_of (faced net c.args.axis)) c.loop-i.scratch i (omega arith) c.loop-i.invariant _
-    (entry-is net c.args.axis i h c.place.ensures.value)
 
 pub returns : goal.returns
 returns c =
-    let net = c.args.net.now in
-    let n = faced-long net c.args.axis in
-    record {
-      same = subst (λ (xs : List (List ℕ)). IsPermutation xs c.sort_into.new.into)
-          (filled_all (entry_of (faced net c.args.axis)) c.loop-i.scratch _ c.loop-i.i (omega arith) (omega arith) c.loop-i.invariant) c.sort_into.ensures.same;
-      sorted = c.sort_into.ensures.sorted;
-    }
+    let ns = faced c.args.net.now c.args.axis in
+    let into = c.sort_entries.new.into in
+    let n = faced-long c.args.net.now c.args.axis in
+    let m : length into ≡ length ns = omega (arith, length-take {A = List ℕ}) in
+    let all : length (take (length c.args.net.now.nodes.now) c.args.row.now) ≡ length ns = omega (arith, length-take {A = List ℕ}) in
+    let L : Lined ns into = record {
+      same = subst (λ (k : ℕ). IsPermutation (map (entry_of ns) (range_with_len 0 k)) into) all c.sort_entries.ensures.same;
+      sorted = c.sort_entries.ensures.sorted;
+    } in
+    record { lined = L; an_entry_each = m ∙ n; numbers = λ k d h. (let i = numbers ns into L k d h in omega arith) }

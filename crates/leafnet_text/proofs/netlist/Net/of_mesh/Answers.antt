@@ -1,60 +1,62 @@
--- The call's rows are the program's, and its polygons the board's.
-use Rattle.std.proofs.Common.{◌≡◌, ◌∙◌, rules}
-use Rattle.refusals.specs.Said.{refusal}
-use Rattle.network.specs.Says.{polygons, rows, network_says, network_leaves}
-use Rattle.leafnet_text.specs.Rooms.{net_rows}
-use Rattle.leafnet_text.specs.Boards.{given_of, polygons_of}
-use Rattle.leafnet_text.specs.Nets.{net_said}
-use Rattle.leafnet_text.proofs.Nets.{net-left}
+-- The call's polygons are the board's.
+use Rattle.std.proofs.Common.{◌≡◌, ◌∙◌, Err, sym, rules, subst, length-take-le, take, All}
+use Rattle.std.specs.Float.{NotNan}
+use Rattle.table.specs.Rows.{order_in}
+use Rattle.leafnet_text.specs.declared.stop.Stop.TheVariants.{Refused}
+use Rattle.leafnet_text.specs.Boards.{given_of}
+use Rattle.leafnet_text.specs.Output.{lines_text}
+use Rattle.leafnet_text.proofs.Refusing.{prints-stopped}
+use Rattle.leafnet_text.proofs.Netted.{net-left, net-refused}
 use Rattle.leafnet_text.proofs.netlist.Net.of_mesh.Goals as goal
 
-pub returns-in_err-counts-clause-says : goal.returns-in_err-counts-clause-says
-returns-in_err-counts-clause-says c =
-    let m = c.args.mesh.now in
+pub returns-in_err-counts : goal.returns-in_err-counts
+returns-in_err-counts c =
     let x = c.in_err-counts in
-    let said : net_said c.from_residual.result ≡ refusal x.field-0.0 = search rules in
-    said ∙ x.ensures.answer
-    ∙ (λ i. network_says m.row m.head.count m.head.max_level
-    (polygons (c.deref.ensures.value i) (c.deref-2.ensures.value i) (c.deref-3.ensures.value i)) net_rows)
+    let same : c.from_residual.result ≡ Err (Refused x.field-0.0) = search rules in
+    prints-stopped c.from_residual.result x.field-0.0 _ _ same
+    (net-refused (given_of c.args.board.now) _ _ _ _ c.deref.ensures.value c.deref-2.ensures.value c.deref-3.ensures.value
+    x.field-0.0 _ x.ensures.answer)
+
+pub slice_bounds-nodes-end : goal.slice_bounds-nodes-end
+slice_bounds-nodes-end c =
+    let x = c.in_ok-counts in
+    (net-left (given_of c.args.board.now) _ _ _ _ c.deref.ensures.value c.deref-2.ensures.value c.deref-3.ensures.value
+    x.counts _ x.ensures.answer x.ensures.rows).few_nodes
+
+pub slice_bounds-to_vec-end : goal.slice_bounds-to_vec-end
+slice_bounds-to_vec-end c =
+    let x = c.in_ok-counts in
+    let left = net-left (given_of c.args.board.now) _ _ _ _ c.deref.ensures.value c.deref-2.ensures.value c.deref-3.ensures.value
+    x.counts _ x.ensures.answer x.ensures.rows in
+    sym (length-take-le _ _ left.few_nodes)
+
+pub slice_bounds-edges-end : goal.slice_bounds-edges-end
+slice_bounds-edges-end c =
+    let x = c.in_ok-counts in
+    (net-left (given_of c.args.board.now) _ _ _ _ c.deref.ensures.value c.deref-2.ensures.value c.deref-3.ensures.value
+    x.counts _ x.ensures.answer x.ensures.rows).few_edges
+
+pub slice_bounds-to_vec-end-2 : goal.slice_bounds-to_vec-end-2
+slice_bounds-to_vec-end-2 c =
+    let x = c.in_ok-counts in
+    let left = net-left (given_of c.args.board.now) _ _ _ _ c.deref.ensures.value c.deref-2.ensures.value c.deref-3.ensures.value
+    x.counts _ x.ensures.answer x.ensures.rows in
+    sym (length-take-le _ _ left.few_edges)
 
 pub invariant_of-result : goal.invariant_of-result
 invariant_of-result c =
-    let m = c.args.mesh.now in
-    let v = c.network.new in
     let x = c.in_ok-counts in
-    let p = polygons_of (given_of c.args.board.now) in
-    let ps : polygons c.deref.result.now c.deref-2.result.now c.deref-3.result.now ≡ p =
-    λ i. polygons (c.deref.ensures.value i) (c.deref-2.ensures.value i) (c.deref-3.ensures.value i) in
-    let left = net-left m.row m.head.count m.head.max_level p x.counts (rows v.nodes v.ends v.conductances v.corners v.cells v.work)
-    (x.ensures.answer ∙ (λ i. network_says m.row m.head.count m.head.max_level (ps i) net_rows))
-    (x.ensures.rows ∙ (λ i. network_leaves m.row m.head.count m.head.max_level (ps i) net_rows))
-    c.network.auto.nodes c.network.auto.ends c.network.auto.conductances in
-    record { few_nodes = left.few_nodes; few_edges = left.few_edges; numbers = left.numbers }
+    let left = net-left (given_of c.args.board.now) _ _ _ _ c.deref.ensures.value c.deref-2.ensures.value c.deref-3.ensures.value
+    x.counts _ x.ensures.answer x.ensures.rows in
+    let edges : c.in_ok-to_vec-2.field-0.items ≡ _ = search rules in
+    record { numbers = subst (All (λ e. NotNan e.conductance)) (sym edges) left.numbers }
 
-pub returns-clause-says : goal.returns-clause-says
-returns-clause-says c =
+pub returns : goal.returns
+returns c =
     let m = c.args.mesh.now in
     let x = c.in_ok-counts in
-    x.ensures.answer
-    ∙ (λ i. network_says m.row m.head.count m.head.max_level
-    (polygons (c.deref.ensures.value i) (c.deref-2.ensures.value i) (c.deref-3.ensures.value i)) net_rows)
-
-pub returns-clause-net : goal.returns-clause-net
-returns-clause-net c =
-    let m = c.args.mesh.now in
-    let v = c.network.new in
-    let x = c.in_ok-counts in
-    let p = polygons_of (given_of c.args.board.now) in
-    let ps : polygons c.deref.result.now c.deref-2.result.now c.deref-3.result.now ≡ p =
-    λ i. polygons (c.deref.ensures.value i) (c.deref-2.ensures.value i) (c.deref-3.ensures.value i) in
-    let left = net-left m.row m.head.count m.head.max_level p x.counts (rows v.nodes v.ends v.conductances v.corners v.cells v.work)
-    (x.ensures.answer ∙ (λ i. network_says m.row m.head.count m.head.max_level (ps i) net_rows))
-    (x.ensures.rows ∙ (λ i. network_leaves m.row m.head.count m.head.max_level (ps i) net_rows))
-    c.network.auto.nodes c.network.auto.ends c.network.auto.conductances in
-    record {
-      node_count = left.node_count;
-      edge_count = left.edge_count;
-      nodes = left.nodes_listed;
-      ends = left.ends_listed;
-      conductances = left.conductances_listed;
-    }
+    let left = net-left (given_of c.args.board.now) _ _ _ _ c.deref.ensures.value c.deref-2.ensures.value c.deref-3.ensures.value
+    x.counts _ x.ensures.answer x.ensures.rows in
+    let nodes : take x.counts.nodes c.network.new.nodes ≡ c.in_ok-to_vec.field-0.items = search rules in
+    let edges : take x.counts.edges c.network.new.edges ≡ c.in_ok-to_vec-2.field-0.items = search rules in
+    left.text m.splits ∙ (λ i. lines_text m.row m.head m.splits (order_in m.row m.head) (nodes i) (edges i))

@@ -9,9 +9,9 @@ next_strip-requires-clause-begin c =
     let r = c.args.self.now.ring in
     subst (λ (es : List ℕ). BeginAtPoints (length r.points.now) es) (sym r.edges_in_order) (edges-begin r.points.now r.few)
 
-pub returns-in-End-clause-steps : goal.returns-in-End-clause-steps
+pub returns-in-None-clause-steps : goal.returns-in-None-clause-steps
 unfolding left
-returns-in-End-clause-steps c =
+returns-in-None-clause-steps c =
     let hs = c.args.self.now.ring.heights.now in
     let none = drop_all (length hs) hs (omega arith) in
-    (sym c.in-End.ensures, rw none refl)
+    (sym c.in-None.ensures, rw none refl)

@@ -1,0 +1,111 @@
+//! The rows of a net, as the library has them in memory.
+
+use crate::limits;
+use std::mem::size_of;
+
+/// A node: layer, component, and where it stands, in ticks.
+#[repr(C)]
+#[derive(Clone, Copy, Debug, Default, PartialEq, Eq, PartialOrd, Ord, Hash)]
+pub struct Node {
+    /// Of the cells that it is a corner of.
+    pub layer: u16,
+    /// As the layer.
+    pub component: u32,
+    /// In ticks.
+    pub x: i64,
+    /// In ticks.
+    pub y: i64,
+}
+
+/// An edge: its two nodes, and its conductance in siemens, which is not the copper's everywhere
+/// (docs/CONDUCTANCES.md).
+#[repr(C)]
+#[derive(Clone, Copy, Debug, Default, PartialEq)]
+pub struct Edge {
+    /// The place of a node in the nodes' row.
+    pub from: usize,
+    /// As `from`.
+    pub to: usize,
+    /// In siemens.
+    pub conductance: f64,
+}
+
+/// A cell: its nodes SW, SE, NE, NW ([`columns`](crate::columns) names these places), and its sheet resistance in
+/// ohms a square.
+#[repr(C)]
+#[derive(Clone, Copy, Debug, Default, PartialEq)]
+pub struct Cell {
+    /// SW, SE, NE, NW.
+    pub corners: [usize; 4],
+    /// In ohms a square.
+    pub sheet: f64,
+}
+
+// The header says the same.
+const _: () =
+    assert!(size_of::<Node>() == 24 && size_of::<Edge>() == 24 && size_of::<Cell>() == 40);
+
+/// A net with rows of its own.
+#[derive(Clone, Debug, Default, PartialEq)]
+pub struct Net {
+    /// Each is named by its place in this row.
+    pub nodes: Vec<Node>,
+    /// By polygon, as docs/RULES.md has their order.
+    pub edges: Vec<Edge>,
+    /// Cell i is [`leaf_order`](crate::leaf_order)'s i-th leaf.
+    pub cells: Vec<Cell>,
+}
+
+impl Net {
+    /// The net as the calls take it.
+    pub fn rows(&self) -> NetRows<'_> {
+        NetRows {
+            nodes: &self.nodes,
+            edges: &self.edges,
+            cells: &self.cells,
+        }
+    }
+}
+
+/// A net by its rows.
+#[derive(Clone, Copy, Debug, Default, PartialEq)]
+pub struct NetRows<'a> {
+    /// As in [`Net`].
+    pub nodes: &'a [Node],
+    /// As in [`Net`].
+    pub edges: &'a [Edge],
+    /// As in [`Net`].
+    pub cells: &'a [Cell],
+}
+
+impl NetRows<'_> {
+    /// Enough work room for a check of this net.
+    pub(crate) fn check_work(self) -> Vec<u64> {
+        vec![0; limits::check_work(self.nodes.len(), self.edges.len())]
+    }
+}
+
+/// Rows that are lent for a net, and the work room for making it. For each leaf it needs what
+/// [`limits`](crate::limits) says.
+#[derive(Debug)]
+pub struct NetRoom<'a> {
+    /// [`NODES_A_LEAF`](limits::NODES_A_LEAF) for each leaf.
+    pub nodes: &'a mut [Node],
+    /// [`EDGES_A_LEAF`](limits::EDGES_A_LEAF) for each leaf.
+    pub edges: &'a mut [Edge],
+    /// [`CELLS_A_LEAF`](limits::CELLS_A_LEAF) for each leaf.
+    pub cells: &'a mut [Cell],
+    /// [`WORK_A_LEAF`](limits::WORK_A_LEAF) for each leaf.
+    pub work: &'a mut [u64],
+}
+
+/// How many nodes, edges and cells a net has.
+#[derive(Clone, Copy, Debug, PartialEq, Eq)]
+pub struct Counts {
+    /// In front of the nodes' row.
+    pub nodes: usize,
+    /// In front of the edges' row.
+    pub edges: usize,
+    /// In front of the cells' row.
+    pub cells: usize,
+}

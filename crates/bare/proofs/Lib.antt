@@ -1,4 +1,0 @@
--- Laws that belong to no one function.
-pub mod Halves
-pub mod Parted
-pub mod Bridge

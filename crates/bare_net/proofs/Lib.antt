@@ -1,0 +1,5 @@
+-- Laws that belong to no one function.
+pub mod Written
+pub mod Welding
+pub mod Board
+pub mod Nets

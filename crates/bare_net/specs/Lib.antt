@@ -1,0 +1,4 @@
+-- The net before the weights, by the rows of the work room.
+pub mod Sides
+pub mod Edges
+pub mod Nets

@@ -1,2 +1,0 @@
--- What build leaves of a polygon of one strip.
-pub mod Laws

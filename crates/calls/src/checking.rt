@@ -1,0 +1,115 @@
+//! The two checks of a net.
+use checks::{Hanging, check_by_layer, check_network_conforming};
+use net_rows::{Corners, Edge, NetCell, NetRows, Node, Polygons};
+use refusals::Refusal;
+use table::Head;
+
+const NONE: i64 = table::slots::NO_CELL;
+
+// One leaf of 8 by 8 ticks.
+const LEAF: [i64; 8] = [0, 0, 8, 8, 0, NONE, NONE, 0];
+
+const HEAD: Head = Head {
+    count: 1,
+    max_level: 2,
+};
+
+fn node(component: u32, x: i64, y: i64) -> Node {
+    Node {
+        layer: 1,
+        component,
+        x,
+        y,
+    }
+}
+
+// Its corners, and a fifth node at the middle of its south side, of another component.
+fn nodes() -> [Node; 5] {
+    [
+        node(0, 0, 0),
+        node(0, 8, 0),
+        node(0, 8, 8),
+        node(0, 0, 8),
+        node(3, 4, 0),
+    ]
+}
+
+// One half is there.
+const EDGES: [Edge; 1] = [Edge {
+    from: 4,
+    to: 0,
+    conductance: 0.5,
+}];
+
+const CELLS: [NetCell; 1] = [NetCell {
+    corners: Corners {
+        southwest: 0,
+        southeast: 1,
+        northeast: 2,
+        northwest: 3,
+    },
+    sheet: 1.0,
+}];
+
+fn rows(nodes: &[Node]) -> NetRows<'_> {
+    NetRows {
+        nodes,
+        edges: &EDGES,
+        cells: &CELLS,
+    }
+}
+
+const POLYGONS: Polygons<'static> = Polygons {
+    layers: &[1],
+    components: &[0],
+};
+
+// What is asked for five nodes and an edge.
+const ROOM: usize = 48;
+
+#[test]
+fn a_half_is_missing(rt: HostRuntime) {
+    let hanging = Hanging {
+        node: 4,
+        start: 0,
+        end: 1,
+    };
+    let mut work = [7; ROOM];
+    assert_eq!(rt;
+        check_network_conforming(&LEAF, HEAD, &rows(&nodes()), &mut []),
+        Ok(Some(hanging))
+    );
+    assert_eq!(rt;
+        check_network_conforming(&LEAF, HEAD, &rows(&nodes()), &mut work),
+        Ok(Some(hanging))
+    );
+    assert_eq!(rt; work, [0; ROOM]);
+}
+
+#[test]
+fn another_component_does_not_count(rt: HostRuntime) {
+    let mut work = [7; ROOM];
+    assert_eq!(rt;
+        check_by_layer(&LEAF, HEAD, &rows(&nodes()), &POLYGONS, &mut []),
+        Ok(None)
+    );
+    assert_eq!(rt;
+        check_by_layer(&LEAF, HEAD, &rows(&nodes()), &POLYGONS, &mut work),
+        Ok(None)
+    );
+    assert_eq!(rt; work, [0; ROOM]);
+}
+
+#[test]
+fn a_refused_call_leaves_the_room(rt: HostRuntime) {
+    let none = Polygons {
+        layers: &[],
+        components: &[],
+    };
+    let mut work = [7; ROOM];
+    assert_eq!(rt;
+        check_by_layer(&LEAF, HEAD, &rows(&nodes()), &none, &mut work),
+        Err(Refusal::BadTable)
+    );
+    assert_eq!(rt; work, [7; ROOM]);
+}

@@ -1,0 +1,68 @@
+//! Balance and conform.
+use even::{balance, conform};
+use refusals::Refusal;
+use std::test::Fail;
+use table::Head;
+use table::refine::refine;
+
+const NONE: i64 = 4294967295;
+
+const ROOTS: [i64; 16] = [0, 0, 8, 8, 0, NONE, NONE, 0, 8, 0, 16, 8, 0, NONE, NONE, 1];
+
+// Two roots side by side; the left one is split, and then its lower right quarter, cell 3.
+fn split_twice(row: &mut [i64]) -> Option<Head> {
+    for (i, number) in ROOTS.iter().enumerate() {
+        if i < row.len() {
+            row[i] = *number;
+        }
+    }
+    let head = Head {
+        count: 2,
+        max_level: 2,
+    };
+    let once = refine(row, head, 0).ok()?;
+    refine(row, once, 3).ok()
+}
+
+#[test]
+fn an_empty_table_has_nothing_to_split(rt: HostRuntime) -> Result<(), Fail> {
+    let head = Head {
+        count: 0,
+        max_level: 2,
+    };
+    let done = balance(&mut [], head).ok().ok_or("refused")?;
+    assert_eq!(rt; done.splits, 0);
+    assert_eq!(rt; done.head.count, 0);
+    Ok(())
+}
+
+#[test]
+fn balance_splits_the_other_root_alone(rt: HostRuntime) -> Result<(), Fail> {
+    let mut row = [0i64; 112];
+    let head = split_twice(&mut row).ok_or("refused")?;
+    let done = balance(&mut row, head).ok().ok_or("refused")?;
+    assert_eq!(rt; done.splits, 1);
+    assert_eq!(rt; done.head.count, 14);
+    assert_eq!(rt; row[14], 10);
+    Ok(())
+}
+
+#[test]
+fn conform_splits_all_down_to_the_finest(rt: HostRuntime) -> Result<(), Fail> {
+    let mut row = [0i64; 336];
+    let head = split_twice(&mut row).ok_or("refused")?;
+    let done = conform(&mut row, head).ok().ok_or("refused")?;
+    assert_eq!(rt; done.splits, 8);
+    assert_eq!(rt; done.head.count, 42);
+    Ok(())
+}
+
+#[test]
+fn one_slot_too_few_leaves_the_row_as_it_was(rt: HostRuntime) -> Result<(), Fail> {
+    let mut row = [0i64; 104];
+    let head = split_twice(&mut row).ok_or("refused")?;
+    let before = row;
+    assert!(rt; matches!(balance(&mut row, head), Err(Refusal::NoRoom)));
+    assert!(rt; row == before);
+    Ok(())
+}

@@ -1,3 +1,0 @@
--- The contact call.
-pub mod Contact
-pub mod Laws

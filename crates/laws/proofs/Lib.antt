@@ -1,0 +1,19 @@
+-- No node of a polygon of one strip hangs in a balanced table; what build leaves of such a polygon; what the checks say of a made net; and what build says of a board that was read.
+pub mod Axis
+pub mod Apart
+pub mod Placed
+pub mod Ends
+pub mod HangsNot
+pub mod Evens
+pub mod Tables
+pub mod Roots
+pub mod Built
+pub mod Places
+pub mod Pieces
+pub mod Clear
+pub mod Sound
+pub mod Clean
+pub mod Cases
+pub mod Eight
+pub mod Sheets
+pub mod Taken

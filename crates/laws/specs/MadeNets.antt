@@ -1,0 +1,49 @@
+-- A made net is sound, and the checks find no fault in it: the laws that src/made.rt promises. Definitions only.
+use Rattle.std.specs.Prelude.{◌≡◌, List, [], ◌∷◌, ℤ, length, All, IsTrue}
+use Rattle.refusals.specs.Said.{Said, accepted}
+use Rattle.table.specs.declared.Head.{Head}
+use Rattle.table.specs.Rows.{IsTable, cells_in}
+use Rattle.net_rows.specs.Nets.{sound_net}
+use Rattle.net_rows.specs.Polygons.{polygons_below}
+use Rattle.checks.specs.Checks.{conforming_says, layers_says}
+use Rattle.net.specs.Net.{Poly, Net, network}
+use Rattle.laws.specs.Made.{layers_of, components_of, AllApart, InRange, HasRoom, node_row}
+
+-- the net that is made of a table
+abbrev pub made : List ℤ → Head → List Poly → Net
+made t head ps = network (cells_in t head) ps
+
+-- every call that takes a net takes a made one
+abbrev pub MadeNetsAreSound : Type 0
+MadeNetsAreSound =
+    (t : List ℤ) (head : Head) (ps : List Poly) → IsTable t head
+    → IsTrue (sound_net (node_row (made t head ps)) (made t head ps).edges (made t head ps).cells)
+
+-- and its nodes have room in a row
+abbrev pub MadeNodesHaveRoom : Type 0
+MadeNodesHaveRoom = (t : List ℤ) (head : Head) (ps : List Poly) → All InRange ps → All HasRoom (node_row (made t head ps))
+
+-- what the two checks answer for a made net
+abbrev pub made_layers_says : List ℤ → Head → List Poly → Said
+made_layers_says t head ps =
+    layers_says t head (node_row (made t head ps)) (made t head ps).edges (made t head ps).cells (layers_of ps) (components_of ps)
+
+abbrev pub made_conforming_says : List ℤ → Head → List Poly → Said
+made_conforming_says t head ps = conforming_says t head (node_row (made t head ps)) (made t head ps).edges (made t head ps).cells
+
+-- where no two polygons share layer and component, the by-layer check answers 'none', whatever the table
+abbrev pub ApartPolygonsPass : Type 0
+ApartPolygonsPass =
+    (t : List ℤ) (head : Head) (ps : List Poly) → IsTable t head → AllApart ps → IsTrue (polygons_below (length ps) (cells_in t head))
+    → made_layers_says t head ps ≡ accepted []
+
+-- and where there is one polygon, so does the check by x and y alone
+abbrev pub OnePolygonPasses : Type 0
+OnePolygonPasses =
+    (t : List ℤ) (head : Head) (p : Poly) → IsTable t head → IsTrue (polygons_below 1 (cells_in t head))
+    → made_layers_says t head (p ∷ []) ≡ accepted []
+
+abbrev pub OnePolygonConforms : Type 0
+OnePolygonConforms =
+    (t : List ℤ) (head : Head) (p : Poly) → IsTable t head → IsTrue (polygons_below 1 (cells_in t head))
+    → made_conforming_says t head (p ∷ []) ≡ accepted []

@@ -1,0 +1,11 @@
+//! What holds across crates: no node of a net hangs, also of what build leaves; what the calls say of a made net; build
+//! takes what was read of a record; and the rules' boundary cases. Definitions in specs/, laws in proofs/ and, as
+//! contracts, in the modules. There is no code.
+
+#![tactic(auto)]
+
+pub mod boundary;
+pub mod built_strip;
+pub mod hanging;
+pub mod made;
+pub mod records;

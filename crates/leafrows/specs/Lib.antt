@@ -1,2 +1,0 @@
--- The leaves as rows.
-pub mod Rows
