@@ -6,29 +6,24 @@
 Public functions (signature and clauses), ghost fields and invariants of types, and definitions in specs/. Names that
 only went into snake case, and std's words under their newer names, count as the same. A function or definition is
 found again in its crate, or under its name in one other crate, unless CHANCE says that the two only share a name.
-Theorems are paired by the table of docs/DESIGN-PASS.md.
+Theorems are paired by the table of docs/DESIGN-PASS.md. A record that was named after a number, which is what balance
+and conform promise, is shown under its present name.
 """
 import collections
-import io
 import re
-import subprocess
 import sys
-import tarfile
+
+from design_pass import files, matching
 
 NEWER = [(r'\beqb\b', 'nat_eq'), (r'\bltb\b', 'nat_lt'), (r'\bleb\b', 'nat_le'), (r'\bget_or\b', 'slice_index_or'),
          (r'\bsome_below\b|\bany_below\b', 'any'), (r'\bNode\b', 'MeshNode'), (r'\bPatch\b', 'NetCell')]
 
-CHANCE = {('record', 'number'), ('record', 'next'), ('strips', 'next'), ('rows', 'clear'), ('strips', 'skip'), ('printing', 'text')}
-OF_TRAITS = {'count', 'entry', 'nodes', 'edges', 'ready', 'serves', 'output', 'from_gives', 'try_from_gives', 'next_gives',
-             'remaining', 'Value', 'view'}
+RENAMED = [(r'\bDemand[A-Z]\w+', 'EndsCoarsest'), (r'\bdemand_\w+', 'ends_coarsest')]
 
-
-def files(commit):
-    tar = subprocess.run(['git', 'archive', commit, 'crates'], capture_output=True, check=True).stdout
-    with tarfile.open(fileobj=io.BytesIO(tar)) as archive:
-        for member in archive:
-            if member.isfile() and re.search(r'/src/.*\.rt$|/(specs|proofs)/.*\.antt$', member.name):
-                yield member.name, archive.extractfile(member).read().decode()
+CHANCE = {('record', 'number'), ('record', 'next'), ('strips', 'next'), ('rows', 'clear'), ('strips', 'skip'),
+          ('printing', 'text')}
+OF_TRAITS = {'count', 'entry', 'nodes', 'edges', 'ready', 'serves', 'output', 'from_gives', 'try_from_gives',
+             'next_gives', 'remaining', 'Value', 'view'}
 
 
 def squeeze(text):
@@ -47,28 +42,19 @@ def plain(text):
     return re.sub(r'[\s()]+', '', text)
 
 
-def closing(text, start, opens='{', closes='}'):
-    depth = 0
-    for i in range(start, len(text)):
-        depth += (text[i] == opens) - (text[i] == closes)
-        if depth == 0:
-            return i
-    return len(text)
-
-
 def functions(raw):
     text = re.sub(r'//[^\n]*', '', raw)
     text = text.split('#[cfg(test)]')[0]
     for m in re.finditer(r'\bpub (?:extern "C" )?fn (\w+)', text):
         start = text.find('(', m.end())
-        end = closing(text, start, '(', ')')
+        end = matching(text, start, '(', ')')
         rest, at, clauses = text[end + 1:], 0, []
         answer = squeeze(re.split(r'\brequires\b|\bensures\b|\{', rest)[0])
         while True:
             c = re.compile(r'\s*(?:->[^{]*?)?\s*(requires|ensures\*?)(?:\s+(\w+))?\s*\{').match(rest, at)
             if not c:
                 break
-            stop = closing(rest, c.end() - 1)
+            stop = matching(rest, c.end() - 1, '{', '}')
             clauses.append(f'{c[1]} {c[2] or ""} {{ {squeeze(rest[c.end():stop])} }}'.replace('  ', ' '))
             at = stop + 1
         yield m[1], f'fn {m[1]}({squeeze(text[start + 1:end]).rstrip(",")}) {answer}'.strip(), clauses
@@ -76,7 +62,7 @@ def functions(raw):
 
 def ghosts(raw):
     for m in re.finditer(r'\bghost (?!use\b)(\w+)\s*[:=]\s*\{', raw):
-        yield m[1], squeeze(raw[m.end():closing(raw, m.end() - 1)])
+        yield m[1], squeeze(raw[m.end():matching(raw, m.end() - 1, '{', '}')])
 
 
 def theorems(crate, raw):
@@ -128,9 +114,11 @@ def definitions(raw):
 
 
 def read(commit):
-    found = {'functions': collections.OrderedDict(), 'ghosts': collections.OrderedDict(), 'definitions': collections.OrderedDict(), 'theorems': []}
+    found = {'functions': {}, 'ghosts': {}, 'definitions': {}, 'theorems': []}
     for name, raw in files(commit):
         crate = name.split('/')[1]
+        for old, new in RENAMED:
+            raw = re.sub(old, new, raw)
         if name.endswith('.rt'):
             for word, sign, clauses in functions(raw):
                 found['functions'].setdefault((crate, word), []).append((sign, clauses))
@@ -193,12 +181,15 @@ def main():
     old_commit, new_commit = (sys.argv[1:] + ['HEAD'])[:2]
     old, new = read(old_commit), read(new_commit)
     print('# What changed of what callers and readers see\n')
-    print(f'Written by `python3 docs/design_changes.py {old_commit} {new_commit} > docs/DESIGN-CHANGES.md`, whose head says what counts as the same.')
+    print(f'Written by `python3 docs/design_changes.py {old_commit} {new_commit} > docs/DESIGN-CHANGES.md`, whose head '
+          'says what counts as the same.')
     print('Lines that begin with - are the old ones, lines that begin with + the new ones.')
-    for kind, title in (('functions', 'Public functions'), ('ghosts', 'Facts that types keep'), ('definitions', 'Definitions')):
+    titles = {'functions': 'Public functions', 'ghosts': 'Facts that types keep', 'definitions': 'Definitions'}
+    for kind, title in titles.items():
         both, alone = paired(old[kind], new[kind])
         changed = [(a, b) for a, b in both if meaning(old[kind][a]) != meaning(new[kind][b])]
-        print(f'\n## {title}\n\n{len(old[kind])} before, {len(new[kind])} now; the same {len(both) - len(changed)}, changed {len(changed)}, under other names or gone {len(alone)}.')
+        print(f'\n## {title}\n\n{len(old[kind])} before, {len(new[kind])} now; the same {len(both) - len(changed)}, '
+              f'changed {len(changed)}, under other names or gone {len(alone)}.')
         for a, b in changed:
             print(f'\n`{a[0]}::{a[1]}`' + (f' (now `{b[0]}::{b[1]}`)' if a != b else '') + '\n\n```')
             for line in text_of(old[kind][a]):

@@ -157,4 +157,5 @@ def main():
             print(f'{n[word]:7,}  {word}')
 
 
-main()
+if __name__ == '__main__':
+    main()
