@@ -1,7 +1,8 @@
 #!/usr/bin/env python3
 """Counts the forms that docs/DESIGN-PASS.md names, at a commit: python3 docs/design_pass.py [--list WORD] [COMMIT].
 
---list prints the places of each count whose name has WORD in it.
+--list prints the places of each count whose name has WORD in it; --again counts another way, by one pattern a row over
+the lines of code, and says nothing of what the places mean.
 """
 import collections
 import io
@@ -72,8 +73,41 @@ def clauses(contract):
         yield m.group(1), m.group(2) or '', contract[m.end():end]
 
 
+AGAIN = {
+    'enums': r'\benum \w',
+    '`bool` anywhere, also as a result': r'\bbool\b',
+    'lines with `NO_CELL`, `NONE` or `ANY`': r'\b(NO_CELL|NONE|ANY)\b',
+    'constants `const X: u64 = digits;`': r'\bconst \w+: u64 = \d+;',
+    '`while` and `loop`': r'\b(while|loop)\b',
+    '`for i in a..b`': r'\bfor [a-z]\w* in [^{\[]*\.\.',
+    '`for _ in a..b`: repeats, no index': r'\bfor _\w* in [^{\[]*\.\.',
+    '`for` over items': r'^\s*for (?![^{\[]*\.\.)',
+    'derives': r'#\[derive',
+    '`impl .. for`': r'\bimpl\b.*\bfor\b',
+    '`PartialEq`, `Ord`, `Clone`, `Copy` implemented by hand': r'\bimpl\b.*\b(PartialEq|Ord|Clone|Copy)\b.* for ',
+    'offsets in code (`* 8`, `* 4`, `* 64`, `4 * x`)': r'\* (8|4|64)\b|\b4 \* \w',
+    'numbers taken apart (`/` and `%` of 8, 4, 2, `RING_POINTS`)': r'[/%] (8|4|2|RING_POINTS)\b',
+}
+CONTRACT = re.compile(r'\b(requires|ensures|ghost)\b|[≡≤→λ]')
+
+
+def again(commit):
+    """Counts lines by one pattern a row, without comments, quotes and contracts."""
+    n = collections.Counter()
+    for name, raw in files(commit):
+        if name.endswith('.rt'):
+            code = [line for line in bare(raw).split('\n') if not CONTRACT.search(line)]
+            for row, pattern in AGAIN.items():
+                n[row] += sum(1 for line in code if re.search(pattern, line))
+    for row in AGAIN:
+        print(f'{n[row]:7,}  {row}')
+
+
 def main():
     args = sys.argv[1:]
+    if args[:1] == ['--again']:
+        again(args[1] if args[1:] else 'HEAD')
+        return
     wanted = None
     if args[:1] == ['--list']:
         wanted, args = args[1], args[2:]
@@ -116,7 +150,7 @@ def main():
                 add('1 bool parameters and fields', place, line)
             if re.search(r'\b(while|loop)\b', line):
                 add('3 while and loop', place, line)
-            if re.search(r'\bfor \w+ in [^{]*\.\.', line):
+            if re.search(r'\bfor \w+ in [^{\[]*\.\.', line):
                 add('3 for over an index', place, line)
             elif re.search(r'\bfor \S+.* in ', line) and not re.search(r'\bimpl\b', line):
                 add('3 for over items', place, line)

@@ -1,12 +1,12 @@
 -- What the rows hold is the net before the weights: the parts of the sides, and the cells.
-use Rattle.std.proofs.Common.{◌≡◌, refl, sym, ap, ◌∙◌, Bool, true, false, ◌&&◌, ◌==◌, nat_lt, cond, ⊎_elim, List, [], ◌∷◌, ◌++◌, map, ℕ, zero, suc, ◌+◌, ◌*◌, ◌/◌, ◌%◌, ◌<◌, ◌≤◌, arith, ltb, leb, length, get_or, length-append, get_or-append-add, le-ltb, ltb-true, eqb-true, Option, None, Some, Float}
+use Rattle.std.proofs.Common.{◌≡◌, refl, sym, ap, ◌∙◌, Bool, true, false, ◌&&◌, ◌==◌, nat_lt, cond, if◌then◌else◌, ⊎_elim, List, [], ◌∷◌, ◌++◌, map, ℕ, zero, suc, ◌+◌, ◌*◌, ◌/◌, ◌%◌, ◌<◌, ◌≤◌, arith, ltb, leb, length, get_or, length-append, get_or-append-add, le-ltb, ltb-true, eqb-true, Option, None, Some, Float}
 use Rattle.std.proofs.lemmas.Bool.{cases_lt}
 use Rattle.std.proofs.lemmas.List.{get_or-map}
 use Rattle.std.proofs.lemmas.List.FromFn.{fill_by_all}
 use Rattle.net.specs.Net.{Edge, NetCell, Piece, same_node, nowhere, edges_from, patches_from, weld, across, upright, One, Half, ◌·◌, ◌÷◌}
 use Rattle.net.specs.First.{key, first_of, rank, number_by, patch_by, Part, part, same_part}
 use Rattle.net.specs.Flat as Flat
-use Rattle.net.specs.Flat.{Leaf, leaves_from, pick_num, pick_float, slots_by, flat_places, corners_in, mids_in, flat_slots, flat_patches}
+use Rattle.net.specs.Flat.{Leaf, leaves_from, slots_by, flat_places, corners_in, mids_in, flat_slots, flat_patches}
 use Rattle.net.proofs.Weld.{Keyed, first-new}
 use Rattle.net.proofs.Keys.{both}
 use Rattle.net.proofs.Pieces.{edge_of}
@@ -33,11 +33,11 @@ on_is c zero = omega arith
 on_is c (suc s) = refl
 
 -- a side's part, by whether there is a node in the middle
-half-first : (hit : Bool) (a m b : ℕ) (r : Float) → ◌≡◌ {A = Edge} (record { from = a; to = pick_num hit m b; conductance = pick_float hit (One ÷ (r · Half)) (One ÷ r) }) (half_edge false (cond hit (Some m) None) a b r)
+half-first : (hit : Bool) (a m b : ℕ) (r : Float) → ◌≡◌ {A = Edge} (record { from = a; to = if hit then m else b; conductance = if hit then One ÷ (r · Half) else One ÷ r }) (half_edge false (cond hit (Some m) None) a b r)
 half-first true a m b r = refl
 half-first false a m b r = refl
 
-half-second : (hit : Bool) (a m b : ℕ) (r : Float) → ◌≡◌ {A = Edge} (record { from = pick_num hit m a; to = b; conductance = pick_float hit (One ÷ (r · Half)) (One ÷ r) }) (half_edge true (cond hit (Some m) None) a b r)
+half-second : (hit : Bool) (a m b : ℕ) (r : Float) → ◌≡◌ {A = Edge} (record { from = if hit then m else a; to = b; conductance = if hit then One ÷ (r · Half) else One ÷ r }) (half_edge true (cond hit (Some m) None) a b r)
 half-second true a m b r = refl
 half-second false a m b r = refl
 

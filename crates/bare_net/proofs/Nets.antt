@@ -1,8 +1,9 @@
 -- The net before the weights by what `number_places` leaves in the rows.
 use Rattle.std.proofs.Common.{◌≡◌, sym, ap, ◌∙◌, subst, List, [], map, ℕ, ◌+◌, ◌*◌, ◌<◌, arith, length, drop, get_or}
+use Rattle.std.specs.Prelude.{flat_map}
 use Rattle.std.proofs.lemmas.List.{length-map}
 use Rattle.net_rows.specs.Nodes.{in_ticks}
-use Rattle.net.specs.Net.{Piece, same_node, nowhere, nth, weld, each, bare}
+use Rattle.net.specs.Net.{Piece, same_node, nowhere, nth, weld, bare}
 use Rattle.net.specs.First.{first_of, rank, news, number_by}
 use Rattle.net.specs.Flat.{Leaf, leaves_from, flat_places, corners_in}
 use Rattle.net.proofs.Weld.{Keyed, length-news}
@@ -43,7 +44,7 @@ module _ (b : Leaves) (qs : List Piece) (are : leaves_in b ≡ leaves_from qs 0)
   pub bare-nodes : map in_ticks (bare qs).nodes ≡ map in_ticks (nodes_in b)
   unfolding bare
   bare-nodes =
-      ap (map in_ticks) (nodes-from qs ∙ ap (λ (z : List Leaf). weld same_node [] (each corners_in z)) (sym are))
+      ap (map in_ticks) (nodes-from qs ∙ ap (λ (z : List Leaf). weld same_node [] (flat_map corners_in z)) (sym are))
 
 module _ (s : Sides) (qs : List Piece) (are : leaves_in s.leaves ≡ leaves_from qs 0)
     (numbered : s.numbers.now ≡ numbers_of (places_in s.leaves) (corner_count s.leaves)) (placed : s.middles.now ≡ drop (corner_count s.leaves) (firsts (places_in s.leaves))) where

@@ -25,8 +25,8 @@ impl Sides<'_> {
         ensures row { edges.new ≡ written (edges_in self.now) edges.old }
     {
         let mut count = 0;
-        for j in 0..firsts.len() {
-            if firsts[j] == j as u64 {
+        for (j, first) in firsts.iter().enumerate() {
+            if *first == j as u64 {
                 edges[count] = self.edge(Slot::of(j));
                 count += 1;
             }
@@ -59,6 +59,7 @@ impl Sides<'_> {
         requires { length self.now.leaves.entries.now ≤ length cells.old }
         ensures { cells.new ≡ written (cells_in self.now) cells.old }
     {
+        // By index: over the cells themselves, the library's call takes 16 bytes more of stack.
         for v in 0..self.leaves.entries.len() {
             cells[v] = self.cell(v);
         }

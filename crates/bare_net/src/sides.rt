@@ -47,12 +47,7 @@ impl Side {
         ensures value { result ≡ index_of self }
         ensures low { result < 4 }
     {
-        match self {
-            Side::South => 0,
-            Side::North => 1,
-            Side::West => 2,
-            Side::East => 3,
-        }
+        self as usize
     }
 
     // The corners at which it begins and ends, of SW, SE, NE and NW.

@@ -1,38 +1,43 @@
 -- A board's polygons one after another. Assumes nothing.
-use Rattle.std.proofs.Common.{ℕ, zero, suc, ◌+◌, ◌-◌, ◌*◌, ◌^◌, ◌<◌, ◌≤◌, ◌≡◌, refl, sym, ap, ◌∙◌, true, false, List, [], ◌++◌, ⊎_elim, arith, add-one, eqb, pow_mono, ℤ, length, get_or, length-append}
+use Rattle.std.proofs.Common.{ℕ, zero, suc, ◌+◌, ◌-◌, ◌*◌, ◌^◌, ◌<◌, ◌≤◌, ◌≡◌, refl, sym, ap, ◌∙◌, true, false, Option, Some, None, List, [], ◌++◌, ⊎_elim, arith, add-one, eqb, pow_mono, ℤ, length, get_or, length-append}
 use borrow.Author.Tests.{eqb-false}
 use Rattle.cell.proofs.Offsets.{below?}
 use Rattle.refusals.specs.Limits.{widest_level, max_cell}
 use Rattle.refusals.specs.Said.{Said, refused}
 use Rattle.strips.proofs.Picking.{split}
-use Rattle.build.specs.Grid.{all_even, listed_at, size_of, roots_in}
+use Rattle.build.specs.Grid.{all_even, listed_at, cell_or, size_of, roots_in}
 use Rattle.build.specs.Board.{Board, unit, size_at, strips_at, roots_at, roots_to}
 use Rattle.build.specs.Says.{even_from}
 use Rattle.build.specs.Steps.{Sizes, Fit, SameTo, placed}
 use Rattle.build.proofs.Tallying.{length-roots}
 use Rattle.build.proofs.Placing.{placed-more}
 
-size-some : (l : List (List ℕ)) (layer target : ℕ) → 1 ≤ target → 1 ≤ size_of l layer target
-size-some l layer target h =
-    split (eqb (listed_at l layer) 0)
-    (λ e. rw e h)
-    (λ e. rw e (⊎_elim (λ (k : 0 < listed_at l layer). k) (λ (k : listed_at l layer ≤ 0). absurd (eqb-false (listed_at l layer) 0 e (omega arith))) (below? 0 (listed_at l layer))))
+size-some : (o : Option ℕ) (target : ℕ) → 1 ≤ target → 1 ≤ cell_or o target
+size-some None target h = h
+size-some (Some cell) target h = split (eqb cell 0) (λ e. rw e h) (λ e. rw e (above e))
+  where
+    above : eqb cell 0 ≡ false → 1 ≤ cell
+    above e = ⊎_elim (λ (k : 0 < cell). k) (λ (k : cell ≤ 0). absurd (eqb-false cell 0 e (omega arith))) (below? 0 cell)
 
-size_fits : (l : List (List ℕ)) (layer target : ℕ) → target ≤ max_cell → listed_at l layer ≤ max_cell → size_of l layer target ≤ max_cell
-size_fits l layer target h k = split (eqb (listed_at l layer) 0) (λ e. rw e h) (λ e. rw e k)
+size_fits : (o : Option ℕ) (target : ℕ) → target ≤ max_cell → cell_or o 0 ≤ max_cell → cell_or o target ≤ max_cell
+size_fits None target h k = h
+size_fits (Some cell) target h k = split (eqb cell 0) (λ e. rw e h) (λ e. rw e (rw e at k))
 
 pub unit-fits : (m : ℕ) → m ≤ widest_level → 2 ^ (m + 1) ≤ 2 ^ (widest_level + 1)
 unit-fits m h = let k : m + 1 ≤ widest_level + 1 = omega arith in pow_mono {i = m + 1} {j = widest_level + 1} k
 
 module _ (b : Board) where
-  pub sizes : Fit b → (p : ℕ) → Sizes b.settings.cap (size_at b p)
-  sizes f p =
+  pub layer-sizes : Fit b → (layer : ℕ) → Sizes b.settings.cap (size_of b.list layer b.settings.target)
+  layer-sizes f layer =
       record {
         some = f.cap-some;
         cap-fits = f.cap-fits;
-        cell = size-some b.list (get_or b.layers p 0) b.settings.target f.target-some;
-        cell-fits = size_fits b.list (get_or b.layers p 0) b.settings.target f.target_fits (f.cells (get_or b.layers p 0));
+        cell = size-some (listed_at b.list layer) b.settings.target f.target-some;
+        cell-fits = size_fits (listed_at b.list layer) b.settings.target f.target_fits (f.cells layer);
       }
+
+  pub sizes : Fit b → (p : ℕ) → Sizes b.settings.cap (size_at b p)
+  sizes f p = layer-sizes f (get_or b.layers p 0)
 
   pub roots-more : (p : ℕ) → roots_to b (p + 1) ≡ roots_to b p ++ roots_at b p
   unfolding roots_to

@@ -10,11 +10,12 @@ use Rattle.strips.specs.Rings.{ring_in_range, ring_slants}
 use Rattle.strips.specs.Strips.{strips_of}
 use Rattle.strips.proofs.Picking.{split}
 use Rattle.strips.proofs.Laying.{few-points}
-use Rattle.build.specs.Grid.{Root, all_even, listed_at, flat, roots_in}
+use Rattle.build.specs.Grid.{Root, all_even, listed_at, cell_or, flat, roots_in}
 use Rattle.build.specs.Board.{Board, sum_to, ring_at, polygons, unit, size_at, strips_at, roots_to, roots_of}
 use Rattle.floats.specs.Fractions.{in_sheet}
-use Rattle.build.specs.Says.{room_shaped, rows_shaped, layer_in, entry_ok, entries_ok, list_ok, numbers_ok, settings_ok, judge_from, even_from, room_for, filled}
-use Rattle.build.specs.Steps.{Fit, Tabled, placed, alone_says}
+use Rattle.table.specs.Formed.{holds_whole_slots}
+use Rattle.build.specs.Says.{rows_shaped, layer_in, entry_ok, entries_ok, list_ok, numbers_ok, settings_ok, judge_from, even_from, room_for, filled}
+use Rattle.build.specs.Steps.{Fit, Tabled, placed, alone_says, alone_leaves}
 use Rattle.build.proofs.Placing.{length-flat}
 
 -- every entry of a list that is in order has a cell in range
@@ -33,12 +34,11 @@ entry-cell l (suc n) i e h =
     (and_left (ltb (layer_in l n) (2 ^ 16) && leb (get_or (get_or l n []) 1 0) max_cell) _ (and_right (entries_ok l n) (entry_ok l n) e)))))
     (below? i n)
 
-listed-fits : (l : List (List ℕ)) (layer : ℕ) → ((i : ℕ) → i < length l → get_or (get_or l i []) 1 0 ≤ max_cell) → listed_at l layer ≤ max_cell
-unfolding listed_at
+listed-fits : (l : List (List ℕ)) (layer : ℕ) → ((i : ℕ) → i < length l → get_or (get_or l i []) 1 0 ≤ max_cell) → cell_or (listed_at l layer) 0 ≤ max_cell
 listed-fits [] layer h = omega arith
 listed-fits (e ∷ l) layer h =
     let r = listed-fits l layer (λ i k. h (suc i) (omega arith)) in
-    split (eqb (get_or e 0 0) layer) (λ t. rw t (h 0 (omega arith))) (λ t. rw t r)
+    split (eqb (get_or e 0 0) layer) (λ t. rw t (split (eqb (get_or e 1 0) 0) (λ z. rw z (omega arith)) (λ z. rw z (h 0 (omega arith))))) (λ t. rw t r)
 
 -- a refusal is not an acceptance
 pub refused-accepted : (n place : ℕ) (vs : List ℕ) → refused n place ≡ accepted vs → ⊥
@@ -102,7 +102,7 @@ module _ (b : Board) (o : Said) (vs : List ℕ) where
       let r = even-passes (suc q) n in
       split (all_even (unit b) b.settings.cap (size_at b q) (strips_at b q)) (λ s. r (rw s at e)) (λ s. absurd (refused-accepted 5 q vs (rw s at e)))
 
-pub tabled : (t : List ℤ) → room_shaped (length t) ≡ true → Tabled t
+pub tabled : (t : List ℤ) → holds_whole_slots (length t) ≡ true → Tabled t
 tabled t e = record { whole = eqb-true _ _ (and_left _ _ e); few = leb-true _ _ (and_right (eqb (length t % 8) 0) _ e) }
 
 -- the roots placed and the rest cleared
@@ -133,22 +133,26 @@ module _ (b : Board) (f : Fit b) (one : length b.counts ≡ 1) where
   unfolding even_from
   says-alone slots = rw (roots-alone, one, ring-alone) refl
 
+  pub leaves-alone : (size : ℕ) → alone_leaves b.settings.cap (size_at b 0) (strips_of b.points) size ≡ filled b size
+  unfolding filled
+  leaves-alone size = rw roots-alone refl
+
 -- from the tests to what the steps ask
 module _ (b : Board) (components : List ℕ) (sheets : List Float) (size : ℕ) (shape : rows_shaped b.layers components sheets b.counts b.points size ≡ true) where
   rows_fit : (eqb (length b.layers) (length b.counts) && (eqb (length components) (length b.counts) && eqb (length sheets) (length b.counts))) ≡ true
   unfolding rows_shaped
-  rows_fit = and_right (room_shaped size) _ (and_left _ (eqb (sum_to b.counts (length b.counts)) (length b.points)) shape)
+  rows_fit = and_right (holds_whole_slots size) _ (and_left _ (eqb (sum_to b.counts (length b.counts)) (length b.points)) shape)
 
-  pub room_fits : room_shaped size ≡ true
+  pub room_fits : holds_whole_slots size ≡ true
   unfolding rows_shaped
-  room_fits = and_left (room_shaped size) _ (and_left _ (eqb (sum_to b.counts (length b.counts)) (length b.points)) shape)
+  room_fits = and_left (holds_whole_slots size) _ (and_left _ (eqb (sum_to b.counts (length b.counts)) (length b.points)) shape)
 
   pub sheets-fit : length sheets ≡ length b.counts
   sheets-fit = eqb-true _ _ (and_right (eqb (length components) (length b.counts)) _ (and_right (eqb (length b.layers) (length b.counts)) _ rows_fit))
 
   pub points-fit : sum_to b.counts (length b.counts) ≡ length b.points
   unfolding rows_shaped
-  points-fit = eqb-true _ _ (and_right (room_shaped size && (eqb (length b.layers) (length b.counts) && (eqb (length components) (length b.counts) && eqb (length sheets) (length b.counts)))) _ shape)
+  points-fit = eqb-true _ _ (and_right (holds_whole_slots size && (eqb (length b.layers) (length b.counts) && (eqb (length components) (length b.counts) && eqb (length sheets) (length b.counts)))) _ shape)
 
   pub fit : settings_ok b ≡ true → (o : Said) (vs : List ℕ) → judge_from sheets b.counts b.points 0 (length b.counts) o ≡ accepted vs → Fit b
   unfolding list_ok

@@ -7,7 +7,8 @@ use lib.ListN.{get_or-replicate, length-replicate, get_or-eq_default}
 use Rattle.cell.proofs.Offsets.{below?}
 use Rattle.cell.proofs.Contact.{and_left, and_right}
 use Rattle.refusals.specs.Said.{Said, accepted}
-use Rattle.strips.specs.Walk.{Sound, AllSound}
+use Rattle.std.specs.List.{AllByRecursion}
+use Rattle.strips.specs.Walk.{Sound}
 use Rattle.strips.specs.declared.walk.Strip.{Strip}
 use Rattle.strips.proofs.Bounds.{strips-sound, sound-first, sound-rest}
 use Rattle.strips.proofs.Picking.{split}
@@ -54,7 +55,7 @@ module _ (u n poly : ℕ) (below : poly < n) where
         each_append (RootOk u n) (grid_to poly s g j) (row_to poly (row_of s g j) g.nx g.nx)
         (grid-ok j (omega arith)) (row_ok g.nx j (omega arith) (omega arith))
 
-  roots-ok : (cap c : ℕ) → Sizes cap c → (ss : List Strip) → AllSound ss → all_even u cap c ss ≡ true → Each (RootOk u n) (roots_in poly cap c ss)
+  roots-ok : (cap c : ℕ) → Sizes cap c → (ss : List Strip) → AllByRecursion Sound ss → all_even u cap c ss ≡ true → Each (RootOk u n) (roots_in poly cap c ss)
   unfolding roots_in all_even Each
   roots-ok cap c z [] a e = tt
   roots-ok cap c z (s ∷ ss) a e =

@@ -1,5 +1,6 @@
 -- Laws that belong to no one function.
 pub mod Cutting
+pub mod Listing
 pub mod Judging
 pub mod Placing
 pub mod Tallying
@@ -8,5 +9,4 @@ pub mod Fitting
 pub mod Tiling
 pub mod Formed
 pub mod Wellformed
-pub mod One
 pub mod Tiled

@@ -1,5 +1,7 @@
 -- Sides judged and roots counted, strip by strip. Assumes nothing.
-use Rattle.std.proofs.Common.{ℕ, ◌+◌, ◌*◌, ◌<◌, ◌≤◌, min, ◌≡◌, refl, sym, ap, ◌∙◌, true, false, List, [], ◌∷◌, ⊎_elim, arith, length, lt-ltb, le-ltb}
+use Rattle.std.proofs.Common.{ℕ, ◌+◌, ◌*◌, ◌<◌, ◌≤◌, min, ◌≡◌, refl, sym, ap, ◌∙◌, true, false, List, [], ◌∷◌, ⊎_elim, arith, length, lt-ltb, le-ltb, Option, Some, None, Ok, Err}
+use Rattle.std.specs.Option.{ok_or}
+use Rattle.refusals.specs.declared.Refusal.{Refusal}
 use Rattle.cell.proofs.Offsets.{below?}
 use Rattle.strips.specs.declared.walk.Strip.{Strip}
 use Rattle.build.specs.Grid.{cut_of, even_strip, all_even, roots_in}
@@ -38,3 +40,12 @@ length-roots p q cap c (s ∷ ss) =
 
 pub length-roots-first : (cap c : ℕ) (s : Strip) (ss : List Strip) → length (roots_in 0 cap c (s ∷ ss)) ≡ (cut_of cap c s).ny * (cut_of cap c s).nx + length (roots_in 0 cap c ss)
 length-roots-first cap c s ss = length-roots-cons 0 cap c s ss ∙ ap (λ (n : ℕ). n + length (roots_in 0 cap c ss)) (length-grid 0 s (cut_of cap c s) (cut_of cap c s).ny)
+
+-- a tally of none is an error, and no other is
+pub none_from_err : (o : Option ℕ) (x e : Refusal) → ok_or o x ≡ Err e → (o ≡ None) × (e ≡ x)
+none_from_err None x e h = (refl, cc)
+none_from_err (Some n) x e h = absurd cc
+
+pub some_from_ok : (o : Option ℕ) (x : Refusal) (n : ℕ) → ok_or o x ≡ Ok n → o ≡ Some n
+some_from_ok None x n h = absurd cc
+some_from_ok (Some m) x n h = cc

@@ -4,7 +4,8 @@ use Rattle.std.proofs.lemmas.List.{get_or_append_left, get_or-append_right}
 use Rattle.std.proofs.lemmas.List.Elements.{All-append}
 use Rattle.cell.proofs.Offsets.{below?}
 use Rattle.cell.proofs.Contact.{and_left, and_right}
-use Rattle.strips.specs.Walk.{Sound, AllSound}
+use Rattle.std.specs.List.{AllByRecursion}
+use Rattle.strips.specs.Walk.{Sound}
 use Rattle.strips.specs.declared.walk.Strip.{Strip}
 use Rattle.strips.proofs.Bounds.{strips-sound, sound-first, sound-rest}
 use Rattle.build.specs.declared.grid.Cut.{Cut}
@@ -129,7 +130,7 @@ strip-tiled u poly s g sound c even =
       apart = grid-apart poly s g l g.ny;
     }
 
-all-tiled : (u poly cap c : ℕ) → Sizes cap c → (ss : List Strip) → AllSound ss → all_even u cap c ss ≡ true → All (λ s. IsTiledBy s (strip_roots poly cap c s)) ss
+all-tiled : (u poly cap c : ℕ) → Sizes cap c → (ss : List Strip) → AllByRecursion Sound ss → all_even u cap c ss ≡ true → All (λ s. IsTiledBy s (strip_roots poly cap c s)) ss
 unfolding all_even
 all-tiled u poly cap c z [] a e k d h = absurd (omega arith)
 all-tiled u poly cap c z (s ∷ ss) a e zero d h =

@@ -1,6 +1,8 @@
 -- The rules' "Rings to roots", from a strip to its cells.
 use Rattle.std.specs.Prelude.{ℕ, zero, suc, ◌+◌, ◌-◌, ◌*◌, ◌/◌, ◌%◌, min, max, Bool, ◌&&◌, List, [], ◌∷◌, ◌++◌}
-use Rattle.std.specs.Prelude.{ℤ, pos, ◌==◌, if◌then◌else◌, slice_index}
+use Rattle.std.specs.Prelude.{ℤ, pos, Option, None, Some, find, ◌==◌, if◌then◌else◌, slice_index}
+use Rattle.std.specs.Int.{div_ceil}
+use Rattle.std.specs.Option.{option_map}
 use Rattle.std.specs.List.{flat_map, list_all}
 use Rattle.cell.specs.Ticks.{on}
 use Rattle.cell.specs.Cells.{no_cell}
@@ -13,12 +15,9 @@ width s = s.x1 - s.x0
 abbrev pub height : Strip → ℕ
 height s = s.y1 - s.y0
 
-abbrev pub ceiling : ℕ → ℕ → ℕ
-ceiling w c = (w + (c - 1)) / c
-
 -- "nx = ceil(w/c), held within 1 to cap"
 unfoldable pub held_at : ℕ → ℕ → ℕ → ℕ
-held_at cap c w = max 1 (min cap (ceiling w c))
+held_at cap c w = max 1 (min cap (div_ceil w c))
 
 -- into how many cells a strip is cut each way
 abbrev pub cut_of : ℕ → ℕ → Strip → Cut
@@ -72,10 +71,14 @@ flat [] = []
 flat (r ∷ rs) =
     on r.x0 ∷ on r.y0 ∷ on r.x1 ∷ on r.y1 ∷ pos 0 ∷ pos no_cell ∷ pos no_cell ∷ pos r.poly ∷ flat rs
 
+-- the cell that the layer list gives a layer, if it has the layer
+abbrev pub listed_at : List (List ℕ) → ℕ → Option ℕ
+listed_at l layer = option_map (λ e. slice_index e 1) (find (λ e. slice_index e 0 == layer) l)
+
 -- "cell of a layer: 0 or unlisted: use the target"
-unfoldable pub listed_at : List (List ℕ) → ℕ → ℕ
-listed_at [] layer = 0
-listed_at (e ∷ l) layer = if slice_index e 0 == layer then slice_index e 1 else listed_at l layer
+abbrev pub cell_or : Option ℕ → ℕ → ℕ
+cell_or None target = target
+cell_or (Some cell) target = if cell == 0 then target else cell
 
 abbrev pub size_of : List (List ℕ) → ℕ → ℕ → ℕ
-size_of l layer target = if listed_at l layer == 0 then target else listed_at l layer
+size_of l layer target = cell_or (listed_at l layer) target

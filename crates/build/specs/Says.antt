@@ -1,12 +1,13 @@
 -- What build says of a board and a room, in the rules' order, and what it leaves in the table.
-use Rattle.std.specs.Prelude.{ℕ, zero, suc, ◌-◌, ◌*◌, ◌/◌, ◌%◌, ◌^◌, Bool, true, ◌&&◌, List, [], ◌∷◌, ◌++◌, ℤ, pos}
-use Rattle.std.specs.Prelude.{Float, length, replicate, Result, Ok, Err, ⊤, ◌==◌, if◌then◌else◌, nat_lt, nat_le}
+use Rattle.std.specs.Prelude.{ℕ, zero, suc, ◌-◌, ◌*◌, ◌/◌, ◌^◌, Bool, true, ◌&&◌, List, [], ◌∷◌, ◌++◌, ℤ, pos}
+use Rattle.std.specs.Prelude.{Float, length, replicate, Result, ◌==◌, if◌then◌else◌, nat_lt, nat_le}
 use Rattle.std.specs.Prelude.{slice_index_or, slice_index}
 use Rattle.std.specs.Float.{nan}
-use Rattle.refusals.specs.Limits.{widest_level, max_cap, max_cell, max_layers, max_polygons, max_slots}
+use Rattle.refusals.specs.Limits.{widest_level, max_cap, max_cell, max_layers, max_polygons}
 use Rattle.refusals.specs.declared.Refusal.{Refusal}
-use Rattle.refusals.specs.Said.{Said, accepted, refused, refusal, said, if_accepted}
+use Rattle.refusals.specs.Said.{Said, accepted, refused, said, if_accepted}
 use Rattle.floats.specs.Fractions.{in_sheet}
+use Rattle.table.specs.Formed.{holds_whole_slots}
 use Rattle.strips.specs.Said.{judged}
 use Rattle.build.specs.declared.Settings.{Settings}
 use Rattle.build.specs.Grid.{all_even, flat}
@@ -16,12 +17,9 @@ abbrev pub built_said : Result ℕ Refusal → Said
 built_said = said (λ n. n ∷ [])
 
 -- 7: "the shape of the room or point counts that don't add up to the point row", or polygon rows of unequal length
-abbrev pub room_shaped : ℕ → Bool
-room_shaped size = size % 8 == 0 && nat_le (size / 8) max_slots
-
 unfoldable pub rows_shaped : List ℕ → List ℕ → List Float → List ℕ → List (List ℤ) → ℕ → Bool
 rows_shaped layers components sheets counts points size =
-    room_shaped size
+    holds_whole_slots size
     && (length layers == length counts && (length components == length counts && length sheets == length counts))
     && sum_to counts (length counts) == length points
 
@@ -29,9 +27,12 @@ rows_shaped layers components sheets counts points size =
 abbrev pub layer_in : List (List ℕ) → ℕ → ℕ
 layer_in l i = slice_index (slice_index_or l i []) 0
 
+abbrev pub entry_in_range : List ℕ → Bool
+entry_in_range e = nat_lt (slice_index e 0) (2 ^ 16) && nat_le (slice_index e 1) max_cell
+
 abbrev pub entry_ok : List (List ℕ) → ℕ → Bool
 entry_ok l i =
-    (nat_lt (layer_in l i) (2 ^ 16) && nat_le (slice_index (slice_index_or l i []) 1) max_cell)
+    entry_in_range (slice_index_or l i [])
     && (if i == 0 then true else nat_lt (layer_in l (i - 1)) (layer_in l i))
 
 unfoldable pub entries_ok : List (List ℕ) → ℕ → Bool
@@ -87,8 +88,3 @@ filled b size = flat (roots_of b) ++ replicate (size - length (roots_of b) * 8) 
 unfoldable pub build_leaves : Board → List ℕ → List Float → List ℤ → List ℤ
 build_leaves b components sheets table =
     if_accepted (build_says b components sheets (length table)) (filled b (length table)) table
-
--- what an answer of `judge` says: nothing, or its refusal
-abbrev pub fault : Result ⊤ Refusal → Said → Said
-fault (Ok done) otherwise = otherwise
-fault (Err x) otherwise = refusal x

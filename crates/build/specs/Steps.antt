@@ -8,7 +8,7 @@ use Rattle.build.specs.Board.{Board, sum_to, ring_at, polygons, roots_of}
 use Rattle.build.specs.Says.{even_from, room_for}
 use Rattle.refusals.specs.declared.Refusal.{Refusal}
 use Rattle.refusals.specs.Said.{Said, refused, refusal}
-use Rattle.build.specs.Grid.{Root, flat, all_even, roots_in, listed_at}
+use Rattle.build.specs.Grid.{Root, flat, all_even, roots_in, listed_at, cell_or}
 
 -- roots put into the table from slot k on
 unfoldable pub placed : List ℤ → ℕ → List Root → List ℤ
@@ -57,7 +57,7 @@ pub record Fit (b : Board) : Type 0 where
   pub cap-fits : b.settings.cap ≤ max_cap
   pub target-some : 1 ≤ b.settings.target
   pub target_fits : b.settings.target ≤ max_cell
-  pub cells : (layer : ℕ) → listed_at b.list layer ≤ max_cell
+  pub cells : (layer : ℕ) → cell_or (listed_at b.list layer) 0 ≤ max_cell
   pub rows : length b.layers ≡ length b.counts
   pub sums : sum_to b.counts (length b.counts) ≡ length b.points
   pub few : (p : ℕ) → p < length b.counts → length (ring_at b.counts b.points p) ≤ max_points

@@ -35,7 +35,7 @@ impl Cutter {
         requires { length ≤ coordinate + coordinate }
         ensures { result ≡ held_at self.cap self.cell length }
     {
-        let n = (length + (self.cell - 1)) / self.cell;
+        let n = length.div_ceil(self.cell);
         n.clamp(1, self.cap)
     }
 
@@ -60,34 +60,22 @@ impl Cutter {
     }
 }
 
-/// What base sides are to be multiples of.
-pub fn unit_of(max_level: u64) -> u64
-    requires { max_level ≤ widest_level }
-    ensures { result ≡ 2 ^ (max_level + 1) }
-{
-    1u64 << (max_level + 1)
-}
-
-// The cell that the list gives a layer: 0 where it has none.
-#[tactic(auto, using(crate::proofs::Cutting::listing))]
-fn listed(list: &[[u64; 2]], layer: u64) -> u64
+// The cell that the list gives a layer, if it has the layer. The list has 64 entries at the most, and the definition is
+// the same search, of any list.
+fn listed(list: &[[u64; 2]], layer: u64) -> Option<u64>
     ensures { result ≡ listed_at list.now layer }
 {
-    for entry in list {
-        if entry[0] == layer {
-            return entry[1];
-        }
-    }
-    0
+    list.iter()
+        .find(|entry| entry[0] == layer)
+        .map(|entry| entry[1])
 }
 
-/// The cell of a layer: the list's, or the target.
+/// The cell of a layer: the list's, or the target where the list has none, or 0.
 pub fn size_of(list: &[[u64; 2]], layer: u64, target: u64) -> u64
     ensures { result ≡ size_of list.now layer target }
 {
-    let cell = listed(list, layer);
-    if cell == 0 {
-        return target;
+    match listed(list, layer) {
+        None | Some(0) => target,
+        Some(cell) => cell,
     }
-    cell
 }

@@ -1,11 +1,13 @@
 //! A board that was judged.
-ghost use Rattle.std.specs.Prelude.{◌≡◌, ◌<◌, length};
-ghost use Rattle.build.specs.Board.{board_of, polygons, size_at, unit};
+ghost use Rattle.std.specs.Prelude.{◌≡◌};
+ghost use Rattle.build.specs.Grid.{size_of};
+ghost use Rattle.build.specs.Board.{board_of, unit};
 ghost use Rattle.build.specs.Steps.{Fit};
 
 use crate::grid::Cutter;
 use crate::outlines::Outlines;
 use crate::{Settings, grid};
+use table::formed;
 
 /// A board whose rows fit together and whose settings and rings are in range.
 #[derive(Clone, Copy)]
@@ -18,20 +20,16 @@ pub struct Judged<'a> {
 }
 
 impl<'a> Judged<'a> {
-    /// How a polygon is cut.
-    pub fn cutter(&self, polygon: usize) -> Cutter
-        requires { polygon < length self.now.outlines.counts.now }
-        ensures cell { result.cell ≡ size_at (board_of self.now.settings self.now.list.now self.now.outlines) polygon }
+    /// How a polygon of this layer is cut.
+    pub fn cutter(&self, layer: u16) -> Cutter
+        ensures cell { result.cell ≡ size_of self.now.list.now layer self.now.settings.target }
         ensures cap { result.cap ≡ self.now.settings.cap }
         ensures unit { result.unit ≡ unit (board_of self.now.settings self.now.list.now self.now.outlines) }
     {
-        let layer = self.outlines.layers[polygon] as u64;
-        let cell = grid::size_of(self.list, layer, self.settings.target);
-        let unit = grid::unit_of(self.settings.max_level);
         Cutter {
-            cell,
+            cell: grid::size_of(self.list, u64::from(layer), self.settings.target),
             cap: self.settings.cap,
-            unit,
+            unit: formed::root_unit(self.settings.max_level),
         }
     }
 }

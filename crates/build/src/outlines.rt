@@ -1,11 +1,13 @@
 //! Polygons as one value of lent rows, and what is judged of them before anything is cut.
 ghost use Rattle.std.specs.Prelude.{◌≡◌, ◌==◌, ◌+◌, ◌<◌, ◌^◌, length};
 ghost use Rattle.refusals.specs.Said.{Said};
+ghost use Rattle.strips.specs.Said.{fault};
 ghost use Rattle.build.specs.Board.{ring_at, sum_to};
-ghost use Rattle.build.specs.Says.{fault, judge_one, judge_from, room_shaped, rows_shaped};
+ghost use Rattle.build.specs.Says.{judge_one, judge_from, rows_shaped};
 
-use refusals::{Refusal, limits};
+use refusals::Refusal;
 use strips::ring;
+use table::formed;
 
 /// Polygons in lent rows: of each its layer, its component, its sheet resistance and how many points it has, and the
 /// points of all of them in order.
@@ -18,21 +20,15 @@ pub struct Outlines<'a> {
     pub points: &'a [[i64; 2]],
 }
 
-/// Whether a row of this length is a table's.
-pub fn room_shaped(size: usize) -> bool
-    ensures { result ≡ room_shaped size }
-{
-    (size % 8 == 0) & (size / 8 <= limits::SLOTS)
-}
-
-// Whether the point counts add up to a number.
+// Whether the point counts add up to a number. A record's stand in its polygons' entries (`add_up` of record): one
+// function for both would ask how an item gives its count, and be longer than the two.
 #[tactic(auto, using(crate::proofs::Judging::sum_none, crate::proofs::Judging::sum_more))]
 fn adds_up(counts: &[u64], total: usize) -> bool
     ensures { result ≡ (sum_to counts.now (length counts.now) == total) }
 {
     let mut left = total;
-    for i in 0..counts.len() {
-        let n = counts[i] as usize;
+    for count in counts {
+        let n = *count as usize;
         if left < n {
             return false;
         }
@@ -48,13 +44,7 @@ fn judge_one(polygon: usize, sheet: f64, ring: &[[i64; 2]]) -> Result<(), Refusa
     if !floats::sheet_in_range(sheet) {
         return Err(Refusal::OutOfRange(polygon));
     }
-    if !ring::in_range(ring) {
-        return Err(Refusal::OutOfRange(polygon));
-    }
-    if ring::slanted(ring) {
-        return Err(Refusal::Slanted(polygon));
-    }
-    Ok(())
+    ring::judge(ring, polygon)
 }
 
 impl<'a> Outlines<'a> {
@@ -67,12 +57,14 @@ impl<'a> Outlines<'a> {
             self.now.points.now size }
     {
         let n = self.counts.len();
-        room_shaped(size)
+        formed::holds_whole_slots(size)
             & ((self.layers.len() == n) & ((self.components.len() == n) & (self.sheets.len() == n)))
             & adds_up(self.counts, self.points.len())
     }
 
-    /// The points of a polygon, of which the first stands here in the row.
+    /// The points of a polygon, of which the first stands here in the row. The walks over polygons add up where each
+    /// begins: an iterator of rings would be a type with what is left of two rows, their facts and a `next`, for that
+    /// one line of each of three loops.
     #[tactic(auto, using(crate::proofs::Judging::ring_ends))]
     pub fn ring(&self, polygon: usize, first: usize) -> &'a [[i64; 2]]
         requires inside { polygon < length self.now.counts.now }
@@ -95,9 +87,9 @@ impl<'a> Outlines<'a> {
             ≡ judge_from self.now.sheets.now self.now.counts.now self.now.points.now 0 (length self.now.counts.now) o }
     {
         let mut at = 0;
-        for p in 0..self.counts.len() {
+        for (p, sheet) in self.sheets.iter().enumerate() {
             let ring = self.ring(p, at);
-            judge_one(p, self.sheets[p], ring)?;
+            judge_one(p, *sheet, ring)?;
             at += ring.len();
         }
         Ok(())

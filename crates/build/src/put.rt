@@ -101,10 +101,10 @@ pub fn put_all(board: &Judged<'_>, room: &mut WorkRoom, t: &mut [i64]) -> usize
     let outlines = board.outlines;
     let mut k = 0;
     let mut at = 0;
-    for p in 0..outlines.counts.len() {
+    for (p, layer) in outlines.layers.iter().enumerate() {
         let points = outlines.ring(p, at);
         let ring = room.ready(points);
-        let cutter = board.cutter(p);
+        let cutter = board.cutter(*layer);
         k = put_strips(&ring, cutter, p as u64, t, k);
         at += points.len();
     }

@@ -1,29 +1,31 @@
 //! What is judged of the settings.
-ghost use Rattle.std.specs.Prelude.{◌≡◌, ◌<◌, length};
-ghost use Rattle.build.specs.Says.{entry_ok, list_ok, numbers_ok};
+ghost use Rattle.std.specs.Prelude.{◌≡◌, nat_lt, slice_index};
+ghost use Rattle.std.specs.List.{list_all, IsAllAdjacentAnswer};
+ghost use Rattle.build.specs.Says.{entry_in_range, list_ok, numbers_ok};
 
 use crate::Settings;
 use refusals::limits;
 
-// Entry i of the layer list: its layer has 16 bits and is above the one before, its cell is in range. Internal.
-fn entry_ok(list: &[[u64; 2]], i: usize) -> bool
-    requires { i < length list.now }
-    ensures { result ≡ entry_ok list.now i }
+// Whether each entry's layer has 16 bits and its cell is in range.
+fn in_range(list: &[[u64; 2]]) -> bool
+    ensures { result ≡ list_all entry_in_range list.now }
 {
-    let layer = list[i][0];
-    let cell = list[i][1];
-    (layer < 65536) & (cell <= limits::CELL) & (i == 0 || list[i - 1][0] < layer)
+    list.iter()
+        .all(|entry| (entry[0] < 65536) & (entry[1] <= limits::CELL))
 }
 
-#[tactic(auto, unfolding(crate::specs::Says::entries_ok, crate::specs::Says::list_ok))]
+// Whether each layer is above the one before.
+fn rising(list: &[[u64; 2]]) -> bool
+    ensures { IsAllAdjacentAnswer (λ x y rises. rises ≡ nat_lt (slice_index x 0) (slice_index y 0)) list.now result }
+{
+    list.is_sorted_by(|a, b| a[0] < b[0])
+}
+
+#[tactic(auto, unfolding(crate::specs::Says::list_ok))]
 pub fn list_ok(list: &[[u64; 2]]) -> bool
     ensures { result ≡ list_ok list.now }
 {
-    let mut ok = list.len() <= limits::LAYERS;
-    for i in 0..list.len() {
-        ok = ok & entry_ok(list, i);
-    }
-    ok
+    (list.len() <= limits::LAYERS) & (in_range(list) & rising(list))
 }
 
 pub fn numbers_ok(s: Settings, polygons: usize) -> bool

@@ -51,14 +51,11 @@ pub fn survey(board: &Judged<'_>, room: &mut WorkRoom, slots: u64) -> Result<u64
     let outlines = board.outlines;
     let mut sum = 0;
     let mut at = 0;
-    for p in 0..outlines.counts.len() {
+    for (p, layer) in outlines.layers.iter().enumerate() {
         let points = outlines.ring(p, at);
         let ring = room.ready(points);
-        let cutter = board.cutter(p);
-        let Some(next) = tally_strips(&ring, cutter, slots, sum) else {
-            return Err(Refusal::UnevenCell(p));
-        };
-        sum = next;
+        let cutter = board.cutter(*layer);
+        sum = tally_strips(&ring, cutter, slots, sum).ok_or(Refusal::UnevenCell(p))?;
         at += points.len();
     }
     Ok(sum)

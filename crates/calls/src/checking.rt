@@ -3,11 +3,10 @@ use checks::{Hanging, check_by_layer, check_network_conforming};
 use net_rows::{Corners, Edge, NetCell, NetRows, Node, Polygons};
 use refusals::Refusal;
 use table::Head;
-
-const NONE: i64 = table::slots::NO_CELL;
+use table::slots::NO_CELL;
 
 // One leaf of 8 by 8 ticks.
-const LEAF: [i64; 8] = [0, 0, 8, 8, 0, NONE, NONE, 0];
+const LEAF: [i64; 8] = [0, 0, 8, 8, 0, NO_CELL, NO_CELL, 0];
 
 const HEAD: Head = Head {
     count: 1,

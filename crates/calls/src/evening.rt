@@ -4,18 +4,15 @@ use refusals::Refusal;
 use std::test::Fail;
 use table::Head;
 use table::refine::refine;
+use table::slots::NO_CELL;
 
-const NONE: i64 = 4294967295;
-
-const ROOTS: [i64; 16] = [0, 0, 8, 8, 0, NONE, NONE, 0, 8, 0, 16, 8, 0, NONE, NONE, 1];
+const ROOTS: [i64; 16] = [
+    0, 0, 8, 8, 0, NO_CELL, NO_CELL, 0, 8, 0, 16, 8, 0, NO_CELL, NO_CELL, 1,
+];
 
 // Two roots side by side; the left one is split, and then its lower right quarter, cell 3.
 fn split_twice(row: &mut [i64]) -> Option<Head> {
-    for (i, number) in ROOTS.iter().enumerate() {
-        if i < row.len() {
-            row[i] = *number;
-        }
-    }
+    row.get_mut(..ROOTS.len())?.copy_from_slice(&ROOTS);
     let head = Head {
         count: 2,
         max_level: 2,

@@ -4,12 +4,13 @@ use std::test::Fail;
 use table::Head;
 use table::leaves::{leaf_count, leaf_order, leaves};
 use table::refine::refine;
+use table::slots::NO_CELL;
 
 // Two roots side by side, of polygons 1 and 0, in a row of six slots.
 fn two_roots() -> [i64; 48] {
     let mut row = [0; 48];
     row[..16].copy_from_slice(&[
-        0, 0, 8, 8, 0, 4294967295, 4294967295, 1, 8, 0, 16, 8, 0, 4294967295, 4294967295, 0,
+        0, 0, 8, 8, 0, NO_CELL, NO_CELL, 1, 8, 0, 16, 8, 0, NO_CELL, NO_CELL, 0,
     ]);
     row
 }
@@ -51,10 +52,7 @@ fn a_split(rt: HostRuntime) -> Result<(), Fail> {
     let head = refine(&mut row, HEAD, 1)?;
     assert_eq!(rt; head.count, 6);
     assert_eq!(rt; row[14], 2);
-    assert_eq!(rt;
-        &row[24..32],
-        [12, 0, 16, 4, 1, 1, 4294967295, 0].as_slice()
-    );
+    assert_eq!(rt; &row[24..32], [12, 0, 16, 4, 1, 1, NO_CELL, 0].as_slice());
     assert_eq!(rt; refine(&mut row, head, 6), Err(Refusal::NoSuchCell(6)));
     assert_eq!(rt; refine(&mut row, head, 1), Err(Refusal::AlreadySplit(1)));
     assert_eq!(rt; refine(&mut row, head, 0), Err(Refusal::NoRoom));

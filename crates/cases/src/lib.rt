@@ -7,6 +7,7 @@
 use std::alloc::{AllocError, Global};
 use std::io;
 use std::io::Read;
+use table::Head;
 
 pub mod print;
 pub mod stored;
@@ -50,6 +51,13 @@ impl Cases {
     // A number that is an index or a count.
     pub fn index(&mut self) -> usize {
         self.word() as usize
+    }
+
+    // A table's count and its deepest level.
+    pub fn head(&mut self) -> Head {
+        let count = self.index();
+        let max_level = self.word();
+        Head { count, max_level }
     }
 
     pub fn row<T: Stored + Drop>(&mut self, alloc: Global) -> Result<Vec<T>, AllocError> {

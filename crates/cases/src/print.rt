@@ -13,10 +13,10 @@ pub fn row<T: Display>(out: &mut String, row: &[T]) -> Result<(), AllocError> {
 
 // A fraction by its 64 bits. A NaN is no answer of any call; where a row holds one it is printed as "nan".
 fn fraction(out: &mut String, g: f64) -> Result<(), AllocError> {
-    if g == g {
-        write!(out, " {:016x}", g.to_bits())
-    } else {
+    if g.is_nan() {
         write!(out, " nan")
+    } else {
+        write!(out, " {:016x}", g.to_bits())
     }
 }
 

@@ -3,7 +3,7 @@
 //! A cell's coordinates are offset by 2^36, so that the range is 0 to 2^37 and no coordinate is negative.
 #![tactic(auto)]
 
-ghost use Rattle.std.specs.Prelude.{◌≡◌, ◌==◌, ◌+◌, ◌/◌, ◌<◌};
+ghost use Rattle.std.specs.Prelude.{◌≡◌, ◌==◌, ◌<◌};
 ghost use Rattle.refusals.specs.Limits.{widest_level};
 ghost use Rattle.cell.specs.Boxes.{num, overlaps, shares_edge};
 ghost use Rattle.cell.specs.Cells.{box_of, no_cell, root_of, cut_to, centre, child_of};
@@ -26,12 +26,7 @@ impl Quadrant {
     pub fn number(self) -> usize
         ensures { result ≡ num self }
     {
-        match self {
-            Quadrant::SouthWest => 0,
-            Quadrant::SouthEast => 1,
-            Quadrant::NorthWest => 2,
-            Quadrant::NorthEast => 3,
-        }
+        self as usize
     }
 }
 
@@ -48,14 +43,6 @@ pub struct Cell {
     /// The first of four children with consecutive ids, `NO_CELL` at a leaf.
     pub first: u64,
     pub poly: u64,
-}
-
-// The middle of two coordinates, down to the next whole tick. The sum of the two may pass 2^64, so each is halved by
-// itself.
-fn mid(a: u64, b: u64) -> u64
-    ensures { result ≡ (a + b) / 2 }
-{
-    a / 2 + b / 2 + (a % 2 + b % 2) / 2
 }
 
 impl Cell {
@@ -92,8 +79,8 @@ impl Cell {
     pub fn midpoint(self) -> Cell
         ensures { result ≡ centre self }
     {
-        let x = mid(self.x0, self.x1);
-        let y = mid(self.y0, self.y1);
+        let x = self.x0.midpoint(self.x1);
+        let y = self.y0.midpoint(self.y1);
         Cell {
             x0: x,
             y0: y,

@@ -1,15 +1,16 @@
--- Small nets, computed of the definitions: a root of 8 by 8 ticks, and a fifth node at the middle of its south edge. Assumes nothing.
+-- Small nets, computed of the definitions: a root of 8 by 8 ticks, and a fifth node at the middle of its south edge.
+-- These are examples that a reader can hold the definitions to, and no proof cites them. Assumes nothing.
 use Rattle.std.proofs.Common.{ℕ, ◌≡◌, refl, List, [], ◌∷◌, ℤ, pos, None, Some}
 use lib.Ieee.{nan}
 use Rattle.cell.specs.Cells.{no_cell}
 use Rattle.cell.specs.Ticks.{off, on}
 use Rattle.table.specs.Rows.{head_of}
 use Rattle.table.specs.Slots.{counted, cell_at}
-use Rattle.table.specs.Leaves.{leaf_at}
+use Rattle.table.specs.Mesh.{table}
 use Rattle.net_rows.specs.declared.rows.Node.{Node}
 use Rattle.net_rows.specs.declared.rows.Edge.{Edge}
 use Rattle.checks.specs.Nodes.{here, joins}
-use Rattle.checks.specs.Checks.{fault, side_fault, leaf_fault, cell_fault, first_fault, fault_by, net_fault, layer_fault}
+use Rattle.checks.specs.Checks.{fault, side_fault, leaf_fault, fault_by, net_fault, layer_fault}
 
 abbrev root : List ℤ
 root = pos 0 ∷ pos 0 ∷ pos 8 ∷ pos 8 ∷ pos 0 ∷ pos no_cell ∷ pos no_cell ∷ pos 0 ∷ []
@@ -26,18 +27,18 @@ edge from to = record { from = from; to = to; conductance = nan }
 
 -- both halves are there, or one is not: the node and the ends of the edge
 whole : net_fault root (head_of 1 2) (five 1) (edge 0 4 ∷ edge 1 4 ∷ []) ≡ None
-unfolding fault_by first_fault cell_fault leaf_fault side_fault fault leaf_at cell_at counted off on here joins
+unfolding fault_by leaf_fault side_fault fault table cell_at counted off on here joins
 whole = refl
 
 half : net_fault root (head_of 1 2) (five 1) (edge 0 4 ∷ edge 0 1 ∷ []) ≡ Some (record { node = 4; start = 0; end = 1 })
-unfolding fault_by first_fault cell_fault leaf_fault side_fault fault leaf_at cell_at counted off on here joins
+unfolding fault_by leaf_fault side_fault fault table cell_at counted off on here joins
 half = refl
 
 -- a node of another layer counts for the first check alone
 other : net_fault root (head_of 1 2) (five 2) [] ≡ Some (record { node = 4; start = 0; end = 1 })
-unfolding fault_by first_fault cell_fault leaf_fault side_fault fault leaf_at cell_at counted off on here joins
+unfolding fault_by leaf_fault side_fault fault table cell_at counted off on here joins
 other = refl
 
 layered : layer_fault root (head_of 1 2) (five 2) [] (1 ∷ []) (0 ∷ []) ≡ None
-unfolding fault_by first_fault cell_fault leaf_fault side_fault fault leaf_at cell_at counted off on here joins
+unfolding fault_by leaf_fault side_fault fault table cell_at counted off on here joins
 layered = refl

@@ -1,30 +1,57 @@
 -- Laws of the first fault, and of the polygons' test. Assumes nothing.
-use Rattle.std.proofs.Common.{ℕ, zero, suc, ◌<◌, ◌≡◌, true, ⊎_elim, eq-or-lt_of_le, arith, List, length, Option, None, Some, ltb, ℤ, sym}
+use Rattle.std.proofs.Common.{ℕ, zero, suc, ◌<◌, ◌≡◌, refl, ap, ◌∙◌, true, false, arith, List, [], ◌∷◌, ◌++◌, length, take, get_or, slice_get, Option, None, Some, ltb, ℤ, sym}
+use Rattle.std.specs.List.{filter_map, range_with_len}
 use Rattle.std.specs.Option.{is_some}
+use Rattle.std.proofs.lemmas.List.Elements.{All-filter, All-from_get_or, filter_map-append}
+use Rattle.std.proofs.lemmas.List.FromFn.{get_or-range_with_len, length-range_with_len}
+use Rattle.table.specs.declared.Head.{Head}
+use Rattle.table.specs.Rows.{cells_in, leaves_in}
 use Rattle.std.proofs.lemmas.Bool.{true≢false, and_parts, eqb-true, ltb-true}
 use Rattle.std.proofs.lemmas.List.Sums.{AllPass-from_list_all}
 use Rattle.cell.proofs.Offsets.{off-le}
 use Rattle.table.specs.Slots.{cell_at}
-use Rattle.table.specs.Mesh.{Cell, past, table}
+use Rattle.table.specs.Mesh.{Cell, past, table, is_leaf}
 use Rattle.table.proofs.Cells.{length-table, at_table}
 use Rattle.net_rows.specs.Polygons.{polygons_fit}
 use Rattle.checks.specs.Sides.{NearCell}
-use Rattle.checks.specs.declared.asked.Hanging.{Hanging}
-use Rattle.checks.specs.Checks.{first_fault}
 
--- a fault that was found is the first, whatever comes after
-pub first-found : (f : ℕ → Option Hanging) (n i : ℕ) (h : Hanging) → i < n → None ≡ first_fault f i → f i ≡ Some h → Some h ≡ first_fault f n
-unfolding first_fault
-first-found f zero i h l e p = absurd (omega arith)
-first-found f (suc n) i h l e p =
-    ⊎_elim
-    (λ (k : i ≡ n). rw (← k, ← e, p))
-    (λ (k : i < n). rw (← first-found f n i h k e p))
-    (eq-or-lt_of_le (omega arith))
+-- the first that is found is at the head of all that are found
+module _ {X Y : Type 0} (f : X → Option Y) where
+  first_found : (xs : List X) (k : ℕ) (d : X) (y : Y) → k < length xs → filter_map f (take k xs) ≡ [] → f (get_or xs k d) ≡ Some y → slice_get (filter_map f xs) 0 ≡ Some y
+  first_found [] k d y h e g = absurd (omega arith)
+  first_found (x ∷ xs) zero d y h e g = rw g refl
+  first_found (x ∷ xs) (suc k) d y h e g = by (f x) refl (λ p. first_found xs k d y (omega arith) (rw p at e) g)
+    where
+      by : (o : Option Y) → f x ≡ o → (f x ≡ None → slice_get (filter_map f xs) 0 ≡ Some y) → slice_get (filter_map f (x ∷ xs)) 0 ≡ Some y
+      by None p rest = rw p (rest p)
+      by (Some z) p rest = absurd (let q = rw p at e in cc)
 
-pub first-stop : (f : ℕ → Option Hanging) (n i : ℕ) (r : Option Hanging) → i < n → None ≡ first_fault f i → r ≡ f i → is_some r ≡ true → r ≡ first_fault f n
-first-stop f n i None l e p q = absurd (true≢false (sym q))
-first-stop f n i (Some h) l e p q = first-found f n i h l e (sym p)
+  none_more : (xs : List X) (x : X) → filter_map f xs ≡ [] → f x ≡ None → filter_map f (xs ++ x ∷ []) ≡ []
+  none_more xs x e g = filter_map-append f xs (x ∷ []) ∙ rw (e, g) refl
+
+  -- ys in front of xs gave none; what comes next gives none either, or the first
+  pub passed_by : (ys : List X) (x : X) → filter_map f ys ≡ [] → is_some (f x) ≡ false → filter_map f (ys ++ x ∷ []) ≡ []
+  passed_by ys x e n = none_more ys x e (by (f x) n)
+    where
+      by : (o : Option Y) → is_some o ≡ false → o ≡ None
+      by None n = refl
+      by (Some y) n = absurd (true≢false n)
+
+  pub found_at : (xs ys : List X) (x : X) → ys ≡ take (length ys) xs → length ys < length xs → x ≡ get_or xs (length ys) x → filter_map f ys ≡ [] → is_some (f x) ≡ true → f x ≡ slice_get (filter_map f xs) 0
+  found_at xs ys x s h e n t = by (f x) refl t
+    where
+      by : (o : Option Y) → f x ≡ o → is_some o ≡ true → f x ≡ slice_get (filter_map f xs) 0
+      by None p t = absurd (true≢false (sym t))
+      by (Some y) p t = p ∙ sym (first_found xs (length ys) x y h (ap (filter_map f) (sym s) ∙ n) (ap f (sym e) ∙ p))
+
+-- the ids of leaves are ids of cells
+pub leaf-inside : (t : List ℤ) (head : Head) (k d : ℕ) → k < length (leaves_in t head) → get_or (leaves_in t head) k d < head.count
+leaf-inside t head k d h =
+    All-filter (is_leaf (cells_in t head)) (λ i. i < head.count) (range_with_len 0 head.count)
+    (All-from_get_or (λ i. i < head.count) (range_with_len 0 head.count) 0 (λ i g. let h = long i g in let e = get_or-range_with_len 0 head.count i 0 h in omega arith)) k d h
+  where
+    long : (i : ℕ) → i < length (range_with_len 0 head.count) → i < head.count
+    long i g = omega (arith, length-range_with_len 0 head.count)
 
 -- the cells of a table have coordinates in range
 pub near-cell : (t : List ℤ) (i : ℕ) → NearCell (cell_at t i)

@@ -1,12 +1,11 @@
 -- What is found in a row in order is what the net has. Assumes nothing.
 use Rattle.std.proofs.Common.{ℕ, ◌<◌, ◌≤◌, ◌≡◌, refl, sym, ap, ap₂, subst, ◌∙◌, Bool, true, false, Option, None, Some, ◌&&◌, ◌||◌, ◌==◌, List, [], ◌∷◌, length, get_or, slice_get, filter, nat_eq, ◌-◌, arith, min, max, All, Contains}
-use lib.Ieee.{nan}
 use Rattle.std.specs.List.{starts_with}
 use Rattle.std.specs.Ordering.{is_lt, nat_cmp}
 use Rattle.std.specs.Cmp.Lexicographic.{slice_cmp}
 use Rattle.std.proofs.lemmas.Bool.{false_from_ne_true, true≢false}
 use Rattle.std.proofs.lemmas.Bool.Decides.{nat_tests}
-use Rattle.std.proofs.lemmas.List.{get_or-map, get_or_default, length-map}
+use Rattle.std.proofs.lemmas.List.{get_or_default}
 use Rattle.std.proofs.lemmas.List.Elements.{Contains-get_or}
 use Rattle.std.proofs.lemmas.List.Folds.{list_any_at, list_any_none}
 use Rattle.std.proofs.lemmas.List.FromFn.{length-map-range_with_len, get_or-map-range_with_len}
@@ -22,7 +21,7 @@ use Rattle.checks.specs.declared.asked.Class.{Class}
 use Rattle.checks.specs.declared.asked.Class.TheVariants.{Any, Of}
 use Rattle.checks.specs.Nodes.{here, node_at, joins, joined}
 use Rattle.checks.specs.Sides.{Near}
-use Rattle.checks.specs.Entries.{key_of, place_entry, place_entries, pair_of, pair_entries, IsInOrder, IsPlaced, IsPaired}
+use Rattle.checks.specs.Entries.{key_of, place_entry, place_entries, pair_of, no_edge, pair_entry, pair_entries, IsInOrder, IsPlaced, IsPaired}
 use Rattle.checks.proofs.Lasts.{last-is, last-not}
 use Rattle.checks.proofs.Spots.{stands-here}
 
@@ -107,30 +106,29 @@ most-same f t a b h = grind (arith, nat_tests)
 joined-of : (f t a b : ℕ) → min f t ≡ min a b → max f t ≡ max a b → joined_by f t a b ≡ true
 joined-of f t a b p q = grind (arith, nat_tests)
 
-abbrev pub blank : Edge
-blank = record { from = 0; to = 0; conductance = nan }
-
-abbrev pub pair_entry : Edge → List ℕ
-pair_entry e = pair_of e.from e.to
-
 module _ (edges : List Edge) (row : List (List ℕ)) (P : IsPaired edges row) (a b : ℕ) where
-  joins-entry : (e : Edge) → joins a b e ≡ true → pair_entry e ≡ pair_of a b
+  joins-entry : (e : Edge) → joins a b e ≡ true → pair_of e.from e.to ≡ pair_of a b
   unfolding joins
   joins-entry e h = ap₂ (λ (x y : ℕ). x ∷ y ∷ []) (least-same e.from e.to a b h) (most-same e.from e.to a b h)
 
-  entry-joins : (e : Edge) → pair_entry e ≡ pair_of a b → joins a b e ≡ true
+  entry-joins : (e : Edge) → pair_of e.from e.to ≡ pair_of a b → joins a b e ≡ true
   unfolding joins
   entry-joins e h = joined-of e.from e.to a b (ap (λ (x : List ℕ). num x 0) h) (ap (λ (x : List ℕ). num x 1) h)
 
-  entry-of : (i : ℕ) → i < length edges → Contains row (pair_entry (get_or edges i blank))
-  entry-of i h =
-      subst (Contains row) (get_or-map pair_entry edges i blank [] h) (contained (pair_entries edges) row P i (rw length-map h))
+  count-pairs : length (pair_entries edges) ≡ length edges
+  count-pairs = length-map-range_with_len (pair_entry edges) 0 (length edges)
+
+  entry-is : (i : ℕ) → i < length edges → get_or (pair_entries edges) i [] ≡ pair_entry edges i
+  entry-is i h = get_or-map-range_with_len (pair_entry edges) 0 (length edges) i i [] h (omega arith)
+
+  entry-of : (i : ℕ) → i < length edges → Contains row (pair_entry edges i)
+  entry-of i h = subst (Contains row) (entry-is i h) (contained (pair_entries edges) row P i (omega (arith, count-pairs)))
 
   pub pair-found : (r : Bool) → (r ≡ true → Contains row (pair_of a b)) → (r ≡ false → Contains row (pair_of a b) → ⊥) → r ≡ joined edges a b
   pair-found true s z =
       let w = from_entry (pair_entries edges) row P (pair_of a b) (s refl) in
-      let h : w.0 < length edges = rw length-map at w.1 in
-      let e = sym (get_or-map pair_entry edges w.0 blank (pair_of a b) h) ∙ w.2 in
-      sym (list_any_at (joins a b) edges w.0 blank h (entry-joins (get_or edges w.0 blank) e))
+      let h : w.0 < length edges = let l = w.1 in omega (arith, count-pairs) in
+      let e = sym (entry-is w.0 h) ∙ (get_or_default (pair_entries edges) w.0 [] (pair_of a b) w.1 ∙ w.2) in
+      sym (list_any_at (joins a b) edges w.0 no_edge h (entry-joins (get_or edges w.0 no_edge) e))
   pair-found false s z =
-      sym (list_any_none (joins a b) edges (λ i d h. false_from_ne_true _ (λ j. z refl (subst (Contains row) (joins-entry _ j) (rw (get_or_default edges i d blank h) (entry-of i h))))))
+      sym (list_any_none (joins a b) edges (λ i d h. false_from_ne_true _ (λ j. z refl (subst (Contains row) (joins-entry _ j) (rw (get_or_default edges i d no_edge h) (entry-of i h))))))

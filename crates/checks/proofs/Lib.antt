@@ -1,6 +1,6 @@
 -- Laws that belong to no one function.
+pub mod Middles
 pub mod Faults
-pub mod Entries
 pub mod Lasts
 pub mod Spots
 pub mod Pairs

@@ -1,5 +1,6 @@
 -- The rules' `check_network_conforming` and by-layer check. A fault is none, or a node and the two ends of the edge that it hangs on.
-use Rattle.std.specs.Prelude.{ℕ, zero, suc, ◌&&◌, if◌then◌else◌, List, [], ◌∷◌, slice_index, ℤ, Option, None, Some, Result}
+use Rattle.std.specs.Prelude.{ℕ, ◌&&◌, if◌then◌else◌, List, [], ◌∷◌, slice_index, slice_get, ℤ, Option, None, Some, Result}
+use Rattle.std.specs.List.{filter_map}
 use Rattle.std.specs.Option.{option_or}
 use Rattle.refusals.specs.declared.Refusal.{Refusal}
 use Rattle.refusals.specs.declared.Refusal.TheVariants.{BadTable}
@@ -8,8 +9,7 @@ use Rattle.cell.specs.declared.Cell.{Cell}
 use Rattle.table.specs.declared.Head.{Head}
 use Rattle.table.specs.Slots.{cell_at}
 use Rattle.table.specs.Formed.{well_formed}
-use Rattle.table.specs.Leaves.{leaf_at}
-use Rattle.table.specs.Rows.{cells_in}
+use Rattle.table.specs.Rows.{cells_in, leaves_in}
 use Rattle.net_rows.specs.declared.rows.Node.{Node}
 use Rattle.net_rows.specs.declared.rows.Edge.{Edge}
 use Rattle.net_rows.specs.declared.rows.NetCell.{NetCell}
@@ -39,18 +39,10 @@ leaf_fault nodes edges class c =
     (option_or (side_fault nodes edges class (east c))
     (option_or (side_fault nodes edges class (north c)) (side_fault nodes edges class (west c))))
 
--- the fault of cell i, where it is a leaf
-unfoldable pub cell_fault : List ℤ → List Node → List Edge → Class → ℕ → Option Hanging
-cell_fault t nodes edges class i = if leaf_at t i then leaf_fault nodes edges class (cell_at t i) else None
-
--- the first fault of the indices below n
-unfoldable pub first_fault : (ℕ → Option Hanging) → ℕ → Option Hanging
-first_fault f zero = None
-first_fault f (suc n) = option_or (first_fault f n) (f n)
-
--- the first fault of a table's leaves, each held against the nodes of its polygon's class
+-- the first fault of a table's leaves, by id, each held against the nodes of its polygon's class
 unfoldable pub fault_by : (ℕ → Class) → List ℤ → Head → List Node → List Edge → Option Hanging
-fault_by class t head nodes edges = first_fault (λ i. cell_fault t nodes edges (class (cell_at t i).poly) i) head.count
+fault_by class t head nodes edges =
+    slice_get (filter_map (λ id. leaf_fault nodes edges (class (cell_at t id).poly) (cell_at t id)) (leaves_in t head)) 0
 
 -- "finds nodes by x and y alone"
 abbrev pub net_fault : List ℤ → Head → List Node → List Edge → Option Hanging

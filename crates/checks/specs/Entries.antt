@@ -1,7 +1,8 @@
 -- Nodes and edges as entries of rows in order.
-use Rattle.std.specs.Prelude.{ℕ, min, max, List, [], ◌∷◌, map, length, IsPermutation, IsSorted}
+use Rattle.std.specs.Prelude.{ℕ, min, max, List, [], ◌∷◌, map, length, slice_index_or, IsPermutation, IsSorted}
 use Rattle.std.specs.List.{range_with_len}
 use Rattle.std.specs.Ordering.{nat_cmp}
+use Rattle.std.specs.Float.{nan}
 use Rattle.std.specs.Cmp.Lexicographic.{slice_cmp}
 use Rattle.net_rows.specs.declared.rows.Node.{Node}
 use Rattle.net_rows.specs.declared.rows.MeshNode.{MeshNode}
@@ -35,8 +36,16 @@ place_entries class nodes = map (place_entry class nodes) (range_with_len 0 (len
 abbrev pub pair_of : ℕ → ℕ → List ℕ
 pair_of a b = min a b ∷ max a b ∷ []
 
+-- what stands past the last edge
+abbrev pub no_edge : Edge
+no_edge = record { from = 0; to = 0; conductance = nan }
+
+-- edge e, by its ends
+abbrev pub pair_entry : List Edge → ℕ → List ℕ
+pair_entry edges e = let edge = slice_index_or edges e no_edge in pair_of edge.from edge.to
+
 abbrev pub pair_entries : List Edge → List (List ℕ)
-pair_entries edges = map (λ e. pair_of e.from e.to) edges
+pair_entries edges = map (pair_entry edges) (range_with_len 0 (length edges))
 
 -- a row holds the entries in order
 pub record IsInOrder (entries row : List (List ℕ)) : Type 0 where

@@ -6,6 +6,10 @@ use Rattle.cell.specs.Boxes.{mid}
 use Rattle.checks.specs.declared.asked.Place.{Place}
 use Rattle.checks.specs.declared.asked.Side.{Side}
 
+-- from one place to another
+abbrev pub between : Place → Place → Side
+between a b = record { start = a; middle = record { x = mid a.x b.x; y = mid a.y b.y }; end = b }
+
 -- each walked anticlockwise round the leaf
 abbrev pub south : Cell → Side
 south c = record { start = record { x = c.x0; y = c.y0 }; middle = record { x = mid c.x0 c.x1; y = c.y0 }; end = record { x = c.x1; y = c.y0 } }

@@ -43,58 +43,44 @@ pub enum Scope<'a> {
 
 // The four sides of a leaf, each walked anticlockwise.
 impl Side {
-    ghost use Rattle.checks.specs.Sides.{south, east, north, west};
+    ghost use Rattle.checks.specs.Sides.{between, south, east, north, west};
 
+    fn between(start: Place, end: Place) -> Side
+        ensures { result ≡ between start end }
+    {
+        let middle = Place {
+            x: start.x.midpoint(end.x),
+            y: start.y.midpoint(end.y),
+        };
+        Side { start, middle, end }
+    }
+
+    #[tactic(auto, using(crate::proofs::Middles::south_between))]
     pub fn south(c: Cell) -> Side
         ensures { result ≡ south c }
     {
-        Side {
-            start: Place { x: c.x0, y: c.y0 },
-            middle: Place {
-                x: c.midpoint().x0,
-                y: c.y0,
-            },
-            end: Place { x: c.x1, y: c.y0 },
-        }
+        Side::between(Place { x: c.x0, y: c.y0 }, Place { x: c.x1, y: c.y0 })
     }
 
+    #[tactic(auto, using(crate::proofs::Middles::east_between))]
     pub fn east(c: Cell) -> Side
         ensures { result ≡ east c }
     {
-        Side {
-            start: Place { x: c.x1, y: c.y0 },
-            middle: Place {
-                x: c.x1,
-                y: c.midpoint().y0,
-            },
-            end: Place { x: c.x1, y: c.y1 },
-        }
+        Side::between(Place { x: c.x1, y: c.y0 }, Place { x: c.x1, y: c.y1 })
     }
 
+    #[tactic(auto, using(crate::proofs::Middles::north_between))]
     pub fn north(c: Cell) -> Side
         ensures { result ≡ north c }
     {
-        Side {
-            start: Place { x: c.x1, y: c.y1 },
-            middle: Place {
-                x: c.midpoint().x0,
-                y: c.y1,
-            },
-            end: Place { x: c.x0, y: c.y1 },
-        }
+        Side::between(Place { x: c.x1, y: c.y1 }, Place { x: c.x0, y: c.y1 })
     }
 
+    #[tactic(auto, using(crate::proofs::Middles::west_between))]
     pub fn west(c: Cell) -> Side
         ensures { result ≡ west c }
     {
-        Side {
-            start: Place { x: c.x0, y: c.y1 },
-            middle: Place {
-                x: c.x0,
-                y: c.midpoint().y0,
-            },
-            end: Place { x: c.x0, y: c.y0 },
-        }
+        Side::between(Place { x: c.x0, y: c.y1 }, Place { x: c.x0, y: c.y0 })
     }
 }
 

@@ -3,11 +3,12 @@ ghost use Rattle.std.specs.Prelude.{◌≡◌, ◌<◌, length, Contains, IsTrue
 ghost use Rattle.std.specs.Ordering.{nat_cmp};
 ghost use Rattle.std.specs.Cmp.Lexicographic.{slice_cmp};
 ghost use Rattle.checks.specs.Scopes.{class_of};
-ghost use Rattle.checks.specs.Entries.{place_entry, pair_of, IsPlaced, IsPaired};
+ghost use Rattle.checks.specs.Entries.{place_entry, pair_of, pair_entry, IsPlaced, IsPaired};
 
 use crate::asked::{Class, Place, Scope};
 use crate::lookup::Lookup;
 use net_rows::{Edge, MeshNode, Node, SoundNet};
+use sorted::{Entries, sort_entries};
 
 /// Layer and component of a node, or 0 where they don't count, its place, and its number.
 pub type PlaceEntry = [u64; 5];
@@ -54,25 +55,37 @@ impl Scope<'_> {
     }
 }
 
-// Internal: the node stands in the row.
-fn place_entry(nodes: &[Node], scope: Scope, n: usize) -> PlaceEntry
-    requires { n < length nodes.now }
-    ensures { result ≡ place_entry (class_of scope.entry 0) nodes.now n }
-{
-    let node = nodes[n].in_mesh();
-    let (layer, component) = scope.names(node);
-    [layer, component, node.x, node.y, n as u64]
+// The entries of nodes, by number.
+#[derive(Clone, Copy)]
+struct NodePlaces<'a> {
+    nodes: &'a [Node],
+    scope: Scope<'a>,
 }
 
-/// The entries of the nodes, in order. Internal: the row has one for each.
-pub fn sort_places(nodes: &[Node], scope: Scope, row: &mut [PlaceEntry])
-    requires { length row.old ≡ length nodes.now }
+impl Entries<5> for NodePlaces<'_> {
+    ghost count = { λ s. length s.nodes.now };
+
+    ghost entry = { λ s n. place_entry (class_of s.scope 0) s.nodes.now n };
+
+    fn entry(&self, n: usize) -> PlaceEntry {
+        let node = self.nodes[n].in_mesh();
+        let (layer, component) = self.scope.names(node);
+        [layer, component, node.x, node.y, n as u64]
+    }
+}
+
+/// The entries of the nodes, in order; the keys are scratch. Internal: the rows have one for each.
+pub fn sort_places<'a>(
+    nodes: &'a [Node],
+    scope: Scope<'a>,
+    keys: &mut [u64],
+    row: &mut [PlaceEntry],
+)
+    requires a_key_each { length keys.old ≡ length nodes.now }
+    requires an_entry_each { length row.old ≡ length nodes.now }
     ensures { IsPlaced (class_of scope.entry 0) nodes.now row.new }
 {
-    for n in 0..row.len() {
-        row[n] = place_entry(nodes, scope, n);
-    }
-    row.sort_unstable();
+    sort_entries(&NodePlaces { nodes, scope }, keys, row);
 }
 
 fn pair_of(a: usize, b: usize) -> PairEntry
@@ -81,15 +94,30 @@ fn pair_of(a: usize, b: usize) -> PairEntry
     [a.min(b) as u64, a.max(b) as u64]
 }
 
-/// The entries of the edges, in order. Internal: the row has one for each.
-pub fn sort_pairs(edges: &[Edge], row: &mut [PairEntry])
-    requires { length row.old ≡ length edges.now }
+// The entries of edges, by number.
+#[derive(Clone, Copy)]
+struct EdgeEnds<'a> {
+    edges: &'a [Edge],
+}
+
+impl Entries<2> for EdgeEnds<'_> {
+    ghost count = { λ s. length s.edges.now };
+
+    ghost entry = { λ s e. pair_entry s.edges.now e };
+
+    fn entry(&self, e: usize) -> PairEntry {
+        let edge = self.edges[e];
+        pair_of(edge.from, edge.to)
+    }
+}
+
+/// The entries of the edges, in order; the keys are scratch. Internal: the rows have one for each.
+pub fn sort_pairs(edges: &[Edge], keys: &mut [u64], row: &mut [PairEntry])
+    requires a_key_each { length keys.old ≡ length edges.now }
+    requires an_entry_each { length row.old ≡ length edges.now }
     ensures { IsPaired edges.now row.new }
 {
-    for e in 0..row.len() {
-        row[e] = pair_of(edges[e].from, edges[e].to);
-    }
-    row.sort_unstable();
+    sort_entries(&EdgeEnds { edges }, keys, row);
 }
 
 // Whether an edge joins the two nodes of a pair.
@@ -111,10 +139,9 @@ impl Lookup for Index<'_> {
 
     ghost serves = { λ index class. IsPlaced class index.net.rows.nodes.now index.places.now };
 
+    #[inline(always)]
     fn node_at(&self, class: Class, place: Place) -> Option<usize> {
-        let Some(&[.., number]) = sorted::runs::last(self.places, &class.key(place)) else {
-            return None;
-        };
+        let &[.., number] = sorted::runs::last(self.places, &class.key(place))?;
         Some(number as usize)
     }
 

@@ -37,12 +37,8 @@ pub fn check_network_conforming(
         ≡ work_row (length rows.now.nodes.now) (length rows.now.edges.now)
         (is_accepted (conforming_says row.now head rows.now.nodes.now rows.now.edges.now rows.now.cells.now)) work.old }
 {
-    let Some(table) = Table::new(row, head) else {
-        return Err(Refusal::BadTable);
-    };
-    let Some(net) = SoundNet::judge(rows) else {
-        return Err(Refusal::BadTable);
-    };
+    let table = Table::new(row, head).ok_or(Refusal::BadTable)?;
+    let net = SoundNet::judge(rows).ok_or(Refusal::BadTable)?;
     Ok(room::find_fault(&net, &table, Scope::Everywhere, work))
 }
 
@@ -63,12 +59,8 @@ pub fn check_by_layer(
         (is_accepted (layers_says row.now head rows.now.nodes.now rows.now.edges.now rows.now.cells.now
         polygons.now.layers.now polygons.now.components.now)) work.old }
 {
-    let Some(table) = Table::new(row, head) else {
-        return Err(Refusal::BadTable);
-    };
-    let Some(net) = SoundNet::judge(rows) else {
-        return Err(Refusal::BadTable);
-    };
+    let table = Table::new(row, head).ok_or(Refusal::BadTable)?;
+    let net = SoundNet::judge(rows).ok_or(Refusal::BadTable)?;
     if !polygons.fit(&table) {
         return Err(Refusal::BadTable);
     }

@@ -58,7 +58,7 @@ fn is_here(node: Node, class: Class, x: i64, y: i64) -> bool
     node.lies_at(x, y) & class.has(node)
 }
 
-// The last node at a place, in ticks.
+// The last node at a place, in ticks. Tried with `rposition`; the proof didn't close.
 #[tactic(auto, using(crate::proofs::Lasts::last_more))]
 fn last_at(nodes: &[Node], class: Class, x: i64, y: i64) -> Option<usize>
     ensures { result ≡ last_at nodes.now class x y }

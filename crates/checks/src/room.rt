@@ -8,7 +8,7 @@ ghost use Rattle.checks.specs.Rooms.{max_nodes, roomy, room_after};
 use crate::asked::{Hanging, Scope};
 use crate::index::{Index, sort_pairs, sort_places};
 use crate::walk::first_fault;
-use net_rows::SoundNet;
+use net_rows::{NetRows, SoundNet};
 use table::Table;
 
 // What a net takes of the room, in numbers.
@@ -19,7 +19,7 @@ const AN_EDGE: usize = 3;
 // The most nodes that are put in order.
 const NODES: usize = 67108864;
 
-// The entries of a node and of an edge, in numbers.
+// The entries of a node and of an edge, in numbers; a key for each comes on top.
 const A_PLACE: usize = 5;
 
 const A_PAIR: usize = 2;
@@ -48,11 +48,13 @@ fn find_quickly(net: &SoundNet, table: &Table, scope: Scope, work: &mut [u64]) -
         net.now.rows.edges.now }
     ensures zeros { work.new ≡ replicate (length work.old) 0 }
 {
-    let (front, back) = work.split_at_mut(A_PLACE * net.rows.nodes.len());
+    let NetRows { nodes, edges, .. } = net.rows;
+    let (front, rest) = work.split_at_mut(A_PLACE * nodes.len());
     let (places, _) = front.as_chunks_mut::<A_PLACE>();
-    let (pairs, _) = back[..A_PAIR * net.rows.edges.len()].as_chunks_mut::<A_PAIR>();
-    sort_places(net.rows.nodes, scope, places);
-    sort_pairs(net.rows.edges, pairs);
+    sort_places(nodes, scope, &mut rest[..nodes.len()], places);
+    let (front, rest) = rest.split_at_mut(A_PAIR * edges.len());
+    let (pairs, _) = front.as_chunks_mut::<A_PAIR>();
+    sort_pairs(edges, &mut rest[..edges.len()], pairs);
     let index = Index {
         net: *net,
         places,

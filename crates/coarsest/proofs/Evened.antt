@@ -1,5 +1,5 @@
 -- The passes end, and what they end in is the coarsest splitting. Assumes nothing.
-use Rattle.std.proofs.Common.{◌≡◌, refl, sym, ap, ◌∙◌, Bool, true, false, inl, List, ℕ, zero, suc, ◌+◌, ◌*◌, ◌≤◌, ◌<◌, arith, eqb, length, eq-eqb, ne_eqb}
+use Rattle.std.proofs.Common.{◌≡◌, refl, sym, ap, ◌∙◌, Bool, true, false, cond, inl, List, ℕ, zero, suc, ◌+◌, ◌*◌, ◌≤◌, ◌<◌, arith, eqb, length, eq-eqb, ne_eqb}
 use mathlib.Core.Logic.{by_cases}
 use native.Mathlib.Decide.{ℕ_discrete}
 use Rattle.table.specs.Mesh.{Cell, at}
@@ -13,7 +13,7 @@ use Rattle.coarsest.proofs.Left.{left_split}
 use Rattle.coarsest.proofs.Sweep.{Keeps, Grown, grown-keeps, grown-least}
 use Rattle.coarsest.proofs.Passes.{pass-keeps, pass-grown, pass_same, pass-calm}
 
-run-if : (P : List Cell → Type 0) (d : Bool) (t u : List Cell) → P t → P u → P (elim d [ true ↦ t | false ↦ u ])
+run-if : (P : List Cell → Type 0) (d : Bool) (t u : List Cell) → P t → P u → P (cond d t u)
 run-if P true t u p q = p
 run-if P false t u p q = q
 
@@ -52,11 +52,11 @@ pass-left e k M t formed h = let s = (pass_spent e k M t formed).spent in omega 
 pub run-stop : (e : Engine) (k m : ℕ) (t : List Cell) → length (pass e k t) ≡ length t → run e k m t ≡ t
 unfolding run
 run-stop e k zero t l = refl
-run-stop e k (suc m) t l = ap {B = List Cell} (λ (d : Bool). elim d [ true ↦ t | false ↦ run e k m (pass e k t) ]) (eq-eqb (length (pass e k t)) (length t) l)
+run-stop e k (suc m) t l = ap {B = List Cell} (λ (d : Bool). cond d t (run e k m (pass e k t))) (eq-eqb (length (pass e k t)) (length t) l)
 
 pub run-go : (e : Engine) (k m : ℕ) (t : List Cell) → (length (pass e k t) ≡ length t → ⊥) → run e k (suc m) t ≡ run e k m (pass e k t)
 unfolding run
-run-go e k m t l = ap {B = List Cell} (λ (d : Bool). elim d [ true ↦ t | false ↦ run e k m (pass e k t) ]) (ne_eqb (length (pass e k t)) (length t) l)
+run-go e k m t l = ap {B = List Cell} (λ (d : Bool). cond d t (run e k m (pass e k t))) (ne_eqb (length (pass e k t)) (length t) l)
 
 -- where as many passes are allowed as there are splits left, the last one makes none
 pub run_ends : (e : Engine) (k M m : ℕ) (t : List Cell) → Formed M t → splits_left M t ≤ m → length (pass e k (run e k m t)) ≡ length (run e k m t)

@@ -1,10 +1,10 @@
 -- The names of a table's cells: each cell has one, it tells the cell's box and level, and a split keeps it.
 -- Assumes nothing.
 use mathlib.Core.Bool.{false≢true}
-use Rattle.std.proofs.Common.{◌≡◌, refl, sym, ap, subst, ◌∙◌, true, false, not, true≢false, ◌≢◌, ◌⊎◌, inl, inr, Option, None, Some, List, [], ◌∷◌, ℕ, zero, suc, ◌+◌, ◌<◌, arith, length}
+use Rattle.std.proofs.Common.{◌≡◌, refl, sym, ap, subst, ◌∙◌, true, false, not, true≢false, ◌≢◌, ◌⊎◌, inl, inr, Option, None, Some, List, [], ◌∷◌, ℕ, zero, suc, ◌+◌, ◌<◌, arith, length, is_none}
 use native.Mathlib.Decide.{ℕ_discrete}
 use Rattle.cell.specs.Boxes.{Box, Quad, num, quadrant}
-use Rattle.table.specs.Mesh.{Cell, at, split, is_none}
+use Rattle.table.specs.Mesh.{Cell, at, split}
 use Rattle.coarsest.specs.Names.{Route, place, Stands, roots_of, root_if, id_if, plus, kid_of, find, split_in, splitting, ◌⊆◌}
 use Rattle.table.specs.Formed.{Formed}
 use Rattle.table.proofs.Meshes.{not_some, some_is, num-below, kids-in, root_in, View, old, self, new, out, view, kept, kids-kept}

@@ -1,10 +1,10 @@
 -- One split that is due keeps what holds of every table on the way to the coarsest splitting; and a table with none due has reached it.
 -- Assumes nothing.
 use mathlib.Core.Logic.{by_cases}
-use Rattle.std.proofs.Common.{◌≡◌, refl, sym, ap, ◌∙◌, Bool, true, false, ◌&&◌, true≢false, ⊎_elim, Option, None, Some, List, [], ◌∷◌, ℕ, ◌+◌, ◌<◌, ◌≤◌, arith, ltb, length, ltb-true, lt-ltb}
+use Rattle.std.proofs.Common.{◌≡◌, refl, sym, ap, ◌∙◌, Bool, true, false, ◌&&◌, true≢false, ⊎_elim, Option, None, Some, List, [], ◌∷◌, ℕ, ◌+◌, ◌<◌, ◌≤◌, arith, ltb, length, ltb-true, lt-ltb, is_none}
 use native.Mathlib.Decide.{dec_le}
 use Rattle.cell.specs.Boxes.{Box, num, shares_edge}
-use Rattle.table.specs.Mesh.{Cell, at, split, is_none, is_leaf}
+use Rattle.table.specs.Mesh.{Cell, at, split, is_leaf}
 use Rattle.coarsest.specs.Passes.{due}
 use Rattle.coarsest.specs.Names.{Route, Splitting, Roots, place, Stands, Leaf, Admissible, ◌⊆◌, Coarsest, roots_of, find, splitting}
 use Rattle.table.specs.Formed.{Formed}

@@ -1,6 +1,6 @@
 -- The splits that a table can still see: each split takes one of them. Assumes nothing.
-use Rattle.std.proofs.Common.{◌≡◌, ap, Option, None, List, [], ◌∷◌, ◌++◌, ℕ, zero, suc, ◌+◌, ◌*◌, ◌-◌, ◌<◌, arith, not-suc-le-zero, length, set}
-use Rattle.table.specs.Mesh.{Cell, at, with_kids, brood, split, is_none}
+use Rattle.std.proofs.Common.{◌≡◌, ap, Option, None, List, [], ◌∷◌, ◌++◌, ℕ, zero, suc, ◌+◌, ◌*◌, ◌-◌, ◌<◌, arith, not-suc-le-zero, length, set, is_none}
+use Rattle.table.specs.Mesh.{Cell, at, with_kids, brood, split}
 use Rattle.coarsest.specs.Passes.{splits_below, left_if, left_of, splits_left}
 
 left-append : (M : ℕ) (s t : List Cell) → splits_left M (s ++ t) ≡ splits_left M s + splits_left M t

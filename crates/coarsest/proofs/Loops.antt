@@ -1,7 +1,7 @@
 -- What a loop over a row needs: a pair that is due, one that is not, a row that is done early, and the lengths on the way.
 -- Assumes nothing.
-use Rattle.std.proofs.Common.{◌≡◌, refl, ap, ◌∙◌, Bool, true, false, ◌&&◌, true≢false, List, ℕ, zero, suc, ◌+◌, ◌<◌, ◌≤◌, arith, add-zero, add-suc, length}
-use Rattle.table.specs.Mesh.{Cell, split, is_none, is_leaf}
+use Rattle.std.proofs.Common.{◌≡◌, refl, ap, ◌∙◌, Bool, true, false, ◌&&◌, true≢false, List, ℕ, zero, suc, ◌+◌, ◌<◌, ◌≤◌, arith, add-zero, add-suc, length, is_none}
+use Rattle.table.specs.Mesh.{Cell, split, is_leaf}
 use Rattle.coarsest.specs.declared.Engine.{Engine}
 use Rattle.coarsest.specs.declared.Engine.TheVariants.{Balancing, Conforming}
 use Rattle.coarsest.specs.Passes.{is_due, due, split_if, step}

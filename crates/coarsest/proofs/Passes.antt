@@ -1,8 +1,8 @@
 -- A sweep over all ids below the count is the rules' pass, over the leaves of its start; so what one split keeps, a pass keeps; and
 -- a pass that makes no split leaves nothing due. Assumes nothing.
-use Rattle.std.proofs.Common.{◌≡◌, refl, sym, ap, subst, ◌∙◌, Bool, true, false, true≢false, inl, Option, None, Some, List, [], ◌∷◌, ◌++◌, ℕ, zero, suc, ◌<◌, ◌≤◌, arith, zero-add, length}
-use Rattle.table.specs.Mesh.{Cell, at, split, is_none, is_leaf}
-use Rattle.table.specs.Leaves.{one_if, ids_to}
+use Rattle.std.proofs.Common.{◌≡◌, refl, sym, ap, subst, ◌∙◌, Bool, true, false, true≢false, inl, Option, None, Some, List, [], ◌∷◌, ◌++◌, ℕ, zero, suc, ◌<◌, ◌≤◌, arith, zero-add, length, is_none}
+use Rattle.table.specs.Mesh.{Cell, at, split, is_leaf}
+use Rattle.table.proofs.Ids.{one_if, ids_to, ids-more}
 use Rattle.coarsest.specs.declared.Engine.{Engine}
 use Rattle.coarsest.specs.declared.Engine.TheVariants.{Balancing, Conforming}
 use Rattle.coarsest.specs.Passes.{is_due, due, step, with_each, each_with, pass}
@@ -40,10 +40,11 @@ module _ (e : Engine) (k : ℕ) where
   module _ (t : List Cell) (n : ℕ) where
     -- a's row, from a table u of the pass
     row-leaves : (u : List Cell) (a b : ℕ) → a < n → b ≤ n → n ≤ length u → Stays t u → with_each e k u a (ids_to (is_leaf t) b) ≡ row e k u a b
-    unfolding ids_to with_each row
-    row-leaves u a zero ha hb l s = refl
+    unfolding with_each row
+    row-leaves u a zero ha hb l s = unfold ids_to in refl
     row-leaves u a (suc b) ha hb l s =
-        with_append u a (ids_to (is_leaf t) b) (one_if (is_leaf t b) b)
+        ap (with_each e k u a) (ids-more (is_leaf t) b)
+        ∙ with_append u a (ids_to (is_leaf t) b) (one_if (is_leaf t b) b)
         ∙ ap (λ (x : List Cell). with_each e k x a (one_if (is_leaf t b) b)) (row-leaves u a b ha (omega arith) l s)
         ∙ last (is_leaf t b) refl
       where
@@ -60,18 +61,19 @@ module _ (e : Engine) (k : ℕ) where
     turn-leaves u a ha l s false h = sym (ap (row e k u a) (sym (zero-add n)) ∙ row_done e k u a 0 n (s a h))
 
     rows-leaves : (a : ℕ) → a ≤ n → n ≤ length t → each_with e k t (ids_to (is_leaf t) a) (ids_to (is_leaf t) n) ≡ rows e k n t a
-    unfolding ids_to each_with rows
-    rows-leaves zero ha l = refl
+    unfolding each_with rows
+    rows-leaves zero ha l = unfold ids_to in refl
     rows-leaves (suc a) ha l =
         let u = rows e k n t a in
         let g = grown-least t u (rows_grown e k n t a (omega arith) l) in
-        each_append t (ids_to (is_leaf t) a) (one_if (is_leaf t a) a) (ids_to (is_leaf t) n)
+        ap (λ (ids : List ℕ). each_with e k t ids (ids_to (is_leaf t) n)) (ids-more (is_leaf t) a)
+        ∙ each_append t (ids_to (is_leaf t) a) (one_if (is_leaf t a) a) (ids_to (is_leaf t) n)
         ∙ ap (λ (x : List Cell). each_with e k x (one_if (is_leaf t a) a) (ids_to (is_leaf t) n)) (rows-leaves a (omega arith) l)
         ∙ turn-leaves u a ha (omega arith) (rows-keeps e k n (Stays t) (stays-keeps k t) t a (omega arith) l (λ i h. h)) (is_leaf t a) refl
 
 module _ (e : Engine) (k : ℕ) (t : List Cell) where
   pub sweep-pass : sweep e k t ≡ pass e k t
-  unfolding sweep pass
+  unfolding sweep pass ids_to
   sweep-pass = sym (rows-leaves e k t (length t) (length t) (omega arith) (omega arith))
 
   pub pass-keeps : (P : List Cell → Type 0) → Keeps k P → P t → P (pass e k t)

@@ -18,12 +18,9 @@ Cut n a b = Span n a (mid a b) × Span n (mid a b) b
 twice : (m n : ℕ) → suc m * 2 ^ suc n ≡ suc m * 2 ^ n * 2
 twice m n = ap (λ (x : ℕ). suc m * x) (pow-suc 2 n) ∙ sym (mul_assoc (suc m) (2 ^ n) 2)
 
--- the middle is exact, and each half a multiple of half the power
+-- each half is a multiple of half the power
 cut : (n a b : ℕ) → Span (suc n) a b → Cut n a b
 cut n a b s = let e = s.1 in let d = twice s.0 n in ((s.0, omega arith), (s.0, omega arith))
-
-middle : (n a b : ℕ) → Span (suc n) a b → mid a b + mid a b ≡ a + b
-middle n a b s = let e = s.1 in let d = twice s.0 n in omega arith
 
 abbrev pub Sides : ℕ → Box → Type 0
 Sides n B = Span n B.x0 B.x1 × Span n B.y0 B.y1

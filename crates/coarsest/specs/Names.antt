@@ -2,8 +2,9 @@
 -- that keeps a table's splits, goes no deeper than max_level, and has no two leaves that share an edge and differ by
 -- more than k levels. Nothing here knows of the passes.
 use Rattle.std.specs.Prelude.{ℕ, ◌+◌, ◌≤◌, ◌<◌, ◌≡◌, Bool, true, false, not, List, [], ◌∷◌, length, Option, None, Some}
+use Rattle.std.specs.Prelude.{is_none}
 use Rattle.cell.specs.Boxes.{Box, Quad, num, quadrant, shares_edge}
-use Rattle.table.specs.Mesh.{Cell, at, is_none}
+use Rattle.table.specs.Mesh.{Cell, at}
 use Rattle.table.specs.Formed.{Formed}
 
 -- the quadrants from the root, the deepest first

@@ -4,9 +4,10 @@
 -- Conform: if a is coarser than b and they share an edge, a is split and the next a is taken. Both end after a pass
 -- without a split."
 use Rattle.std.specs.Prelude.{ℕ, zero, suc, ◌+◌, ◌*◌, ◌-◌, Bool, true, false, ◌&&◌, List, [], ◌∷◌, length, ◌==◌, nat_lt}
+use Rattle.std.specs.Prelude.{filter, is_none, if◌then◌else◌}
+use Rattle.std.specs.List.{range_with_len}
 use Rattle.cell.specs.Boxes.{shares_edge}
-use Rattle.table.specs.Mesh.{Cell, at, split, is_none, is_leaf}
-use Rattle.table.specs.Leaves.{ids_to}
+use Rattle.table.specs.Mesh.{Cell, at, split, is_leaf}
 use Rattle.coarsest.specs.declared.Engine.{Engine}
 use Rattle.coarsest.specs.declared.Engine.TheVariants.{Balancing, Conforming}
 
@@ -44,7 +45,7 @@ each_with e k t (a ∷ rest) bs = each_with e k (with_each e k t a bs) rest bs
 
 -- the leaves in id order
 abbrev pub leaves_of : List Cell → List ℕ
-leaves_of t = ids_to (is_leaf t) (length t)
+leaves_of t = filter (is_leaf t) (range_with_len 0 (length t))
 
 -- "over the leaves of the pass's start in id order"
 unfoldable pub pass : Engine → ℕ → List Cell → List Cell
@@ -53,7 +54,7 @@ pass e k t = each_with e k t (leaves_of t) (leaves_of t)
 -- passes until one makes no split, or n of them were made
 unfoldable pub run : Engine → ℕ → ℕ → List Cell → List Cell
 run e k zero t = t
-run e k (suc n) t = elim (length (pass e k t) == length t) [ true ↦ t | false ↦ run e k n (pass e k t) ]
+run e k (suc n) t = if length (pass e k t) == length t then t else run e k n (pass e k t)
 
 -- how many splits a leaf with n levels below it can still see, and all leaves of a table
 abbrev pub splits_below : ℕ → ℕ
@@ -75,6 +76,12 @@ splits_left M (c ∷ cs) = left_of M c + splits_left M cs
 -- last pass made no split, and that no larger bound ends otherwise
 unfoldable pub evened : Engine → ℕ → ℕ → List Cell → List Cell
 evened e k M t = run e k (splits_left M t) t
+
+-- by how many levels two leaves that share an edge may differ: b is split "if a's level exceeds b's by two or more",
+-- and a "if a is coarser"
+abbrev pub difference : Engine → ℕ
+difference Balancing = 1
+difference Conforming = 0
 
 -- "exceeds by two or more": by more than 1
 unfoldable pub balance : ℕ → List Cell → List Cell

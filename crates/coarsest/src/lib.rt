@@ -18,6 +18,20 @@ pub enum Engine {
     Conforming,
 }
 
+impl Engine {
+    ghost use Rattle.coarsest.specs.Passes.{difference};
+
+    /// By how many levels two leaves that share an edge may differ.
+    pub fn difference(self) -> u64
+        ensures { result ≡ difference self }
+    {
+        match self {
+            Engine::Balancing => 1,
+            Engine::Conforming => 0,
+        }
+    }
+}
+
 /// Whether the leaf b has to be split for the leaf a: a is finer by more than k levels, and they share an edge.
 pub fn due(a: Cell, b: Cell, k: u64) -> bool
     ensures { result ≡ due_cells k (mesh_cell a) (mesh_cell b) }

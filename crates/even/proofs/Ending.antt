@@ -7,7 +7,7 @@ use Rattle.table.specs.Mesh.{table}
 use Rattle.table.specs.Formed.{WellFormed}
 use Rattle.table.proofs.Cells.{length-table}
 use Rattle.coarsest.specs.declared.Engine.{Engine}
-use Rattle.coarsest.specs.Passes.{evened}
+use Rattle.coarsest.specs.Passes.{evened, difference}
 use Rattle.coarsest.specs.Names.{Evens}
 use Rattle.coarsest.proofs.Kept.{evened-quarter}
 use Rattle.coarsest.proofs.Ends.{evened-evens, evened-needs, needs-one}
@@ -20,7 +20,10 @@ not-refused vs n p e = let z : ◌≡◌ {A = ℕ} 0 1 = cc in omega arith
 count-is : (a b c d M : ℕ) → accepted (a ∷ b ∷ M ∷ []) ≡ accepted (c ∷ d ∷ M ∷ []) → (a ≡ c) × (b ≡ d)
 count-is a b c d M e = (cc, cc)
 
-module _ (e : Engine) (k : ℕ) (head : Head) (t u : List ℤ) (w : WellFormed t head.count head.max_level) where
+module _ (e : Engine) (head : Head) (t u : List ℤ) (w : WellFormed t head.count head.max_level) where
+  abbrev k : ℕ
+  k = difference e
+
   abbrev n : ℕ
   n = head.count
 
@@ -33,7 +36,7 @@ module _ (e : Engine) (k : ℕ) (head : Head) (t u : List ℤ) (w : WellFormed t
       omega (arith, q, ap length (sym c), length-table u r, length-table t n)
 
   pub ends-done : (r : ℕ) → table u r ≡ evened e k M (table t n) → r ≤ length t / 8
-      → EndsCoarsest k head t u (accepted ((r - n) / 4 ∷ r ∷ M ∷ []))
+      → EndsCoarsest e head t u (accepted ((r - n) / 4 ∷ r ∷ M ∷ []))
   ends-done r c room =
       let l : r ≡ length (evened e k M (table t n)) = sym (length-table u r) ∙ ap length c in
       record {
@@ -50,7 +53,7 @@ module _ (e : Engine) (k : ℕ) (head : Head) (t u : List ℤ) (w : WellFormed t
         over = λ f cells needs h. absurd (let q = needs-over e k (table t n) M w.cells (length t / 8) cells needs h in omega arith);
       }
 
-  pub ends-full : length t / 8 < length (evened e k M (table t n)) → u ≡ t → EndsCoarsest k head t u (refused 6 0)
+  pub ends-full : length t / 8 < length (evened e k M (table t n)) → u ≡ t → EndsCoarsest e head t u (refused 6 0)
   ends-full h same =
       record {
         exists = λ f. (length (evened e k M (table t n)), evened-needs e k M (table t n) w.cells);
@@ -60,8 +63,8 @@ module _ (e : Engine) (k : ℕ) (head : Head) (t u : List ℤ) (w : WellFormed t
         bad = λ f. absurd (f w);
       }
 
-pub ends-bad : (k : ℕ) (head : Head) (t : List ℤ) → (WellFormed t head.count head.max_level → ⊥) → EndsCoarsest k head t t (refused 7 0)
-ends-bad k head t bad =
+pub ends-bad : (e : Engine) (head : Head) (t : List ℤ) → (WellFormed t head.count head.max_level → ⊥) → EndsCoarsest e head t t (refused 7 0)
+ends-bad e head t bad =
     record {
       exists = λ f. absurd (bad f);
       done = λ splits count s. absurd (not-refused (splits ∷ count ∷ head.max_level ∷ []) 7 0 (sym s));

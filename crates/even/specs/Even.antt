@@ -10,7 +10,7 @@ use Rattle.table.specs.Formed.{WellFormed, well_formed}
 use Rattle.table.specs.Rows.{cells_in}
 use Rattle.refusals.specs.Said.{is_accepted}
 use Rattle.coarsest.specs.declared.Engine.{Engine}
-use Rattle.coarsest.specs.Passes.{evened}
+use Rattle.coarsest.specs.Passes.{evened, difference}
 use Rattle.coarsest.specs.Names.{Evens, Needs}
 use Rattle.even.specs.declared.Evening.{Evening}
 use Rattle.even.specs.Rows.{row_of}
@@ -20,33 +20,36 @@ abbrev pub evening_said : Result Evening Refusal → Said
 evening_said = said (λ e. e.splits ∷ e.head.count ∷ e.head.max_level ∷ [])
 
 -- the cells that the passes of the rules end in, with unlimited room
-abbrev pub even_cells : Engine → ℕ → List ℤ → Head → List Cell
-even_cells e k row head = evened e k head.max_level (cells_in row head)
+abbrev pub even_cells : Engine → List ℤ → Head → List Cell
+even_cells e row head = evened e (difference e) head.max_level (cells_in row head)
 
 -- 7, then 6 where they are more than the slots; the splits are a quarter of the growth of the count
-unfoldable pub even_says : Engine → ℕ → List ℤ → Head → Said
-even_says e k row head =
+unfoldable pub even_says : Engine → List ℤ → Head → Said
+even_says e row head =
     if well_formed row head.count head.max_level then
-    (if nat_le (length (even_cells e k row head)) (length row / 8) then
-    (let count = length (even_cells e k row head) in
+    (if nat_le (length (even_cells e row head)) (length row / 8) then
+    (let count = length (even_cells e row head) in
     accepted ((count - head.count) / 4 ∷ count ∷ head.max_level ∷ []))
     else refusal NoRoom)
     else refusal BadTable
 
 -- exactly those cells, id for id, padded with zeros; a refused call changes nothing
-unfoldable pub even_row : Engine → ℕ → List ℤ → Head → List ℤ
-even_row e k row head =
-    if is_accepted (even_says e k row head) then row_of (even_cells e k row head) (length row) else row
+unfoldable pub even_row : Engine → List ℤ → Head → List ℤ
+even_row e row head =
+    if is_accepted (even_says e row head) then row_of (even_cells e row head) (length row) else row
 
 -- The promise with no word of passes. A well-formed table has a coarsest splitting; if that has no more cells than
 -- there are slots the call is accepted with exactly that count, and what was done is that splitting; if it has more,
 -- the answer is 6. A table that is not well formed: 7. Refused, the row is as it was
-pub record EndsCoarsest (k : ℕ) (head : Head) (old new : List ℤ) (said : Said) : Type 0 where
-  pub exists : WellFormed old head.count head.max_level → (cells : ℕ) × Needs k head.max_level (cells_in old head) cells
-  pub fits : WellFormed old head.count head.max_level → (cells : ℕ) → Needs k head.max_level (cells_in old head) cells
+pub record EndsCoarsest (e : Engine) (head : Head) (old new : List ℤ) (said : Said) : Type 0 where
+  pub exists : WellFormed old head.count head.max_level
+      → (cells : ℕ) × Needs (difference e) head.max_level (cells_in old head) cells
+  pub fits : WellFormed old head.count head.max_level
+      → (cells : ℕ) → Needs (difference e) head.max_level (cells_in old head) cells
       → cells ≤ length old / 8 → (splits : ℕ) × (said ≡ accepted (splits ∷ cells ∷ head.max_level ∷ []))
   pub done : (splits count : ℕ) → said ≡ accepted (splits ∷ count ∷ head.max_level ∷ [])
-      → Evens k head.max_level (cells_in old head) (table new count) × (count ≡ head.count + 4 * splits)
-  pub over : WellFormed old head.count head.max_level → (cells : ℕ) → Needs k head.max_level (cells_in old head) cells
+      → Evens (difference e) head.max_level (cells_in old head) (table new count) × (count ≡ head.count + 4 * splits)
+  pub over : WellFormed old head.count head.max_level
+      → (cells : ℕ) → Needs (difference e) head.max_level (cells_in old head) cells
       → length old / 8 < cells → (said ≡ refused 6 0) × (new ≡ old)
   pub bad : (WellFormed old head.count head.max_level → ⊥) → (said ≡ refused 7 0) × (new ≡ old)

@@ -3,14 +3,14 @@ use Rattle.std.specs.Prelude.{ℕ, ◌+◌, ◌<◌, ◌≤◌, Bool, IsTrue, Is
 use Rattle.table.specs.Mesh.{Cell}
 use Rattle.coarsest.specs.declared.Engine.{Engine}
 use Rattle.coarsest.specs.declared.Engine.TheVariants.{Balancing, Conforming}
-use Rattle.coarsest.specs.Passes.{is_due}
+use Rattle.coarsest.specs.Passes.{is_due, difference}
 use Rattle.search.specs.declared.marks.Marks.{Marks}
 use Rattle.search.specs.Marks.{mark_at}
 use Rattle.even.specs.declared.evener.Evener.{Evener}
 
 -- whether the pair (a, b) has a split
 abbrev pub pair_due : Evener → List Cell → ℕ → ℕ → Bool
-pair_due s t a b = is_due s.engine s.difference t a b
+pair_due s t a b = is_due s.engine (difference s.engine) t a b
 
 -- each row with a pair that is due has a mark
 abbrev pub Watched : Evener → List Cell → Marks → Type 0

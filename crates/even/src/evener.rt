@@ -4,7 +4,7 @@ ghost use Rattle.table.specs.Mesh.{at, split};
 ghost use Rattle.table.specs.Tables.{cells};
 ghost use Rattle.table.specs.TablesMut.{cells_mut};
 ghost use Rattle.coarsest.specs.declared.Engine.TheVariants.{Balancing, Conforming};
-ghost use Rattle.coarsest.specs.Passes.{pass, evened};
+ghost use Rattle.coarsest.specs.Passes.{pass, evened, difference};
 ghost use Rattle.coarsest.specs.Sweep.{row};
 ghost use Rattle.search.specs.Roots.{Indexes};
 ghost use Rattle.search.specs.Marks.{KeepsMarks};
@@ -30,13 +30,11 @@ fn split(table: &mut TableMut<'_>, id: usize) -> Result<(), Refusal>
     Ok(())
 }
 
-/// How a table is evened out: by which engine, and up to which difference of levels.
+/// How a table is evened out: by which engine, with the index of its roots.
 #[derive(Clone, Copy)]
 pub struct Evener<'a> {
     pub engine: Engine,
-    pub difference: u64,
     pub roots: &'a Roots,
-    ghost small: { difference ≤ 64 },
 }
 
 impl Evener<'_> {
@@ -48,10 +46,11 @@ impl Evener<'_> {
         requires indexed { Indexes self.now.roots.now (cells_mut table.old) }
         requires stop { stop ≤ table.old.head.count }
         requires own { a < stop }
-        ensures { Makes (row Balancing self.now.difference (cells_mut table.old) a stop) table.old table.new result }
+        ensures { Makes (row Balancing (difference Balancing) (cells_mut table.old) a stop) table.old table.new result }
     {
+        let difference = Engine::Balancing.difference();
         let cells = table.view();
-        if cells.level(a) <= self.difference {
+        if cells.level(a) <= difference {
             return Ok(());
         }
         if !cells.is_leaf(a) {
@@ -59,7 +58,7 @@ impl Evener<'_> {
         }
         let mut from = 0;
         while from < stop {
-            let c = Around::new(table.view(), self.roots, a).least_due(self.difference, from, stop);
+            let c = Around::new(table.view(), self.roots, a).least_due(difference, from, stop);
             if stop <= c {
                 return Ok(());
             }
@@ -74,7 +73,8 @@ impl Evener<'_> {
         requires indexed { Indexes self.now.roots.now (cells_mut table.old) }
         requires stop { stop ≤ table.old.head.count }
         requires own { a < stop }
-        ensures { Makes (row Conforming self.now.difference (cells_mut table.old) a stop) table.old table.new result }
+        ensures { Makes (row Conforming (difference Conforming) (cells_mut table.old) a stop)
+            table.old table.new result }
     {
         let cells = table.view();
         if !cells.is_leaf(a) {
@@ -83,7 +83,8 @@ impl Evener<'_> {
         if cells.head.max_level <= cells.level(a) {
             return Ok(());
         }
-        if !Around::new(cells, self.roots, a).is_asked(self.difference, stop) {
+        let difference = Engine::Conforming.difference();
+        if !Around::new(cells, self.roots, a).is_asked(difference, stop) {
             return Ok(());
         }
         split(table, a)
@@ -94,7 +95,7 @@ impl Evener<'_> {
         requires indexed { Indexes self.now.roots.now (cells_mut table.old) }
         requires stop { stop ≤ table.old.head.count }
         requires own { a < stop }
-        ensures { Makes (row self.now.engine self.now.difference (cells_mut table.old) a stop)
+        ensures { Makes (row self.now.engine (difference self.now.engine) (cells_mut table.old) a stop)
             table.old table.new result }
     {
         match self.engine {
@@ -107,7 +108,8 @@ impl Evener<'_> {
     fn pass(&self, table: &mut TableMut<'_>, marks: &Marks) -> Result<(), Refusal>
         requires indexed { Indexes self.now.roots.now (cells_mut table.old) }
         requires watched { Watched self.now (cells_mut table.old) marks.now }
-        ensures { Makes (pass self.now.engine self.now.difference (cells_mut table.old)) table.old table.new result }
+        ensures { Makes (pass self.now.engine (difference self.now.engine) (cells_mut table.old))
+            table.old table.new result }
     {
         let stop = table.head.count;
         let mut a = marks.next(0, stop);
@@ -121,17 +123,20 @@ impl Evener<'_> {
     // The levels of the leaves whose rows a new leaf of this level can concern.
     fn concerned(&self, max_level: u64, level: u64) -> Levels
         requires { level ≤ 64 }
-        ensures low { (x : ℕ) → Reaches self.now.engine self.now.difference max_level level x → result.low ≤ x }
-        ensures high { (x : ℕ) → Reaches self.now.engine self.now.difference max_level level x → x ≤ result.high }
+        ensures low { (x : ℕ) → Reaches self.now.engine (difference self.now.engine) max_level level x
+            → result.low ≤ x }
+        ensures high { (x : ℕ) → Reaches self.now.engine (difference self.now.engine) max_level level x
+            → x ≤ result.high }
     {
+        let beyond = self.engine.difference() + 1;
         match self.engine {
             Engine::Balancing => Levels {
-                low: level + self.difference + 1,
+                low: level + beyond,
                 high: max_level,
             },
             Engine::Conforming => Levels {
                 low: 0,
-                high: level.saturating_sub(self.difference + 1),
+                high: level.saturating_sub(beyond),
             },
         }
     }
@@ -171,7 +176,8 @@ impl Evener<'_> {
     pub fn passes(&self, table: &mut TableMut<'_>, marks: &mut Marks) -> Result<(), Refusal>
         requires indexed { Indexes self.now.roots.now (cells_mut table.old) }
         requires watched { Watched self.now (cells_mut table.old) marks.old }
-        ensures { Makes (evened self.now.engine self.now.difference table.old.head.max_level (cells_mut table.old))
+        ensures { Makes
+            (evened self.now.engine (difference self.now.engine) table.old.head.max_level (cells_mut table.old))
             table.old table.new result }
     {
         'passes: loop {

@@ -2,7 +2,7 @@
 //! splitting or leave the table as it was.
 #![tactic(auto)]
 
-ghost use Rattle.std.specs.Prelude.{◌≡◌, ◌/◌, ◌<◌, ◌≤◌, length, IfOk, IfErr, OnErr};
+ghost use Rattle.std.specs.Prelude.{◌≡◌, ◌/◌, ◌<◌, length, IfOk, IfErr, OnErr};
 ghost use Rattle.refusals.specs.declared.Refusal.TheVariants.{NoRoom};
 ghost use Rattle.table.specs.Rows.{IsTable, cells_in};
 ghost use Rattle.coarsest.specs.declared.Engine.TheVariants.{Balancing, Conforming};
@@ -29,14 +29,13 @@ pub struct Evening {
 }
 
 // All passes, with the index of the roots made once: the new head. Without room the splits are left for `undo`.
-fn even_out(row: &mut [i64], head: Head, engine: Engine, difference: u64) -> Result<Head, Refusal>
-    requires formed { IsTable row.old head }
-    requires small { difference ≤ 64 }
-    ensures cells { IfOk result (λ h. cells_in row.new h ≡ even_cells engine difference row.old head) }
+fn even_out(row: &mut [i64], head: Head, engine: Engine) -> Result<Head, Refusal>
+    requires { IsTable row.old head }
+    ensures cells { IfOk result (λ h. cells_in row.new h ≡ even_cells engine row.old head) }
     ensures formed { IfOk result (λ h. IsTable row.new h) }
     ensures max_level { IfOk result (λ h. h.max_level ≡ head.max_level) }
     ensures refusal { IfErr result (λ why. why ≡ NoRoom) }
-    ensures full { OnErr result (length row.old / 8 < length (even_cells engine difference row.old head)) }
+    ensures full { OnErr result (length row.old / 8 < length (even_cells engine row.old head)) }
     ensures undone { undone head.count row.new ≡ row.old }
 {
     let mut roots = Roots::unknown();
@@ -45,7 +44,6 @@ fn even_out(row: &mut [i64], head: Head, engine: Engine, difference: u64) -> Res
     let mut marks = Marks::all();
     let evener = Evener {
         engine,
-        difference,
         roots: &roots,
     };
     evener.passes(&mut table, &mut marks)?;
@@ -53,21 +51,15 @@ fn even_out(row: &mut [i64], head: Head, engine: Engine, difference: u64) -> Res
 }
 
 // Both calls: 7, 6, or the table evened out.
-fn even_table(
-    row: &mut [i64],
-    head: Head,
-    engine: Engine,
-    difference: u64,
-) -> Result<Evening, Refusal>
-    requires { difference ≤ 64 }
-    ensures says { evening_said result ≡ even_says engine difference row.old head }
-    ensures row_after { row.new ≡ even_row engine difference row.old head }
-    ensures coarsest { EndsCoarsest difference head row.old row.new (evening_said result) }
+fn even_table(row: &mut [i64], head: Head, engine: Engine) -> Result<Evening, Refusal>
+    ensures says { evening_said result ≡ even_says engine row.old head }
+    ensures row_after { row.new ≡ even_row engine row.old head }
+    ensures coarsest { EndsCoarsest engine head row.old row.new (evening_said result) }
 {
     if !well_formed(row, head) {
         return Err(Refusal::BadTable);
     }
-    match even_out(row, head, engine, difference) {
+    match even_out(row, head, engine) {
         Ok(grown) => Ok(Evening {
             splits: (grown.count - head.count) / 4,
             head: grown,
@@ -81,18 +73,18 @@ fn even_table(
 
 /// No two leaves that share an edge differ by more than one level.
 pub fn balance(row: &mut [i64], head: Head) -> Result<Evening, Refusal>
-    ensures says { evening_said result ≡ even_says Balancing 1 row.old head }
-    ensures row_after { row.new ≡ even_row Balancing 1 row.old head }
-    ensures coarsest { EndsCoarsest 1 head row.old row.new (evening_said result) }
+    ensures says { evening_said result ≡ even_says Balancing row.old head }
+    ensures row_after { row.new ≡ even_row Balancing row.old head }
+    ensures coarsest { EndsCoarsest Balancing head row.old row.new (evening_said result) }
 {
-    even_table(row, head, Engine::Balancing, 1)
+    even_table(row, head, Engine::Balancing)
 }
 
 /// No two leaves that share an edge differ in level.
 pub fn conform(row: &mut [i64], head: Head) -> Result<Evening, Refusal>
-    ensures says { evening_said result ≡ even_says Conforming 0 row.old head }
-    ensures row_after { row.new ≡ even_row Conforming 0 row.old head }
-    ensures coarsest { EndsCoarsest 0 head row.old row.new (evening_said result) }
+    ensures says { evening_said result ≡ even_says Conforming row.old head }
+    ensures row_after { row.new ≡ even_row Conforming row.old head }
+    ensures coarsest { EndsCoarsest Conforming head row.old row.new (evening_said result) }
 {
-    even_table(row, head, Engine::Conforming, 0)
+    even_table(row, head, Engine::Conforming)
 }

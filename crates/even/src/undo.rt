@@ -1,12 +1,12 @@
 //! Splits taken back, for want of room.
-ghost use Rattle.std.specs.Prelude.{◌≡◌, ◌*◌, ◌<◌, ◌≤◌, length};
+ghost use Rattle.std.specs.Prelude.{◌≡◌, ◌*◌, ◌^◌, ◌<◌, ◌≤◌, length};
 ghost use Rattle.even.specs.Undo.{undone_at, undone};
 
 use table::slots::NO_CELL;
 
 #[tactic(auto, unfolding(crate::specs::Undo::undone_at))]
 fn undone_at(n: usize, j: usize, z: i64) -> i64
-    requires { n * 8 < 9223372036854775808 }
+    requires { n * 8 < 2 ^ 63 }
     ensures { result ≡ undone_at n j z }
 {
     if n * 8 <= j {

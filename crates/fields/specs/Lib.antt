@@ -1,3 +1,4 @@
--- Lent bytes that are read from left to right, and what a field is.
+-- Lent bytes that are read and written from left to right, and what a field is.
 pub mod Cursor
 pub mod Codec
+pub mod Written

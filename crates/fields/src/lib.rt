@@ -1,6 +1,7 @@
-//! What stands in lent bytes, read from left to right: one reader, whose refusals name their place, and one
-//! description of a field (`Codec`) for who reads it and who writes it.
+//! What stands in lent bytes, read or written from left to right: one reader, whose refusals name their place, one
+//! writer, and one description of a field (`Codec`) for both.
 #![tactic(auto)]
 
 pub mod offset;
 pub mod reader;
+pub mod writer;

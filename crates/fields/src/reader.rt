@@ -1,8 +1,9 @@
 //! A reader that carries the lent bytes and its offset. Each call takes it apart and calls the offset reader.
 
-ghost use Rattle.std.specs.Prelude.{◌≡◌, ◌≤◌, length, OnErr};
+ghost use Rattle.std.specs.Prelude.{◌≡◌, ◌≤◌, length, OnErr, Ok};
 ghost use Rattle.std.specs.Int.{w8, w16, w32, w64};
-ghost use Rattle.fields.specs.Cursor.{start, past, Reads, bytes_of, number, signed_number};
+ghost use Rattle.refusals.specs.declared.Refusal.TheVariants.{OutOfRange};
+ghost use Rattle.fields.specs.Cursor.{start, past, Reads, require, bytes_of, number, signed_number};
 ghost use Rattle.fields.specs.Codec.{ranged};
 
 use crate::offset::field_at;
@@ -69,6 +70,7 @@ impl<'a> Reader<'a> {
         ensures read { Reads result self.new (bytes_of N self.old) }
         ensures refused_stays { OnErr result (self.new ≡ self.old) }
     {
+        // `let .. else`: where a field is read, its refusal and the place of it stand written out.
         let Some(field) = field_at::<N>(self.bytes, self.at) else {
             return Err(Refusal::WrongLength(self.at));
         };
@@ -140,6 +142,8 @@ impl<'a> Reader<'a> {
         field
     }
 
+    // One call for each width, as std's `from_be_bytes` is: a trait over the widths would be longer than what it saves.
+
     /// A number that is there, as one is that was read before. So are the next three.
     #[inline]
     pub fn known_u16(&mut self) -> u16
@@ -173,37 +177,40 @@ impl<'a> Reader<'a> {
         self.known_u64().cast_signed()
     }
 
-    /// A number from `low` to `high`. It is judged before the reader moves.
+    /// Moves behind a value that was read ahead, if it fits; else it is refused where the reader stands.
+    #[inline]
+    pub fn accept<T: Copy>(&mut self, ahead: Reader<'a>, value: T, fits: bool) -> Result<T, Refusal>
+        ensures read { Reads result self.new (require fits (OutOfRange self.old.at) (Ok (value, ahead.entry))) }
+        ensures refused_stays { OnErr result (self.new ≡ self.old) }
+    {
+        if !fits {
+            return Err(Refusal::OutOfRange(self.at));
+        }
+        *self = ahead;
+        Ok(value)
+    }
+
+    // One call for each width here too, with the same reason.
+
+    /// A number from `low` to `high`.
     #[inline]
     pub fn read_u16_within(&mut self, low: u16, high: u16) -> Result<u16, Refusal>
         ensures read { Reads result self.new ((ranged w16 low high).reading self.old) }
         ensures refused_stays { OnErr result (self.new ≡ self.old) }
     {
-        let at = self.at;
         let mut ahead = self.ahead();
         let value = ahead.read_u16()?;
-        if low <= value && value <= high {
-            *self = ahead;
-            Ok(value)
-        } else {
-            Err(Refusal::OutOfRange(at))
-        }
+        self.accept(ahead, value, low <= value && value <= high)
     }
 
-    /// A number from `low` to `high`. It is judged before the reader moves.
+    /// A number from `low` to `high`.
     #[inline]
     pub fn read_u64_within(&mut self, low: u64, high: u64) -> Result<u64, Refusal>
         ensures read { Reads result self.new ((ranged w64 low high).reading self.old) }
         ensures refused_stays { OnErr result (self.new ≡ self.old) }
     {
-        let at = self.at;
         let mut ahead = self.ahead();
         let value = ahead.read_u64()?;
-        if low <= value && value <= high {
-            *self = ahead;
-            Ok(value)
-        } else {
-            Err(Refusal::OutOfRange(at))
-        }
+        self.accept(ahead, value, low <= value && value <= high)
     }
 }

@@ -1,6 +1,6 @@
 -- What the rules' ranges say of a number. Assumes nothing.
 use lib.Ieee.{Float}
-use Rattle.std.proofs.Common.{subst, ℕ, ◌*◌, ◌^◌, ◌≤◌, ◌<◌, le_of_lt, mul-one, true, false, T, le→leb, pos}
+use Rattle.std.proofs.Common.{subst, ℕ, ◌*◌, ◌^◌, ◌≤◌, ◌<◌, mul-one, true, false, T}
 use lib.Ieee as Ieee
 use lib.Ieee.{nan, inf, fin, binary64, up, down, le, of_int, in_float, round}
 use lib.Ieee.Fits.{and_l, and_r}
@@ -10,11 +10,6 @@ use lib.Ieee.Positive.{positive, positive_of_value}
 use Rattle.floats.specs.Fractions.{float, sheet_low, sheet_high, peak, in_sheet, in_potential}
 use Rattle.floats.proofs.Ranges.{In, in-positive}
 use Rattle.floats.proofs.Sizes.{within, lt-or-eq, gt-or-eq}
-
--- binary64 has every whole number below 2^53
-pub exact : {n : ℕ} → n < 2 ^ 53 → T (in_float binary64 (pos n))
-unfolding in_float
-exact {n} h = le→leb n (2 ^ 53) (le_of_lt h)
 
 pub float_value : (n : ℕ) → n ≤ 2 ^ 53 → HasValue (float n) false n 1
 unfolding of_int

@@ -1,6 +1,6 @@
 -- Ranges with positive ends, and what an operation makes of them. Assumes nothing.
 use lib.Ieee.{Float, sum}
-use Rattle.std.proofs.Common.{◌≡◌, refl, sym, ◌∙◌, ℕ, ◌+◌, ◌*◌, ◌≤◌, ◌<◌, le_trans, le_of_eq, mul_comm, mul_assoc, mul_left_comm, add-mul, add-le-add, mul-le-mul, mul-le-mul_right, mul-pos, zero-lt-suc, true, false, pos, T, eqb}
+use Rattle.std.proofs.Common.{◌≡◌, ℕ, ◌*◌, ◌≤◌, ◌<◌, le_trans, le_of_eq, mul_comm, mul_assoc, mul_left_comm, mul-le-mul, mul-le-mul_right, mul-pos, zero-lt-suc, true, false, pos, T, eqb}
 use lib.Ieee.{nan, inf, fin, Format, binary64, round, add, mul, div, le, of_int}
 use lib.Ieee.Bits.{cond_no}
 use lib.Ieee.Order.{round_mono}
@@ -57,33 +57,3 @@ div-in {lo} {hi} {x} {lo'} {hi'} {y} f p q p' q' i j =
     let a = in-positive p q i in
     let b = in-positive p' q' j in
     record { from = div_mono f lo x hi' y p a q' b i.from j.to; to = div_mono f x hi y lo' a q b p' i.to j.from }
-
--- ---- the sum of two positive numbers
-add_is : (f : Format) (x y : Float) → T (positive x) → T (positive y) → add f x y ≡ round f false (num x * den y + num y * den x) (den x * den y)
-unfolding add sum
-add_is f nan y p q = absurd p
-add_is f (inf s) y p q = absurd p
-add_is f (fin true m e) y p q = absurd p
-add_is f (fin false m e) nan p q = absurd q
-add_is f (fin false m e) (inf t) p q = absurd q
-add_is f (fin false m e) (fin true n d) p q = absurd q
-add_is f (fin false m e) (fin false n d) p q = refl
-
-pub add-mono : (f : Format) (x x' y y' : Float) → T (positive x) → T (positive x') → T (positive y) → T (positive y') → T (le x x') → T (le y y') → T (le (add f x y) (add f x' y'))
-add-mono f x x' y y' p p' q q' h k =
-    rw (add_is f x y p q, add_is f x' y' p' q')
-    (round_mono f (num x * den y + num y * den x) (den x * den y) (num x' * den y' + num y' * den x') (den x' * den y') (mul-pos (den_pos x) (den_pos y)) (mul-pos (den_pos x') (den_pos y'))
-    (le_trans (le_of_eq (parts (num x) (den y) (num y) (den x) (den x') (den y')))
-    (le_trans (add-le-add (mul-le-mul_right (den y * den y') (le→cross x x' p p' h)) (mul-le-mul_right (den x * den x') (le→cross y y' q q' k))) (le_of_eq (whole (num x') (den y') (num y') (den x') (den x) (den y))))))
-  where
-    parts : (a b c d e g : ℕ) → (a * b + c * d) * (e * g) ≡ a * e * (b * g) + c * g * (d * e)
-    parts a b c d e g = add-mul (a * b) (c * d) (e * g) ∙ simp (mul_assoc, mul_comm, mul_left_comm)
-
-    whole : (a b c d e g : ℕ) → a * e * (g * b) + c * g * (e * d) ≡ (a * b + c * d) * (e * g)
-    whole a b c d e g = (sym (add-mul (a * b) (c * d) (e * g) ∙ simp (mul_assoc, mul_comm, mul_left_comm)))
-
-pub add-in : {lo hi x lo' hi' y : Float} (f : Format) → T (positive lo) → T (positive hi) → T (positive lo') → T (positive hi') → In lo hi x → In lo' hi' y → In (add f lo lo') (add f hi hi') (add f x y)
-add-in {lo} {hi} {x} {lo'} {hi'} {y} f p q p' q' i j =
-    let a = in-positive p q i in
-    let b = in-positive p' q' j in
-    record { from = add-mono f lo x lo' y p a p' b i.from j.from; to = add-mono f x hi y hi' a q b q' i.to j.to }

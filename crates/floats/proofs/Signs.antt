@@ -5,7 +5,6 @@ use lib.Dec.{not_T}
 use lib.Ieee.{nan, inf, fin, Format, prec, emax, low, up, down, unlike, odd, units, round, add, mul, div}
 use lib.Ieee.Fits.{round_is}
 use lib.Ieee.Bits.{cond_no}
-use lib.Ieee.Scale.{finite}
 use lib.Ieee.Positive.{positive}
 use Rattle.floats.specs.Fractions.{no_nan, nonneg}
 
@@ -43,26 +42,6 @@ pub round-nonneg : (f : Format) (a b : ℕ) → T (nonneg (round f false a b))
 round-nonneg f a b = subst (λ (x : Float). T (nonneg x)) (sym (round_is f false a b)) (units-nonneg f _ _)
 
 -- ---- no NaN
-pub positive-no-nan : (x : Float) → T (positive x) → T (no_nan x)
-unfolding is_nan
-positive-no-nan nan p = absurd p
-positive-no-nan (inf s) p = tt
-positive-no-nan (fin s m e) p = tt
-
-pub nonneg-no-nan : (x : Float) → T (nonneg x) → T (no_nan x)
-unfolding is_nan
-nonneg-no-nan nan p = absurd p
-nonneg-no-nan (inf s) p = tt
-nonneg-no-nan (fin s m e) p = tt
-
-pub mul-no-nan : (f : Format) (x y : Float) → T (finite x) → T (finite y) → T (no_nan (mul f x y))
-unfolding mul
-mul-no-nan f nan y p q = absurd p
-mul-no-nan f (inf s) y p q = absurd p
-mul-no-nan f (fin s m e) nan p q = absurd q
-mul-no-nan f (fin s m e) (inf t) p q = absurd q
-mul-no-nan f (fin s m e) (fin t n d) p q = round-no-nan f (unlike s t) (m * up e * (n * up d)) (down e * down d)
-
 above_zero : (n : ℕ) → 0 < n → n ≡ 0 → ⊥
 above_zero n h e = omega arith
 
@@ -81,24 +60,6 @@ div-no-nan f (fin s m e) (inf t) p q = absurd q
 div-no-nan f (fin s m e) (fin true n d) p q = absurd q
 div-no-nan f (fin s m e) (fin false n d) p q =
     subst (λ (x : Float). T (no_nan x)) (sym (cond_no (eqb n 0) _ _ (nonzero n q))) (round-no-nan f (unlike s false) (m * up e * down d) (n * up d * down e))
-
--- a quotient of a positive number, by anything but a NaN
-pub div-no-nan' : (f : Format) (x y : Float) → T (positive x) → T (no_nan y) → T (no_nan (div f x y))
-unfolding div is_nan
-div-no-nan' f nan y p q = absurd p
-div-no-nan' f (inf s) y p q = absurd p
-div-no-nan' f (fin true m e) y p q = absurd p
-div-no-nan' f (fin false m e) nan p q = absurd q
-div-no-nan' f (fin false m e) (inf t) p q = tt
-div-no-nan' f (fin false m e) (fin t n d) p q = go (eqb n 0)
-  where
-    inner : (b : Bool) → T (not b) → T (no_nan (cond b nan (inf (unlike false t))))
-    inner true k = absurd k
-    inner false k = tt
-
-    go : (b : Bool) → T (no_nan (cond b (cond (eqb m 0) nan (inf (unlike false t))) (round f (unlike false t) (m * up e * down d) (n * up d * down e))))
-    go true = inner (eqb m 0) (nonzero m p)
-    go false = round-no-nan f (unlike false t) (m * up e * down d) (n * up d * down e)
 
 -- ---- no NaN and not negative
 pub square-nonneg : (f : Format) (x : Float) → T (no_nan x) → T (nonneg (mul f x x))

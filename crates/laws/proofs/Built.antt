@@ -11,7 +11,8 @@ use Rattle.table.specs.Slots.{number, cell_at, counted}
 use Rattle.table.specs.Mesh.{Cell, at, table}
 use Rattle.table.proofs.Cells.{length-table, at_table}
 use Rattle.table.proofs.Meshes.{root_in}
-use Rattle.strips.specs.Walk.{Sound, AllSound}
+use Rattle.std.specs.List.{AllByRecursion}
+use Rattle.strips.specs.Walk.{Sound}
 use Rattle.strips.specs.declared.walk.Strip.{Strip}
 use Rattle.strips.proofs.Bounds.{strips-sound, sound-first}
 use Rattle.build.specs.declared.grid.Cut.{Cut}
@@ -103,7 +104,7 @@ module _ (b : Board) (size : ℕ) (fit : Fit b) (p : ℕ) (below : p < polygons 
   some = cuts b.settings.cap (size_at b p) s (sizes b fit p)
 
   sound : Sound s
-  sound = sound-first s [] (subst AllSound single (strips-sound (ring_at b.counts b.points p)))
+  sound = sound-first s [] (subst (AllByRecursion Sound) single (strips-sound (ring_at b.counts b.points p)))
 
   strip-even : even_strip (unit b) g s ≡ true
   unfolding all_even

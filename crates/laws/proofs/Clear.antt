@@ -1,5 +1,6 @@
 -- No edge of a leaf is a fault where the nodes at the middles of its sides are halved. Assumes nothing.
-use Rattle.std.proofs.Common.{◌≡◌, refl, true, ◌&&◌, List, map, ℕ, zero, suc, ◌<◌, ◌≤◌, arith, eqb, length, get_or, lt-ltb, Option, None, Some}
+use Rattle.std.proofs.Common.{◌≡◌, refl, true, ◌&&◌, List, [], ◌∷◌, map, ℕ, suc, ◌<◌, ◌≤◌, arith, eqb, length, get_or, slice_get, lt-ltb, Option, None, Some}
+use Rattle.std.specs.List.{filter_map}
 use mathlib.Core.Bool.{or_comm}
 use Rattle.cell.specs.declared.Cell.{Cell}
 use Rattle.cell.specs.Boxes.{mid}
@@ -9,7 +10,7 @@ use Rattle.checks.specs.declared.asked.Class.{Class}
 use Rattle.checks.specs.declared.asked.Place.{Place}
 use Rattle.checks.specs.declared.asked.Hanging.{Hanging}
 use Rattle.checks.specs.Nodes.{joined, last_at}
-use Rattle.checks.specs.Checks.{fault, side_fault, leaf_fault, first_fault}
+use Rattle.checks.specs.Checks.{fault, side_fault, leaf_fault}
 use Rattle.net.specs.Net.{find, Poly, MeshNode, Edge, same_node, same_pair, nth, number, node_at, sw_of, ne_of, nw_of, join, One}
 use Rattle.net.specs.Hang.{Joined, Halved, HalvedSides}
 use Rattle.net.proofs.Find.{find-same}
@@ -70,8 +71,7 @@ module _ (ns so : List MeshNode) (es : List Edge) (p : Poly) (w : Class) (tells 
         edge-clear c.x0 c.y1 c.x0 c.y0 c.x0 (mid c.y0 c.y1) a e a b a y (halved-back so es (sw_of p r) (node_at p c.x0 (mid c.y0 c.y1)) (nw_of p r) h.west),
       )
 
--- no fault below n, no first one
-pub first-clear : (f : ℕ → Option Hanging) (n : ℕ) → ((i : ℕ) → i < n → f i ≡ None) → first_fault f n ≡ None
-unfolding first_fault
-first-clear f zero h = refl
-first-clear f (suc n) h = grind (arith, first-clear f n (λ i l. h i (omega arith)), h n)
+-- no fault of any, no first one
+pub first-clear : (f : ℕ → Option Hanging) (ids : List ℕ) → ((k d : ℕ) → k < length ids → f (get_or ids k d) ≡ None) → slice_get (filter_map f ids) 0 ≡ None
+first-clear f [] h = refl
+first-clear f (i ∷ ids) h = rw (h 0 i (omega arith)) (first-clear f ids (λ k d l. h (suc k) d (omega arith)))

@@ -9,7 +9,7 @@ use Rattle.net.specs.Hang.{so_far, Joined, Halved, HalvedSides}
 use Rattle.std.proofs.lemmas.Bool.Decides.{nat_tests}
 use Rattle.std.specs.List.{slice_get}
 use Rattle.net.proofs.Find.{find-left}
-use Rattle.net.proofs.Leaves.{piece_of, pieces-at}
+use Rattle.net.proofs.Leaves.{leaves_of-cons, piece_of, pieces-at}
 use Rattle.laws.proofs.Pieces.{nodes-append}
 use Rattle.net.proofs.All.{All, In, all-by, all_both, all-each-by, all_cons}
 use Rattle.net.proofs.Sound.{nodes-more, piece-in}
@@ -31,7 +31,7 @@ leaves-by : (P : Box → Type 0) (cs : List Cell) (k : ℕ)
     → ((i : ℕ) → i < length cs → (at cs i).kids ≡ None → (at cs i).polygon ≡ k → P (at cs i).box) → All P (leaves_of cs k)
 unfolding All leaves_of
 leaves-by P [] k h = tt
-leaves-by P (c ∷ cs) k h = grind (arith, nat_tests, h 0, leaves-by P cs k (λ i l. h (suc i) (omega arith)), all_cons P c.box (leaves_of cs k))
+leaves-by P (c ∷ cs) k h = grind (arith, nat_tests, leaves_of-cons c cs k, h 0, leaves-by P cs k (λ i l. h (suc i) (omega arith)), all_cons P c.box (leaves_of cs k))
 
 -- ---- the polygon k
 

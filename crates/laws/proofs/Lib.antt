@@ -13,7 +13,7 @@ pub mod Pieces
 pub mod Clear
 pub mod Sound
 pub mod Clean
-pub mod Cases
+pub mod Alike
 pub mod Eight
 pub mod Sheets
 pub mod Taken

@@ -1,5 +1,6 @@
 -- The leaves and the nodes of one polygon among those of all. Assumes nothing.
-use Rattle.std.proofs.Common.{◌≡◌, refl, sym, ap, subst, ◌∙◌, Bool, true, false, ◌&&◌, None, List, [], ◌∷◌, ◌++◌, ℕ, zero, suc, ◌+◌, ◌<◌, arith, eqb, ℤ, length, drop, length-append, length-drop, get_or-drop}
+use Rattle.std.proofs.Common.{◌≡◌, refl, sym, ap, subst, ◌∙◌, Bool, true, false, ◌&&◌, None, List, [], ◌∷◌, ◌++◌, ℕ, zero, suc, ◌+◌, ◌<◌, arith, eqb, ℤ, length, drop, length-append, length-drop, get_or-drop, if◌then◌else◌}
+use Rattle.std.specs.Prelude.{flat_map}
 use Rattle.std.proofs.lemmas.Bool.Decides.{nat_tests}
 use Rattle.cell.specs.Boxes.{Box}
 use Rattle.cell.specs.Cells.{box_of}
@@ -7,31 +8,30 @@ use Rattle.cell.proofs.Offsets.{off-le}
 use Rattle.table.specs.Slots.{cell_at}
 use Rattle.table.specs.Mesh.{Cell, at, past, is_none, table}
 use Rattle.table.proofs.Cells.{length-table, at_table}
-use Rattle.net.specs.Net.{weld, each, Poly, MeshNode, Piece, same_node, leaves_of, pieces, node_at, corners_at, corners_of, nodes_from, number, bare, weigh, network}
+use Rattle.net.specs.Net.{weld, Poly, MeshNode, Piece, same_node, leaves_of, pieces, node_at, corners_at, corners_of, nodes_from, number, bare, weigh, network}
 use Rattle.net.specs.Hang.{so_far}
 use Rattle.net.proofs.Find.{find-nil, find-no, find-left, find-right}
 use Rattle.net.proofs.Weld.{welding}
 use Rattle.net.proofs.All.{All, all-by, all-each, all-each-by, In, weld-more}
 use Rattle.net.proofs.Pieces.{all_corners, nodes-weld}
 use Rattle.net.proofs.Faces.{Within}
-use Rattle.net.proofs.Leaves.{all-from, all-pieces, polys-pieces, nodes-all, BoxWithin, nodes-within}
+use Rattle.net.proofs.Leaves.{leaves_of-cons, all-from, all-pieces, polys-pieces, nodes-all, BoxWithin, nodes-within}
 use Rattle.laws.specs.Made.{no_poly, poly_at, Apart, AllApart}
 use Rattle.laws.proofs.Places.{top}
 
 -- ---- the leaves of a polygon
 
 module _ (P : Box → Type 0) (k : ℕ) where
-  parts : (c : Cell) (cs : List Cell) (b : Bool) → All P (elim b [ true ↦ c.box ∷ leaves_of cs k | false ↦ leaves_of cs k ]) → (b ≡ true → P c.box) × All P (leaves_of cs k)
+  parts : (c : Cell) (cs : List Cell) (b : Bool) → All P (if b then c.box ∷ leaves_of cs k else leaves_of cs k) → (b ≡ true → P c.box) × All P (leaves_of cs k)
   unfolding All
   parts c cs true a = (λ e. a.0, a.1)
   parts c cs false a = (λ e. absurd (cc e), a)
 
   -- what holds of every leaf of a polygon holds of each
   pub leaf-in : (cs : List Cell) → All P (leaves_of cs k) → (i : ℕ) → i < length cs → (at cs i).kids ≡ None → (at cs i).polygon ≡ k → P (at cs i).box
-  unfolding leaves_of
   leaf-in [] a i h e f = absurd (omega arith)
-  leaf-in (c ∷ cs) a zero h e f = (parts c cs (is_none c.kids && eqb c.polygon k) a).0 (grind (arith, nat_tests))
-  leaf-in (c ∷ cs) a (suc i) h e f = leaf-in cs (parts c cs (is_none c.kids && eqb c.polygon k) a).1 i (omega arith) e f
+  leaf-in (c ∷ cs) a zero h e f = (parts c cs (is_none c.kids && eqb c.polygon k) (subst (All P) (leaves_of-cons c cs k) a)).0 (grind (arith, nat_tests))
+  leaf-in (c ∷ cs) a (suc i) h e f = leaf-in cs (parts c cs (is_none c.kids && eqb c.polygon k) (subst (All P) (leaves_of-cons c cs k) a)).1 i (omega arith) e f
 
 -- ---- the pieces
 
@@ -48,7 +48,7 @@ pub nodes-polys : (Q : ℕ → ℕ → Type 0) (qs : List Piece) → All (λ (q 
 unfolding corners_of
 nodes-polys Q qs h =
     nodes-all (λ (m : MeshNode). Q m.layer m.component) qs
-    (all-by (λ (q : Piece). Q q.poly.layer q.poly.component) (λ (q : Piece). All (λ (m : MeshNode). Q m.layer m.component) (each (corners_at q.poly) q.leaves)) qs
+    (all-by (λ (q : Piece). Q q.poly.layer q.poly.component) (λ (q : Piece). All (λ (m : MeshNode). Q m.layer m.component) (flat_map (corners_at q.poly) q.leaves)) qs
     (λ q i. all-each (λ (m : MeshNode). Q m.layer m.component) (corners_at q.poly) q.leaves (λ r. unfold All in (i, (i, (i, (i, tt)))))) h)
 
 -- a node is not of another polygon
@@ -59,7 +59,7 @@ other p q x y m a e f =
 others : (p : Poly) (x y : ℕ) (qs : List Piece) → All (λ (q : Piece). Apart p q.poly) qs → All (λ (m : MeshNode). same_node m (node_at p x y) ≡ false) (all_corners qs)
 unfolding corners_of
 others p x y qs h =
-    all-each-by (λ (q : Piece). Apart p q.poly) (λ (m : MeshNode). same_node m (node_at p x y) ≡ false) (λ (q : Piece). each (corners_at q.poly) q.leaves) qs
+    all-each-by (λ (q : Piece). Apart p q.poly) (λ (m : MeshNode). same_node m (node_at p x y) ≡ false) (λ (q : Piece). flat_map (corners_at q.poly) q.leaves) qs
     (λ q a. all-each (λ (m : MeshNode). same_node m (node_at p x y) ≡ false) (corners_at q.poly) q.leaves (λ r. corners q r a)) h
   where
     corners : (q : Piece) (r : Box) → Apart p q.poly → All (λ (m : MeshNode). same_node m (node_at p x y) ≡ false) (corners_at q.poly r)

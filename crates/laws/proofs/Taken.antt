@@ -21,7 +21,8 @@ use Rattle.strips.specs.Rings.{point_in_range, ring_in_range, ring_slants}
 use Rattle.strips.proofs.Picking.{all_below, all-suc}
 use Rattle.build.specs.Board.{Board, sum_to, ring_at, polygons, unit, size_at, strips_at, roots_of}
 use Rattle.build.specs.Grid.{all_even}
-use Rattle.build.specs.Says.{room_shaped, rows_shaped, entry_ok, entries_ok, list_ok, settings_ok, judge_from, even_from, build_says}
+use Rattle.table.specs.Formed.{holds_whole_slots}
+use Rattle.build.specs.Says.{rows_shaped, entry_ok, entries_ok, list_ok, settings_ok, judge_from, even_from, build_says}
 use Rattle.laws.proofs.Sheets.{bits-in_sheet}
 use Rattle.laws.specs.Records.{given, build_says_of, is_taken, BuildTakesRecords}
 
@@ -181,7 +182,7 @@ module _ (b : RecordBoard) (e : is_in_range b ≡ true) where
   one_each : {X : Type 0} (f : Polygon → X) → eqb (length (map f b.polygons)) (length (counts_in b.polygons)) ≡ true
   one_each f = eq-eqb _ _ (length-map b.polygons f ∙ sym (length-map b.polygons points_in))
 
-  says-taken : (size : ℕ) → room_shaped size ≡ true → is_taken (build_says_of b size) ≡ true
+  says-taken : (size : ℕ) → holds_whole_slots size ≡ true → is_taken (build_says_of b size) ≡ true
   unfolding build_says rows_shaped
   says-taken size room =
       let shape = both (both room (both (one_each (λ p. p.layer)) (both (one_each (λ p. p.component)) (one_each sheet_of)))) (eq-eqb _ _ (counts-add b.polygons)) in

@@ -31,13 +31,13 @@ answer (refused number place) = number ∷ place ∷ []
 
 -- what balance and conform say of a row of n cells at max_level 2, and the row after balance
 abbrev pub balance_says : List ℤ → ℕ → List ℕ
-balance_says t n = answer (even_says Balancing 1 t (head_of n 2))
+balance_says t n = answer (even_says Balancing t (head_of n 2))
 
 abbrev pub conform_says : List ℤ → ℕ → List ℕ
-conform_says t n = answer (even_says Conforming 0 t (head_of n 2))
+conform_says t n = answer (even_says Conforming t (head_of n 2))
 
 abbrev pub balanced : List ℤ → ℕ → List ℤ
-balanced t n = even_row Balancing 1 t (head_of n 2)
+balanced t n = even_row Balancing t (head_of n 2)
 
 -- the same numbers, as many of them
 unfoldable pub same_row : List ℤ → List ℤ → Bool

@@ -1,12 +1,13 @@
 -- A made net is sound, and the checks find no fault in it: the laws that src/made.rt promises. Definitions only.
-use Rattle.std.specs.Prelude.{◌≡◌, List, [], ◌∷◌, ℤ, length, All, IsTrue}
+use Rattle.std.specs.Prelude.{◌≡◌, List, [], ◌∷◌, ℤ, pos, length, All, IsTrue, Some}
 use Rattle.refusals.specs.Said.{Said, accepted}
 use Rattle.table.specs.declared.Head.{Head}
-use Rattle.table.specs.Rows.{IsTable, cells_in}
+use Rattle.cell.specs.Cells.{no_cell}
+use Rattle.table.specs.Rows.{IsTable, cells_in, head_of}
 use Rattle.net_rows.specs.Nets.{sound_net}
 use Rattle.net_rows.specs.Polygons.{polygons_below}
-use Rattle.checks.specs.Checks.{conforming_says, layers_says}
-use Rattle.net.specs.Net.{Poly, Net, network}
+use Rattle.checks.specs.Checks.{conforming_says, layers_says, layer_fault}
+use Rattle.net.specs.Net.{Poly, Net, network, One}
 use Rattle.laws.specs.Made.{layers_of, components_of, AllApart, InRange, HasRoom, node_row}
 
 -- the net that is made of a table
@@ -47,3 +48,23 @@ abbrev pub OnePolygonConforms : Type 0
 OnePolygonConforms =
     (t : List ℤ) (head : Head) (p : Poly) → IsTable t head → IsTrue (polygons_below 1 (cells_in t head))
     → made_conforming_says t head (p ∷ []) ≡ accepted []
+
+-- two polygons of one layer and component, whose squares overlap: the second one's corner is the middle of the first one's south side, which
+-- stays whole
+abbrev pub overlapping : List ℤ
+overlapping =
+    pos 0 ∷ pos 0 ∷ pos 4 ∷ pos 4 ∷ pos 0 ∷ pos no_cell ∷ pos no_cell ∷ pos 0
+    ∷ pos 2 ∷ pos 0 ∷ pos 6 ∷ pos 4 ∷ pos 0 ∷ pos no_cell ∷ pos no_cell ∷ pos 1 ∷ []
+
+abbrev pub square : Poly
+square = record { layer = 1; component = 0; sheet = One }
+
+abbrev pub alike : List Poly
+alike = square ∷ square ∷ []
+
+-- so it takes that no two polygons share both
+abbrev pub AlikePolygonsMayHang : Type 0
+AlikePolygonsMayHang =
+    let net = made overlapping (head_of 2 1) alike in
+    layer_fault overlapping (head_of 2 1) (node_row net) net.edges (layers_of alike) (components_of alike)
+    ≡ Some (record { node = 4; start = 0; end = 1 })

@@ -5,7 +5,8 @@ use Rattle.record.specs.Board as record_board
 use Rattle.record.specs.Board.{points_in}
 use Rattle.record.specs.Rows.{rows_for}
 use Rattle.build.specs.Board as build_board
-use Rattle.build.specs.Says.{room_shaped, build_says}
+use Rattle.table.specs.Formed.{holds_whole_slots}
+use Rattle.build.specs.Says.{build_says}
 
 -- the board as build is given it: the rows that it was read to, and its settings
 abbrev pub given : record_board.Board → build_board.Board
@@ -25,5 +26,5 @@ is_taken (refused number place) = nat_le 4 number && nat_le number 6
 abbrev pub BuildTakesRecords : Type 0
 BuildTakesRecords =
     (bytes : List ℕ) (b : record_board.Board) (size : ℕ)
-    → ((i : ℕ) → slice_index_or bytes i 0 < 256) → record_board.board bytes ≡ Ok b → IsTrue (room_shaped size)
+    → ((i : ℕ) → slice_index_or bytes i 0 < 256) → record_board.board bytes ≡ Ok b → IsTrue (holds_whole_slots size)
     → IsTrue (is_taken (build_says_of b size))

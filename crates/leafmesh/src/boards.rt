@@ -1,6 +1,5 @@
 //! Rings, boards and board records.
 ghost use Rattle.std.specs.Prelude.{◌≡◌, length};
-ghost use Rattle.refusals.specs.Said.{refusal};
 ghost use Rattle.strips.specs.Said.{strips_says, strips_leave};
 ghost use Rattle.build.specs.Board.{board};
 ghost use Rattle.build.specs.Says.{build_says, build_leaves};
@@ -10,7 +9,7 @@ ghost use Rattle.record.specs.Writing.{write_says, write_leaves};
 ghost use Rattle.leafmesh.specs.Outcome.{outcome_of, cut_settings, board_settings};
 ghost use Rattle.leafmesh.specs.Reads.{read_outcome_of};
 
-use crate::{Outcome, of_count};
+use crate::Outcome;
 use build::outlines::Outlines;
 use record::{BoardRows, BoardRowsMut, Read, Settings};
 use refusals::Refusal;
@@ -30,39 +29,37 @@ pub struct ReadOutcome {
     pub splits: u64,
 }
 
-fn unread(why: Refusal) -> ReadOutcome
-    ensures { result ≡ read_outcome_of (refusal why) }
-{
-    let code = why.code();
-    ReadOutcome {
-        number: code.number,
-        place: code.place as u64,
-        level: 0,
-        cap: 0,
-        target: 0,
-        layers: 0,
-        polygons: 0,
-        points: 0,
-        splits: 0,
-    }
-}
+impl From<Result<Read, Refusal>> for ReadOutcome {
+    ghost from_gives = { λ answer outcome. outcome ≡ read_outcome_of (read_said answer) };
 
-fn of_read(answer: Result<Read, Refusal>) -> ReadOutcome
-    ensures { result ≡ read_outcome_of (read_said answer) }
-{
-    match answer {
-        Ok(read) => ReadOutcome {
-            number: 0,
-            place: 0,
-            level: read.settings.level,
-            cap: read.settings.cap,
-            target: read.settings.target,
-            layers: read.counts.layers as u64,
-            polygons: read.counts.polygons as u64,
-            points: read.counts.points as u64,
-            splits: read.counts.splits as u64,
-        },
-        Err(why) => unread(why),
+    fn from(answer: Result<Read, Refusal>) -> ReadOutcome {
+        match answer {
+            Ok(read) => ReadOutcome {
+                number: 0,
+                place: 0,
+                level: read.settings.level,
+                cap: read.settings.cap,
+                target: read.settings.target,
+                layers: read.counts.layers as u64,
+                polygons: read.counts.polygons as u64,
+                points: read.counts.points as u64,
+                splits: read.counts.splits as u64,
+            },
+            Err(why) => {
+                let code = why.code();
+                ReadOutcome {
+                    number: code.number,
+                    place: code.place as u64,
+                    level: 0,
+                    cap: 0,
+                    target: 0,
+                    layers: 0,
+                    polygons: 0,
+                    points: 0,
+                    splits: 0,
+                }
+            }
+        }
     }
 }
 
@@ -72,7 +69,7 @@ pub extern "C" fn leafmesh_strips(points: &[[i64; 2]], out: &mut [[i64; 4]]) -> 
     ensures value { result ≡ outcome_of (strips_says points.now (length out.old)) }
     ensures out_after { out.new ≡ strips_leave points.now out.old }
 {
-    of_count(strips::strips(points, out))
+    Outcome::from(strips::strips(points, out))
 }
 
 /// The roots of a board: value is how many.
@@ -110,7 +107,7 @@ pub extern "C" fn leafmesh_build(
         counts,
         points,
     };
-    of_count(build::build(s, list, &outlines, table))
+    Outcome::from(build::build(s, list, &outlines, table))
 }
 
 /// A board record into lent rows.
@@ -135,7 +132,7 @@ pub extern "C" fn leafmesh_read(
         points,
         splits,
     };
-    of_read(record::read(bytes, rows))
+    ReadOutcome::from(record::read(bytes, rows))
 }
 
 /// Lent rows as a board record: value is its length in bytes.
@@ -165,5 +162,5 @@ pub extern "C" fn leafmesh_write(
         points,
         splits,
     };
-    of_count(record::write(settings, &rows, out))
+    Outcome::from(record::write(settings, &rows, out))
 }

@@ -3,14 +3,14 @@
 //! A slice is passed as a pointer and a length. Every call answers an Outcome by value.
 #![tactic(auto)]
 
-ghost use Rattle.std.specs.Prelude.{◌≡◌, [], ◌∷◌};
-ghost use Rattle.refusals.specs.Said.{accepted, refusal, said, bit};
-ghost use Rattle.cell.specs.Contact.{contact_said, contact_says};
+ghost use Rattle.std.specs.Prelude.{◌≡◌, ℕ, List, [], ◌∷◌, slice_index};
+ghost use Rattle.refusals.specs.Said.{said, bit};
+ghost use Rattle.cell.specs.Contact.{contact_says};
 ghost use Rattle.table.specs.Rows.{head_of, leaves_in, order_in};
 ghost use Rattle.table.specs.Leaves.{leaf_count_says, list_says, listed_row};
-ghost use Rattle.table.specs.Refine.{refined_said, refine_says, refined_row};
+ghost use Rattle.table.specs.Refine.{refine_says, refined_row};
 ghost use Rattle.coarsest.specs.declared.Engine.TheVariants.{Balancing, Conforming};
-ghost use Rattle.even.specs.Even.{evening_said, even_says, even_row};
+ghost use Rattle.even.specs.Even.{even_says, even_row};
 ghost use Rattle.leafmesh.specs.Outcome.{outcome_of, rect_of};
 
 pub mod boards;
@@ -32,63 +32,74 @@ pub struct Outcome {
     pub value: u64,
 }
 
-/// An accepted call's answer.
-pub fn accept(value: u64) -> Outcome
-    ensures { result ≡ outcome_of (accepted (value ∷ [])) }
-{
-    Outcome {
-        number: 0,
-        place: 0,
-        value,
+/// What an accepted call found.
+pub trait Found {
+    ghost values: { Self → List ℕ };
+
+    /// The one of its values that an Outcome shows, 0 where it has none.
+    fn value(self) -> u64
+        ensures { result ≡ slice_index (values self) 0 };
+}
+
+impl Found for usize {
+    ghost values = { λ count. count ∷ [] };
+
+    fn value(self) -> u64 {
+        self as u64
     }
 }
 
-/// A refused call's answer.
-pub fn refuse(why: Refusal) -> Outcome
-    ensures { result ≡ outcome_of (refusal why) }
-{
-    let code = why.code();
-    Outcome {
-        number: code.number,
-        place: code.place as u64,
-        value: 0,
+impl Found for bool {
+    ghost values = { λ shared. bit shared ∷ [] };
+
+    fn value(self) -> u64 {
+        u64::from(self)
     }
 }
 
-/// A call that answers with one number.
-pub fn of_count(answer: Result<usize, Refusal>) -> Outcome
-    ensures { result ≡ outcome_of (said (λ n. n ∷ []) answer) }
-{
-    match answer {
-        Ok(n) => accept(n as u64),
-        Err(why) => refuse(why),
+impl Found for Head {
+    ghost values = { λ head. head.count ∷ head.max_level ∷ [] };
+
+    fn value(self) -> u64 {
+        self.count as u64
     }
 }
 
-fn of_contact(answer: Result<bool, Refusal>) -> Outcome
-    ensures { result ≡ outcome_of (contact_said answer) }
-{
-    match answer {
-        Ok(shared) => accept(u64::from(shared)),
-        Err(why) => refuse(why),
+impl Found for Evening {
+    ghost values = { λ e. e.splits ∷ e.head.count ∷ e.head.max_level ∷ [] };
+
+    fn value(self) -> u64 {
+        self.splits as u64
     }
 }
 
-fn of_refined(answer: Result<Head, Refusal>) -> Outcome
-    ensures { result ≡ outcome_of (refined_said answer) }
-{
-    match answer {
-        Ok(head) => accept(head.count as u64),
-        Err(why) => refuse(why),
+impl Found for () {
+    ghost values = { λ _. [] };
+
+    fn value(self) -> u64 {
+        0
     }
 }
 
-fn of_evening(answer: Result<Evening, Refusal>) -> Outcome
-    ensures { result ≡ outcome_of (evening_said answer) }
-{
-    match answer {
-        Ok(evening) => accept(evening.splits as u64),
-        Err(why) => refuse(why),
+impl<T: Found> From<Result<T, Refusal>> for Outcome {
+    ghost from_gives = { λ answer outcome. outcome ≡ outcome_of (said T.values answer) };
+
+    fn from(answer: Result<T, Refusal>) -> Outcome {
+        match answer {
+            Ok(found) => Outcome {
+                number: 0,
+                place: 0,
+                value: found.value(),
+            },
+            Err(why) => {
+                let code = why.code();
+                Outcome {
+                    number: code.number,
+                    place: code.place as u64,
+                    value: 0,
+                }
+            }
+        }
     }
 }
 
@@ -118,7 +129,7 @@ pub extern "C" fn leafmesh_contact(
         x1: bx1,
         y1: by1,
     };
-    of_contact(rectangles::between(a, b))
+    Outcome::from(rectangles::between(a, b))
 }
 
 /// How many leaves the table has.
@@ -126,7 +137,7 @@ pub extern "C" fn leafmesh_contact(
 pub extern "C" fn leafmesh_leaf_count(table: &[i64], count: usize, max_level: u64) -> Outcome
     ensures { result ≡ outcome_of (leaf_count_says table.now (head_of count max_level)) }
 {
-    of_count(table::leaves::leaf_count(table, Head { count, max_level }))
+    Outcome::from(table::leaves::leaf_count(table, Head { count, max_level }))
 }
 
 /// The leaves' ids, rising, into the front of out: value is how many.
@@ -142,7 +153,7 @@ pub extern "C" fn leafmesh_leaves(
     ensures out_after { let head = head_of count max_level in
         out.new ≡ listed_row table.now head (leaves_in table.now head) out.old }
 {
-    of_count(table::leaves::leaves(table, Head { count, max_level }, out))
+    Outcome::from(table::leaves::leaves(table, Head { count, max_level }, out))
 }
 
 /// The same by polygon, then id.
@@ -158,7 +169,7 @@ pub extern "C" fn leafmesh_leaf_order(
     ensures out_after { let head = head_of count max_level in
         out.new ≡ listed_row table.now head (order_in table.now head) out.old }
 {
-    of_count(table::leaves::leaf_order(table, Head { count, max_level }, out))
+    Outcome::from(table::leaves::leaf_order(table, Head { count, max_level }, out))
 }
 
 /// Splits the leaf with this id: value is the new count.
@@ -172,23 +183,23 @@ pub extern "C" fn leafmesh_refine(
     ensures value { result ≡ outcome_of (refine_says table.old (head_of count max_level) id) }
     ensures table_after { table.new ≡ refined_row table.old (head_of count max_level) id }
 {
-    of_refined(table::refine::refine(table, Head { count, max_level }, id))
+    Outcome::from(table::refine::refine(table, Head { count, max_level }, id))
 }
 
 /// Balances the table: value is the number of splits, each four cells more.
 #[unsafe(no_mangle)]
 pub extern "C" fn leafmesh_balance(table: &mut [i64], count: usize, max_level: u64) -> Outcome
-    ensures value { result ≡ outcome_of (even_says Balancing 1 table.old (head_of count max_level)) }
-    ensures table_after { table.new ≡ even_row Balancing 1 table.old (head_of count max_level) }
+    ensures value { result ≡ outcome_of (even_says Balancing table.old (head_of count max_level)) }
+    ensures table_after { table.new ≡ even_row Balancing table.old (head_of count max_level) }
 {
-    of_evening(even::balance(table, Head { count, max_level }))
+    Outcome::from(even::balance(table, Head { count, max_level }))
 }
 
 /// The same until no two neighbours differ in level.
 #[unsafe(no_mangle)]
 pub extern "C" fn leafmesh_conform(table: &mut [i64], count: usize, max_level: u64) -> Outcome
-    ensures value { result ≡ outcome_of (even_says Conforming 0 table.old (head_of count max_level)) }
-    ensures table_after { table.new ≡ even_row Conforming 0 table.old (head_of count max_level) }
+    ensures value { result ≡ outcome_of (even_says Conforming table.old (head_of count max_level)) }
+    ensures table_after { table.new ≡ even_row Conforming table.old (head_of count max_level) }
 {
-    of_evening(even::conform(table, Head { count, max_level }))
+    Outcome::from(even::conform(table, Head { count, max_level }))
 }

@@ -5,11 +5,11 @@ ghost use Rattle.table.specs.Rows.{head_of};
 ghost use Rattle.network.specs.Says.{rows, netted_said, network_says, network_leaves};
 ghost use Rattle.checks.specs.Checks.{checked_said, conforming_says, layers_says};
 ghost use Rattle.checks.specs.Rooms.{work_row};
-ghost use Rattle.power.specs.Powers.{power_said, power_says, power_row};
+ghost use Rattle.power.specs.Powers.{power_says, power_row};
 ghost use Rattle.leafmesh.specs.Outcome.{outcome_of};
 ghost use Rattle.leafmesh.specs.Nets.{net_outcome_of, check_outcome_of};
 
-use crate::{Outcome, accept, refuse};
+use crate::Outcome;
 use bare_net::Counts;
 use checks::Hanging;
 use net_rows::{Edge, NetCell, NetRows, Node, Polygons};
@@ -53,18 +53,20 @@ fn unmade(why: Refusal) -> NetOutcome
     }
 }
 
-fn of_netted(answer: Result<Counts, Refusal>) -> NetOutcome
-    ensures { result ≡ net_outcome_of (netted_said answer) }
-{
-    match answer {
-        Ok(c) => NetOutcome {
-            number: 0,
-            place: 0,
-            nodes: c.nodes as u64,
-            edges: c.edges as u64,
-            cells: c.cells as u64,
-        },
-        Err(why) => unmade(why),
+impl From<Result<Counts, Refusal>> for NetOutcome {
+    ghost from_gives = { λ answer outcome. outcome ≡ net_outcome_of (netted_said answer) };
+
+    fn from(answer: Result<Counts, Refusal>) -> NetOutcome {
+        match answer {
+            Ok(counts) => NetOutcome {
+                number: 0,
+                place: 0,
+                nodes: counts.nodes as u64,
+                edges: counts.edges as u64,
+                cells: counts.cells as u64,
+            },
+            Err(why) => unmade(why),
+        }
     }
 }
 
@@ -82,36 +84,29 @@ fn unchecked(why: Refusal) -> CheckOutcome
     }
 }
 
-fn of_checked(answer: Result<Option<Hanging>, Refusal>) -> CheckOutcome
-    ensures { result ≡ check_outcome_of (checked_said answer) }
-{
-    match answer {
-        Ok(None) => CheckOutcome {
-            number: 0,
-            place: 0,
-            broken: 0,
-            node: 0,
-            from: 0,
-            to: 0,
-        },
-        Ok(Some(hanging)) => CheckOutcome {
-            number: 0,
-            place: 0,
-            broken: 1,
-            node: hanging.node as u64,
-            from: hanging.start as u64,
-            to: hanging.end as u64,
-        },
-        Err(why) => unchecked(why),
-    }
-}
+impl From<Result<Option<Hanging>, Refusal>> for CheckOutcome {
+    ghost from_gives = { λ answer outcome. outcome ≡ check_outcome_of (checked_said answer) };
 
-fn of_power(answer: Result<(), Refusal>) -> Outcome
-    ensures { result ≡ outcome_of (power_said answer) }
-{
-    match answer {
-        Ok(()) => accept(0),
-        Err(why) => refuse(why),
+    fn from(answer: Result<Option<Hanging>, Refusal>) -> CheckOutcome {
+        match answer {
+            Ok(None) => CheckOutcome {
+                number: 0,
+                place: 0,
+                broken: 0,
+                node: 0,
+                from: 0,
+                to: 0,
+            },
+            Ok(Some(hanging)) => CheckOutcome {
+                number: 0,
+                place: 0,
+                broken: 1,
+                node: hanging.node as u64,
+                from: hanging.start as u64,
+                to: hanging.end as u64,
+            },
+            Err(why) => unchecked(why),
+        }
     }
 }
 
@@ -132,7 +127,7 @@ pub extern "C" fn leafmesh_power(
         edges,
         cells,
     };
-    of_power(power::cell_power(&rows, potentials, answers))
+    Outcome::from(power::cell_power(&rows, potentials, answers))
 }
 
 /// The net of a table's leaves into the front of the rows.
@@ -160,7 +155,7 @@ pub extern "C" fn leafmesh_network<'a>(
 {
     let head = Head { count, max_level };
     let polygons = Polygons { layers, components };
-    of_netted(network::network(table, head, &polygons, sheets, nodes, edges, cells, work))
+    NetOutcome::from(network::network(table, head, &polygons, sheets, nodes, edges, cells, work))
 }
 
 /// The first leaf edge whose middle node lacks a half, nodes being found by their place alone.
@@ -185,7 +180,12 @@ pub extern "C" fn leafmesh_check_network_conforming(
         edges,
         cells,
     };
-    of_checked(checks::check_network_conforming(table, Head { count, max_level }, &rows, work))
+    CheckOutcome::from(checks::check_network_conforming(
+        table,
+        Head { count, max_level },
+        &rows,
+        work,
+    ))
 }
 
 /// The same with nodes of the leaf's own layer and component.
@@ -215,5 +215,11 @@ pub extern "C" fn leafmesh_check_by_layer(
         cells,
     };
     let polygons = Polygons { layers, components };
-    of_checked(checks::check_by_layer(table, Head { count, max_level }, &rows, &polygons, work))
+    CheckOutcome::from(checks::check_by_layer(
+        table,
+        Head { count, max_level },
+        &rows,
+        &polygons,
+        work,
+    ))
 }

@@ -2,7 +2,7 @@
 use Rattle.std.proofs.Common.{ℕ, ◌≤◌, ◌<◌, ◌≡◌, refl, sym, ap, ap₂, subst, ◌∙◌, true, List, [], ◌∷◌, map, leb, length, get_or, take, leb-true, Result, Ok, Err}
 use mathlib.Core.List.{map-map}
 use lib.ListN.{length-map, length-replicate}
-use Rattle.refusals.specs.Said.{accepted, refusal}
+use Rattle.refusals.specs.Said.{accepted}
 use Rattle.refusals.specs.declared.Refusal.{Refusal}
 use Rattle.refusals.specs.declared.Refusal.TheVariants.{NoRoom}
 use Rattle.refusals.proofs.Settled.{as-refused}
@@ -18,14 +18,9 @@ use Rattle.record.specs.Rows.{Rows, entry_row, polygon_row, sheet_of, point_row,
 use Rattle.record.specs.Reading.{counts_of, numbers, has_room, reading, says, leaves}
 use Rattle.leafnet_text.specs.Rooms.{layer_room, polygon_room, point_room, split_room, record_rows}
 use Rattle.leafnet_text.specs.Boards.{given, given_by, settings_of, board_in, column, AreNarrow}
-use Rattle.leafnet_text.specs.Output.{unless_refused, board_text, record_text}
+use Rattle.leafnet_text.specs.Output.{board_text, record_text}
 use Rattle.leafnet_text.proofs.Fronts.{front}
 use Rattle.leafnet_text.proofs.Narrowing.{record-narrow}
-
--- a refused record
-pub read-refused : (o : Result Board Refusal) (why : Refusal) → refusal why ≡ says o → record_text o ≡ unless_refused (refusal why) []
-read-refused (Ok b) why p = let r = as-refused why in absurd (refused-accepted r.0 r.1 (numbers b.settings (counts_of b)) (sym r.2 ∙ p))
-read-refused (Err x) why p = sym (ap (λ s. unless_refused s []) p)
 
 -- ---- an accepted record
 

@@ -7,22 +7,15 @@ use Rattle.refusals.proofs.Settled.{as-refused}
 use Rattle.build.proofs.Fitting.{refused-accepted}
 use Rattle.leafnet_text.specs.declared.stop.Stop.{Stop}
 use Rattle.leafnet_text.specs.declared.stop.Stop.TheVariants.{Refused, OutOfMemory}
-use Rattle.leafnet_text.specs.Lines.{refusal_line}
 use Rattle.leafnet_text.specs.Rooms.{input_room}
 use Rattle.leafnet_text.specs.Boards.{board_in}
-use Rattle.leafnet_text.specs.Output.{ended, unless_refused, record_text, output_text, Prints, PrintsNext}
+use Rattle.leafnet_text.specs.Output.{unless_refused, record_text, output_text, Prints, PrintsNext}
 
 -- a refusal prints itself, whatever text there would be
 pub refused-text : (why : Refusal) (said : Said) (text : List ℕ) → refusal why ≡ said → unless_refused said text ≡ unless_refused (refusal why) []
 refused-text why said text e =
     let r = as-refused why in
     ap (λ (s : Said). unless_refused s text) (sym e ∙ r.2) ∙ sym (ap (λ (s : Said). unless_refused s []) r.2)
-
--- on a line of its own
-pub refused-line : (why : Refusal) → unless_refused (refusal why) [] ≡ ended (refusal_line (refusal why))
-refused-line why =
-    let r = as-refused why in
-    ap (λ (s : Said). unless_refused s []) r.2 ∙ sym (ap (λ (s : Said). ended (refusal_line s)) r.2)
 
 -- a refusal is not accepted
 pub not-accepted : (why : Refusal) → is_accepted (refusal why) ≡ false

@@ -18,11 +18,11 @@ use Rattle.leafnet_text.proofs.Refusing.{accepted-if, refused-text}
 use Rattle.leafnet_text.proofs.Refining.{all-values}
 
 -- the values of an accepted balance
-even-values : (row : List ℤ) (head : Head) (vs : List ℕ) → accepted vs ≡ even_says Balancing 1 row head
-    → let cells = length (even_cells Balancing 1 row head) in accepted vs ≡ accepted ((cells - head.count) / 4 ∷ cells ∷ head.max_level ∷ [])
+even-values : (row : List ℤ) (head : Head) (vs : List ℕ) → accepted vs ≡ even_says Balancing row head
+    → let cells = length (even_cells Balancing row head) in accepted vs ≡ accepted ((cells - head.count) / 4 ∷ cells ∷ head.max_level ∷ [])
 unfolding even_says
 even-values row head vs e =
-    let cells = length (even_cells Balancing 1 row head) in
+    let cells = length (even_cells Balancing row head) in
     (accepted-if (leb cells (length row / 8)) _ NoRoom vs (accepted-if (well_formed row head.count head.max_level) _ BadTable vs e).1).1
 
 module _ (g : Given) where

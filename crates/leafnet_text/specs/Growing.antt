@@ -42,13 +42,13 @@ split_head g = head_with (length (roots_of g.board) + 4 * length g.splits) g
 
 -- balance: the cells that its passes end in, and how many splits it made
 abbrev pub balance_says : Given → Said
-balance_says g = even_says Balancing 1 (split_row g) (split_head g)
+balance_says g = even_says Balancing (split_row g) (split_head g)
 
 abbrev pub balanced_cells : Given → List Cell
-balanced_cells g = even_cells Balancing 1 (split_row g) (split_head g)
+balanced_cells g = even_cells Balancing (split_row g) (split_head g)
 
 abbrev pub balanced_row : Given → List ℤ
-balanced_row g = even_row Balancing 1 (split_row g) (split_head g)
+balanced_row g = even_row Balancing (split_row g) (split_head g)
 
 abbrev pub balanced_head : Given → Head
 balanced_head g = head_with (length (balanced_cells g)) g

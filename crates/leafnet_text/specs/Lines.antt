@@ -4,10 +4,10 @@ use Rattle.std.specs.Fmt.{signed_decimal, digits}
 use Rattle.std.specs.Float.{binary64}
 use Rattle.std.specs.Float.Ieee.{to_bits}
 use Rattle.refusals.specs.Said.{Said, accepted, refused}
+use Rattle.cell.specs.declared.rectangles.Rect.{Rect}
 use Rattle.net_rows.specs.declared.rows.Node.{Node}
 use Rattle.net_rows.specs.declared.rows.Edge.{Edge}
 use Rattle.leafnet_text.specs.declared.lines.Totals.{Totals}
-use Rattle.leafnet_text.specs.declared.lines.Corners.{Corners}
 use Rattle.leafnet_text.specs.declared.lines.Leaf.{Leaf}
 
 abbrev pub space : List ℕ
@@ -22,14 +22,14 @@ totals_line t =
     ++ (codes " splits " ++ decimal t.splits))))))))
 
 -- x0 y0 x1 y1
-abbrev pub corners_text : Corners → List ℕ
-corners_text c =
-    signed_decimal c.x0 ++ (space ++ (signed_decimal c.y0 ++ (space ++ (signed_decimal c.x1 ++ (space ++ signed_decimal c.y1)))))
+abbrev pub corners_text : Rect → List ℕ
+corners_text r =
+    signed_decimal r.x0 ++ (space ++ (signed_decimal r.y0 ++ (space ++ (signed_decimal r.x1 ++ (space ++ signed_decimal r.y1)))))
 
 -- id polygon level, and the corners
 abbrev pub leaf_line : Leaf → List ℕ
 leaf_line l =
-    codes "leaf " ++ (decimal l.id ++ (space ++ (decimal l.polygon ++ (space ++ (decimal l.level ++ (space ++ corners_text l.corners))))))
+    codes "leaf " ++ (decimal l.id ++ (space ++ (decimal l.polygon ++ (space ++ (decimal l.level ++ (space ++ corners_text l.rect))))))
 
 -- number layer component x y
 abbrev pub node_line : ℕ → Node → List ℕ

@@ -36,7 +36,7 @@ leaf_at row id =
       id = id;
       polygon = c.poly;
       level = c.level;
-      corners = record { x0 = on c.x0; y0 = on c.y0; x1 = on c.x1; y1 = on c.y1 };
+      rect = record { x0 = on c.x0; y0 = on c.y0; x1 = on c.x1; y1 = on c.y1 };
     }
 
 abbrev pub leaf_lines : List ℤ → List ℕ → List ℕ

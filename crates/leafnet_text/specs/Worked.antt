@@ -12,7 +12,7 @@ abbrev totals : ℕ → ℕ → ℕ → ℕ → ℕ → Totals
 totals cells leaves nodes edges splits = record { cells = cells; leaves = leaves; nodes = nodes; edges = edges; splits = splits }
 
 abbrev leaf : ℕ → ℕ → ℕ → ℤ → ℤ → ℤ → ℤ → Leaf
-leaf id polygon level x0 y0 x1 y1 = record { id = id; polygon = polygon; level = level; corners = record { x0 = x0; y0 = y0; x1 = x1; y1 = y1 } }
+leaf id polygon level x0 y0 x1 y1 = record { id = id; polygon = polygon; level = level; rect = record { x0 = x0; y0 = y0; x1 = x1; y1 = y1 } }
 
 abbrev node : ℕ → ℕ → ℤ → ℤ → Node
 node layer component x y = record { layer = layer; component = component; x = x; y = y }

@@ -2,6 +2,7 @@
 
 ghost use Rattle.std.specs.Float.{NotNan};
 
+use cell::rectangles::Rect;
 use net_rows::{Edge, Node};
 use refusals::{Code, Refusal};
 use std::fmt;
@@ -37,33 +38,30 @@ impl fmt::Display for Totals {
     }
 }
 
-/// The corners of a leaf, south-west and north-east, in ticks.
+/// A rectangle by its corners, south-west and north-east. Tried in a leaf's own `write!`: the search gives up at seven
+/// values.
 #[derive(Clone, Copy, Debug, PartialEq, Eq)]
-pub struct Corners {
-    pub x0: i64,
-    pub y0: i64,
-    pub x1: i64,
-    pub y1: i64,
-}
+pub struct Corners(pub Rect);
 
 impl fmt::Display for Corners {
     ghost use Rattle.std.specs.Prelude.{Some};
     ghost use Rattle.leafnet_text.specs.Lines.{corners_text};
 
-    ghost output = { λ c. Some (corners_text c) };
+    ghost output = { λ c. Some (corners_text c.0) };
 
     fn fmt<W: fmt::Write>(&self, f: &mut fmt::Formatter<W>) -> fmt::Result {
-        let Corners { x0, y0, x1, y1 } = *self;
+        let Rect { x0, y0, x1, y1 } = self.0;
         write!(f, "{x0} {y0} {x1} {y1}")
     }
 }
 
+/// A leaf of the mesh, in ticks.
 #[derive(Clone, Copy, Debug, PartialEq, Eq)]
 pub struct Leaf {
     pub id: usize,
     pub polygon: u64,
     pub level: u64,
-    pub corners: Corners,
+    pub rect: Rect,
 }
 
 impl fmt::Display for Leaf {
@@ -77,8 +75,9 @@ impl fmt::Display for Leaf {
             id,
             polygon,
             level,
-            corners,
+            rect,
         } = *self;
+        let corners = Corners(rect);
         write!(f, "leaf {id} {polygon} {level} {corners}")
     }
 }

@@ -4,11 +4,12 @@ ghost use Rattle.std.specs.Float.{NotNan};
 ghost use Rattle.leafnet_text.specs.Output.{leaf_lines, node_lines, edge_lines};
 
 use crate::input::Board;
-use crate::lines::{Corners, EdgeLine, Leaf, NodeLine, Totals};
+use crate::lines::{EdgeLine, Leaf, NodeLine, Totals};
 use crate::mesh::Mesh;
 use crate::netlist::Net;
 use crate::rooms::LEAVES;
 use crate::stop::Stop;
+use cell::rectangles::Rect;
 use cell::ticks::ticks;
 use net_rows::{Edge, Node};
 use std::alloc::{AllocError, Global};
@@ -29,7 +30,7 @@ impl Leaf {
             id,
             polygon: cell.poly,
             level: cell.level,
-            corners: Corners {
+            rect: Rect {
                 x0: ticks(cell.x0),
                 y0: ticks(cell.y0),
                 x1: ticks(cell.x1),

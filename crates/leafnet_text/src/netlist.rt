@@ -7,18 +7,19 @@ use crate::mesh::Mesh;
 use crate::rooms::LEAVES;
 use crate::stop::Stop;
 use net_rows::{Corners, Edge, NetCell, Node, Polygons};
+use network::judge::{EDGES_A_LEAF, NODES_A_LEAF, WORK_A_LEAF};
 use std::alloc::Global;
 
 /// The most nodes of a net.
-const NODES: usize = 4 * LEAVES;
+const NODES: usize = NODES_A_LEAF * LEAVES;
 
 /// The most edges of a net.
-const EDGES: usize = 8 * LEAVES;
+const EDGES: usize = EDGES_A_LEAF * LEAVES;
 
 /// The numbers of the work room.
-const WORK: usize = 64 * LEAVES;
+const WORK: usize = WORK_A_LEAF * LEAVES;
 
-// What stands in a row until a net is written to it.
+// What stands in a row until a net is written to it. Tried `Default`: the proof of `of_mesh` didn't close.
 const NO_NODE: Node = Node {
     layer: 0,
     component: 0,

@@ -24,7 +24,7 @@ fn read_once<R: Read>(reader: &mut R, room: &mut [u8]) -> io::Result<Option<usiz
 }
 
 /// As much of the input as the row has room for, into its front; how many bytes that is. Where a read fails, those that
-/// came before it are gone.
+/// came before it are gone; std's `read_to_end` promises nothing then.
 pub fn read_front<R: Read>(reader: &mut R, room: &mut [u8]) -> io::Result<usize>
     ensures within { IfOk result (λ n. n ≤ length room.new) }
     ensures bytes { IfOk result (λ n. IfSome (R.remaining reader.old) (λ input.

@@ -1,6 +1,7 @@
 -- What holds of the conductances: none is a NaN and none is negative; in the rules' ranges each is finite and above 0. Assumes nothing.
 use Rattle.std.proofs.lemmas.Bool.Decides.{nat_tests}
 use Rattle.std.proofs.Common.{◌≡◌, refl, sym, Option, Some, List, [], ◌∷◌, map, ℕ, ◌+◌, ◌*◌, ◌^◌, ◌≤◌, ◌<◌, lt_of_lt_of_le, zero-lt-suc, mul-pos, mul_assoc, mul-le-mul_right, arith, rules, true, false, T, eqb, ltb, ltb→lt, lt→ltb, lit≤, shl_lt, Float, pos, zero, suc, not}
+use Rattle.std.specs.Prelude.{flat_map}
 use Rattle.std.proofs.lemmas.Bool.{false≢true}
 use lib.Ieee.{inf, fin, Format, binary64, up, down, round, mul, div, of_int, of_bits, le, lt}
 use lib.Ieee.Fits.{up_pos, down_pos}
@@ -14,7 +15,7 @@ use Rattle.floats.specs.Fractions.{in_sheet, sheet_low, sheet_high, nonneg}
 use Rattle.floats.proofs.Signs.{round-nonneg, mul-nonneg, div-nonneg}
 use Rattle.floats.proofs.Ranges.{In, in-positive, num-in, mul_in, div-in}
 use Rattle.floats.proofs.Bounds.{float-positive, sheet-in, low-positive, high-positive}
-use Rattle.net.specs.Net.{weld, each, Poly, MeshNode, Edge, NetCell, Piece, same_node, same_pair, corners_of, patch_at, One, Half, ◌·◌, ◌÷◌, num, halves, width, height, across, upright, side_of, sides_at, edges_of, edges_from, patches_from, face, distance, is_side, sheet_of, weight, weighed, Cornered}
+use Rattle.net.specs.Net.{weld, Poly, MeshNode, Edge, NetCell, Piece, same_node, same_pair, corners_of, patch_at, One, Half, ◌·◌, ◌÷◌, num, halves, width, height, across, upright, side_of, sides_at, edges_of, edges_from, patches_from, face, distance, is_side, sheet_of, weight, weighed, Cornered}
 use Rattle.net.specs.Laws.{IsPositive, widest}
 use Rattle.net.proofs.All.{All, all_append, all_nil, all_cons, all-weld, all_map, all-map-by, all-by, all-each-by, all_both}
 use Rattle.net.proofs.Faces.{Within, face-low, distance-low, side-distance}
@@ -47,7 +48,7 @@ module _ (P : Float → Type 0) where
   edges-each n (q ∷ qs) h =
       let m = weld same_node n (corners_of q) in
       all_append Conductance (edges_of m q) (edges_from m qs)
-      (all-weld Conductance same_pair [] (each (sides_at m q.poly) q.leaves) (all_nil Conductance)
+      (all-weld Conductance same_pair [] (flat_map (sides_at m q.poly) q.leaves) (all_nil Conductance)
       (all-each-by (Sides q.poly) Conductance (sides_at m q.poly) q.leaves (λ r z. leaf-each m q.poly r z) h.0))
       (edges-each m qs h.1)
 

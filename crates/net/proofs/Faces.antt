@@ -1,15 +1,15 @@
 -- How large extents, faces and distances are: in the range of the nodes' coordinates. And a cell's corners lie apart. Assumes nothing.
 use Rattle.std.proofs.lemmas.Bool.Decides.{nat_tests}
-use Rattle.std.proofs.Common.{◌≡◌, Bool, true, List, [], ◌∷◌, map, ℕ, suc, ◌+◌, ◌-◌, ◌≤◌, ◌<◌, arith}
+use Rattle.std.proofs.Common.{◌≡◌, Bool, true, List, [], ◌∷◌, map, ℕ, suc, ◌+◌, ◌-◌, ◌≤◌, ◌<◌, arith, unwrap_or}
 use lib.ListN.{get_or-eq_default}
-use Rattle.net.specs.Net.{MeshNode, Edge, NetCell, Way, nth, nowhere, or_zero, least, next_gap, prev_gap, turned, gap, box_of, size_of, hung, extent, face, distance, is_side, Cornered}
+use Rattle.net.specs.Net.{MeshNode, Edge, NetCell, Way, nth, nowhere, least, next_gap, prev_gap, turned, gap, box_of, size_of, hung, extent, face, distance, is_side, Cornered}
 use Rattle.net.proofs.All.{All, all-map-by, all-by, all-at}
 
 -- faces and distances of nodes whose coordinates are at most M
 abbrev pub Within : ℕ → MeshNode → Type 0
 Within M m = (m.x ≤ M) × (m.y ≤ M)
 
-least-low : (M : ℕ) (p : MeshNode → ℕ → Bool) (g : MeshNode → ℕ) (l : List MeshNode) (j : ℕ) → All (λ (b : MeshNode). g b ≤ M) l → or_zero (least p g l j) ≤ M
+least-low : (M : ℕ) (p : MeshNode → ℕ → Bool) (g : MeshNode → ℕ) (l : List MeshNode) (j : ℕ) → All (λ (b : MeshNode). g b ≤ M) l → unwrap_or (least p g l j) 0 ≤ M
 unfolding All least
 least-low M p g [] j h = omega arith
 least-low M p g (b ∷ l) j h = grind (arith, h.0, least-low M p g l (suc j) h.1)

@@ -2,17 +2,19 @@
 use Rattle.std.proofs.lemmas.Bool.Decides.{nat_tests}
 use lib.Ieee.{Float}
 use Rattle.std.proofs.Common.{◌≡◌, refl, sym, ap, ◌∙◌, subst, true, List, [], ◌∷◌, ◌++◌, map, append_assoc, append-nil, ℕ, suc, ◌+◌, ◌*◌, ◌≤◌, ◌<◌, arith, ltb, length, get_or, take, drop, take_at, drop_at, drop-cons, length-append, length-drop, get_or-append-add, eq-eqb}
+use Rattle.std.specs.Prelude.{flat_map}
+use Rattle.std.proofs.lemmas.Grind.{flat_map-append}
 use Rattle.std.proofs.lemmas.List.{map-append}
 use lib.ListN.{length-map, get_or-append}
 use Rattle.cell.specs.Boxes.{Box}
-use Rattle.net.specs.Net.{weld, each, Poly, MeshNode, Edge, NetCell, Piece, same_node, same_pair, nth, nowhere, number, corners_at, corners_of, nodes_from, side_of, sides_at, patch_at, edges_from, edges_of, patches_from, across, upright}
+use Rattle.net.specs.Net.{weld, Poly, MeshNode, Edge, NetCell, Piece, same_node, same_pair, nth, nowhere, number, corners_at, corners_of, nodes_from, side_of, sides_at, patch_at, edges_from, edges_of, patches_from, across, upright}
 use Rattle.net.specs.First.{first_of, number_by, patch_by, Part, part, same_part, news}
 use Rattle.net.specs.Flat.{Leaf, leaf, no_leaf, leaf_at, leaves_from, corners_in, mids_in, flat_places, side_twice, slots_by, flat_slots, flat_patches}
 use Rattle.net.proofs.Find.{finding}
 use Rattle.net.proofs.Weld.{welding, Keyed, weld-nil, weld-append, welded, place-has, place-number, corner-number}
 use Rattle.net.proofs.All.{All, all_append, all_map, all-by, all_nil}
 use Rattle.net.proofs.Board.{each-length, each_at}
-use Rattle.net.proofs.Pieces.{edge_of, each_append, map_back, parts-own}
+use Rattle.net.proofs.Pieces.{edge_of, map_back, parts-own}
 
 -- ---- lists of parts that weld alike
 
@@ -43,8 +45,7 @@ alike_twice k edge =
     self : same_part x x ≡ true
     self = rw (eq-eqb x.piece x.piece refl, eq-eqb x.edge.from x.edge.from refl, eq-eqb x.edge.to x.edge.to refl)
 
-each_map : {A B C : Type 0} (f : B → List C) (g : A → B) (l : List A) → each f (map g l) ≡ each (λ (a : A). f (g a)) l
-unfolding each
+each_map : {A B C : Type 0} (f : B → List C) (g : A → B) (l : List A) → flat_map f (map g l) ≡ flat_map (λ (a : A). f (g a)) l
 each_map f g [] = refl
 each_map {C} f g (a ∷ l) = ap (λ (x : List C). f (g a) ++ x) (each_map f g l)
 
@@ -63,18 +64,18 @@ module _ (ls : List Leaf) (ks : List ℕ) (K : Keyed same_node nowhere (flat_pla
 
   places-length : length P ≡ 8 * length ls
   unfolding flat_places
-  places-length = omega (arith, length-append (each corners_in ls) (each mids_in ls), each-length corners_in (λ l. refl) ls, each-length mids_in (λ l. refl) ls)
+  places-length = omega (arith, length-append (flat_map corners_in ls) (flat_map mids_in ls), each-length corners_in (λ l. refl) ls, each-length mids_in (λ l. refl) ls)
 
   -- ---- one leaf
 
   module _ (t : ℕ) (l : Leaf) (here : leaf_at ls t ≡ l) (h : t < length ls) where
     corner : (i s : ℕ) → i ≡ 4 * t + s → s < 4 → nth P i ≡ get_or (corners_in l) s nowhere
     unfolding flat_places
-    corner i s e k = grind (arith, each-length corners_in (λ l. refl) ls, get_or-append (each corners_in ls) (each mids_in ls) nowhere i, each_at corners_in (λ l. refl) ls t s no_leaf nowhere h k)
+    corner i s e k = grind (arith, each-length corners_in (λ l. refl) ls, get_or-append (flat_map corners_in ls) (flat_map mids_in ls) nowhere i, each_at corners_in (λ l. refl) ls t s no_leaf nowhere h k)
 
     middle : (i s : ℕ) → i ≡ 4 * length ls + 4 * t + s → s < 4 → nth P i ≡ get_or (mids_in l) s nowhere
     unfolding flat_places
-    middle i s e k = grind (arith, each-length corners_in (λ l. refl) ls, get_or-append-add (each corners_in ls) (each mids_in ls) (4 * t + s) nowhere, each_at mids_in (λ l. refl) ls t s no_leaf nowhere h k)
+    middle i s e k = grind (arith, each-length corners_in (λ l. refl) ls, get_or-append-add (flat_map corners_in ls) (flat_map mids_in ls) (4 * t + s) nowhere, each_at mids_in (λ l. refl) ls t s no_leaf nowhere h k)
 
     module _ (n : ℕ) (low : 4 * t + 4 ≤ n) (high : n ≤ 4 * length ls) where
       number-is : (i s : ℕ) → i ≡ 4 * t + s → s < 4 → number (N n) (get_or (corners_in l) s nowhere) ≡ number_by ks i
@@ -116,8 +117,8 @@ module _ (ls : List Leaf) (ks : List ℕ) (K : Keyed same_node nowhere (flat_pla
 
     row-slots : (up : ℕ → ℕ) → up k ≡ u
         → (t : ℕ) (rs : List Box) → drop t ls ≡ map (leaf k p) rs ++ rest → t + length rs ≡ u
-        → (l : List Part) → weld same_part l (map (part k) (each (sides_at (N (4 * u)) p) rs) ++ flat_slots ks (length ls) up u rest) ≡ weld same_part l (flat_slots ks (length ls) up t (map (leaf k p) rs ++ rest))
-    unfolding each flat_slots
+        → (l : List Part) → weld same_part l (map (part k) (flat_map (sides_at (N (4 * u)) p) rs) ++ flat_slots ks (length ls) up u rest) ≡ weld same_part l (flat_slots ks (length ls) up t (map (leaf k p) rs ++ rest))
+    unfolding flat_slots
     row-slots up x t [] e q l = let z : t ≡ u = omega arith in rw z
     row-slots up x t (r ∷ rs) e q l =
         let f = first t r rs e q in
@@ -135,9 +136,9 @@ module _ (ls : List Leaf) (ks : List ℕ) (K : Keyed same_node nowhere (flat_pla
   -- ---- all polygons
 
   -- the corners of the leaves so far are so many places
-  so-far : (done rest : List Leaf) → ls ≡ done ++ rest → N (4 * length done) ≡ weld same_node [] (each corners_in done)
+  so-far : (done rest : List Leaf) → ls ≡ done ++ rest → N (4 * length done) ≡ weld same_node [] (flat_map corners_in done)
   unfolding flat_places
-  so-far done rest e = ap (weld same_node []) (rw (e, each_append, append_assoc) (take_at (each corners_in done) _ (4 * length done) (each-length corners_in (λ l. refl) done)))
+  so-far done rest e = ap (weld same_node []) (rw (e, flat_map-append, append_assoc) (take_at (flat_map corners_in done) _ (4 * length done) (each-length corners_in (λ l. refl) done)))
 
   -- the polygons qs, the first of which has the index k, behind t leaves
   record Made (n : List MeshNode) (t : ℕ) (qs : List Piece) (k : ℕ) : Type 0 where
@@ -155,13 +156,13 @@ module _ (ls : List Leaf) (ks : List ℕ) (K : Keyed same_node nowhere (flat_pla
       let r = made (done ++ here) qs (suc k) e' in
       let u : length done + length q.leaves ≡ length (done ++ here) = omega (arith, length-append done here, length-map q.leaves (leaf k q.poly)) in
       let d : drop (length done) ls ≡ here ++ rest = ap (drop (length done)) e ∙ drop_at done (here ++ rest) (length done) refl in
-      let n : weld same_node (N (4 * length done)) (each (corners_at q.poly) q.leaves) ≡ N (4 * length (done ++ here)) =
-      cc (so-far done (here ++ rest) e, so-far (done ++ here) rest e', weld-append same_node [] (each corners_in done) (each (corners_at q.poly) q.leaves), each_append corners_in done here, each_map corners_in (leaf k q.poly) q.leaves) in
+      let n : weld same_node (N (4 * length done)) (flat_map (corners_at q.poly) q.leaves) ≡ N (4 * length (done ++ here)) =
+      cc (so-far done (here ++ rest) e, so-far (done ++ here) rest e', weld-append same_node [] (flat_map corners_in done) (flat_map (corners_at q.poly) q.leaves), flat_map-append corners_in done here, each_map corners_in (leaf k q.poly) q.leaves) in
       record {
         nodes = rw n r.nodes;
         cells = rw n (row-patches k (length (done ++ here)) q.poly rest _ r.cells (length done) q.leaves d u);
         edges = λ up U l a.
-            (let parts = each (sides_at (N (4 * length (done ++ here))) q.poly) q.leaves in
+            (let parts = flat_map (sides_at (N (4 * length (done ++ here))) q.poly) q.leaves in
             let once = weld same_pair [] parts in
             let own = map (part k) once in
             let later = all_append (λ (p : Part). p.piece < suc k) l own (all-by (λ (p : Part). p.piece < k) (λ (p : Part). p.piece < suc k) l (λ p h. omega arith) a) (all_map (λ (p : Part). p.piece < suc k) (part k) once (λ e. omega arith)) in

@@ -2,10 +2,11 @@
 -- Assumes nothing.
 use lib.Ieee.{Float}
 use Rattle.std.proofs.Common.{◌≡◌, refl, sym, ap, subst, true, List, [], ◌∷◌, ◌++◌, map, arith, length-append, eq-eqb}
+use Rattle.std.specs.Prelude.{flat_map}
 use lib.ListN.{length-map, get_or-map}
 use Rattle.cell.specs.Boxes.{Box}
 use Rattle.table.specs.Mesh.{Cell}
-use Rattle.net.specs.Net.{weld, each, Poly, MeshNode, Edge, NetCell, Piece, same_node, same_pair, pieces, corners_of, nodes_from, edges_of, edges_from, join, side_of, sides_at, One, Half, ◌·◌, ◌÷◌, weighed, bare, weigh, network}
+use Rattle.net.specs.Net.{weld, Poly, MeshNode, Edge, NetCell, Piece, same_node, same_pair, pieces, corners_of, nodes_from, edges_of, edges_from, join, side_of, sides_at, One, Half, ◌·◌, ◌÷◌, weighed, bare, weigh, network}
 use Rattle.net.specs.Hang.{so_far, Joined, Halved, HalvedSides}
 use Rattle.net.proofs.Find.{find-right, find-same}
 use Rattle.net.proofs.All.{All, all-by, all_left, all_right, all-each-back, In, in-more, weld-has}
@@ -63,7 +64,7 @@ unfolding edges_of
 no-half-hangs t ps pre q qs e =
     let n = so_far pre q in
     let es = (network t ps).edges in
-    let parts = each (sides_at n q.poly) q.leaves in
+    let parts = flat_map (sides_at n q.poly) q.leaves in
     all-by (λ (r : Box). All (In same_pair es) (sides_at n q.poly r)) (HalvedSides n es q.poly) q.leaves (λ r h. leaf-halved n es q.poly r h)
     (all-each-back (In same_pair es) (sides_at n q.poly) q.leaves
     (all-by (In same_pair (weld same_pair [] parts)) (In same_pair es) parts (λ x h. edges-in t ps pre q qs x e h) (weld-has same_pair pair-self [] parts)))

@@ -1,9 +1,8 @@
 -- What holds of a table's leaves and of its polygons holds of the pieces, and of the nodes. Assumes nothing.
-use Rattle.std.proofs.Common.{◌≡◌, refl, sym, subst, None, Some, List, [], ◌∷◌, ◌++◌, ℕ, zero, suc, ◌+◌, ◌≤◌, ◌<◌, arith, length, get_or, take, drop, length-take, slice_get}
-use Rattle.std.proofs.lemmas.Option.{slice_get_within}
+use Rattle.std.proofs.Common.{◌≡◌, refl, sym, subst, Bool, true, false, cond, ◌&&◌, ◌==◌, if◌then◌else◌, map, filter, None, Some, List, [], ◌∷◌, ◌++◌, ℕ, zero, suc, ◌+◌, ◌≤◌, ◌<◌, arith, length, get_or, take, drop, slice_get}
 use Rattle.std.specs.List.{All as AllAt}
 use Rattle.cell.specs.Boxes.{Box}
-use Rattle.table.specs.Mesh.{Cell}
+use Rattle.table.specs.Mesh.{Cell, is_none}
 use Rattle.net.specs.Net.{Poly, MeshNode, Piece, same_node, corners_at, corners_of, leaves_of, pieces, nodes_from}
 use Rattle.net.proofs.All.{All, all_nil, all_cons, all-by, all-weld, all-each-by}
 use Rattle.net.proofs.Pieces.{all_corners, nodes-weld}
@@ -21,12 +20,24 @@ unfolding All
 all-of P [] h = tt
 all-of P (a ∷ l) h = (h 0 a (omega arith), all-of P l (λ i d q. h (suc i) d (omega arith)))
 
+-- the leaves of one polygon, of one cell more
+pub leaves_of-cons : (c : Cell) (cs : List Cell) (k : ℕ) → leaves_of (c ∷ cs) k ≡ (if is_none c.kids && (c.polygon == k) then c.box ∷ leaves_of cs k else leaves_of cs k)
+unfolding leaves_of
+leaves_of-cons c cs k = by (is_none c.kids && (c.polygon == k))
+  where
+    others : List Cell
+    others = filter (λ c. is_none c.kids && (c.polygon == k)) cs
+
+    by : (b : Bool) → map {B = Box} (λ c. c.box) (cond b (c ∷ others) others) ≡ (if b then c.box ∷ map (λ c. c.box) others else map (λ c. c.box) others)
+    by true = refl
+    by false = refl
+
 module _ (P : Box → Type 0) where
   -- of the leaves of one polygon
   leaves_all : (cs : List Cell) (k : ℕ) → All (λ (c : Cell). c.kids ≡ None → P c.box) cs → All P (leaves_of cs k)
   unfolding All leaves_of
   leaves_all [] k h = tt
-  leaves_all (c ∷ cs) k h = grind (arith, h.0, leaves_all cs k h.1, all_cons P c.box)
+  leaves_all (c ∷ cs) k h = grind (arith, leaves_of-cons c cs k, h.0, leaves_all cs k h.1, all_cons P c.box)
 
   pub leaves-pieces : (cs : List Cell) (ps : List Poly) (k : ℕ) → All (λ (c : Cell). c.kids ≡ None → P c.box) cs
       → All (λ (q : Piece). All P q.leaves) (pieces cs ps k)
@@ -64,10 +75,6 @@ pub length-pieces : (cs : List Cell) (ps : List Poly) (j : ℕ) → length (piec
 unfolding pieces
 length-pieces cs [] j = refl
 length-pieces cs (p ∷ ps) j = omega (arith, length-pieces cs ps (suc j))
-
--- so the pieces before the polygon k are k
-pub length-before : (cs : List Cell) (ps : List Poly) (k : ℕ) (p : Poly) → slice_get ps k ≡ Some p → length (pieces cs (take k ps) 0) ≡ k
-length-before cs ps k p h = omega (arith, slice_get_within ps k p h, length-pieces cs (take k ps) 0, length-take k ps)
 
 -- ---- nodes
 

@@ -2,13 +2,16 @@
 -- Assumes nothing.
 use Rattle.std.proofs.lemmas.Bool.Decides.{nat_tests}
 use lib.Ieee.{Float}
-use Rattle.std.proofs.Common.{◌≡◌, refl, sym, ap, ◌∙◌, subst, Bool, true, ◌&&◌, List, [], ◌∷◌, ◌++◌, map, ℕ, suc, ◌+◌, ◌*◌, ◌≤◌, mul-suc, arith, leb, eqb, length, length-append}
+use Rattle.std.proofs.Common.{◌≡◌, refl, sym, ap, ◌∙◌, subst, Bool, true, cond, ◌&&◌, List, [], ◌∷◌, ◌++◌, map, ℕ, suc, ◌+◌, ◌*◌, ◌≤◌, mul-suc, arith, leb, eqb, length, length-append}
+use Rattle.std.specs.Prelude.{flat_map, sum_by}
+use Rattle.std.proofs.lemmas.List.Sums.{sum_by-cons}
 use lib.ListN.{length-map, get_or-append}
 use Rattle.cell.specs.Boxes.{Box}
 use Rattle.table.specs.Mesh.{Cell, is_none}
-use Rattle.net.specs.Net.{weld, each, Poly, MeshNode, Edge, Piece, same_node, same_pair, sw_of, se_of, ne_of, nw_of, corners_at, corners_of, nodes_from, number, nth, nowhere, patch_at, side_of, sides_at, edges_of, edges_from, patches_from, leaves_of, pieces, Cornered, Ends, one_if, leaf_count, leaf_sum}
+use Rattle.net.specs.Net.{weld, Poly, MeshNode, Edge, Piece, same_node, same_pair, sw_of, se_of, ne_of, nw_of, corners_at, corners_of, nodes_from, number, nth, nowhere, patch_at, side_of, sides_at, edges_of, edges_from, patches_from, leaves_of, pieces, Cornered, Ends, leaf_count}
 use Rattle.net.specs.Laws.{HasArea}
 use Rattle.net.proofs.Find.{find-hit}
+use Rattle.net.proofs.Leaves.{leaves_of-cons}
 use Rattle.net.proofs.Pieces.{all_corners, nodes-weld}
 use Rattle.net.proofs.All.{All, all_append, all-by, all_nil, all_cons, all-weld, all-each-by, all-map-by, all-each-back, all_both, weld-length, weld-more, In, weld-has}
 
@@ -32,8 +35,8 @@ nodes-more n qs = let r = weld-more same_node n (all_corners qs) in (r.0, nodes-
 pub piece-in : (n : List MeshNode) (q : Piece) → All (λ (r : Box). All (In same_node (weld same_node n (corners_of q))) (corners_at q.poly r)) q.leaves
 unfolding corners_of
 piece-in n q =
-    all-each-back (In same_node (weld same_node n (each (corners_at q.poly) q.leaves))) (corners_at q.poly) q.leaves
-    (weld-has same_node node-self n (each (corners_at q.poly) q.leaves))
+    all-each-back (In same_node (weld same_node n (flat_map (corners_at q.poly) q.leaves))) (corners_at q.poly) q.leaves
+    (weld-has same_node node-self n (flat_map (corners_at q.poly) q.leaves))
 
 -- ---- the ends of edges
 
@@ -49,7 +52,7 @@ piece-ends : (n : List MeshNode) (q : Piece) → All (Ends (length (weld same_no
 unfolding edges_of
 piece-ends n q =
     let m = weld same_node n (corners_of q) in
-    all-weld (Ends (length m)) same_pair [] (each (sides_at m q.poly) q.leaves) (all_nil (Ends (length m)))
+    all-weld (Ends (length m)) same_pair [] (flat_map (sides_at m q.poly) q.leaves) (all_nil (Ends (length m)))
     (all-each-by _ (Ends (length m)) (sides_at m q.poly) q.leaves (λ r h. leaf-ends m q.poly r h) (piece-in n q))
 
 pub edges-ends : (n : List MeshNode) (qs : List Piece) → All (Ends (length (nodes_from n qs))) (edges_from n qs)
@@ -83,10 +86,25 @@ patches-cornered n (q ∷ qs) h =
 
 -- ---- counts
 
-length-each : {A B : Type 0} (f : A → List B) (k : ℕ) (l : List A) → ((a : A) → length (f a) ≤ k) → length (each f l) ≤ k * length l
-unfolding each
+-- how many leaves the pieces have
+unfoldable pub leaf_sum : List Piece → ℕ
+leaf_sum qs = sum_by (λ q. length q.leaves) qs
+
+leaf_sum-nil : leaf_sum [] ≡ 0
+unfolding leaf_sum
+leaf_sum-nil = refl
+
+leaf_sum-cons : (q : Piece) (qs : List Piece) → leaf_sum (q ∷ qs) ≡ length q.leaves + leaf_sum qs
+unfolding leaf_sum
+leaf_sum-cons q qs = sum_by-cons (λ (q : Piece). length q.leaves) q qs
+
+pub leaf_count-cons : (c : Cell) (t : List Cell) → leaf_count (c ∷ t) ≡ cond (is_none c.kids) 1 0 + leaf_count t
+unfolding leaf_count
+leaf_count-cons c t = sum_by-cons (λ (c : Cell). cond (is_none c.kids) 1 0) c t
+
+length-each : {A B : Type 0} (f : A → List B) (k : ℕ) (l : List A) → ((a : A) → length (f a) ≤ k) → length (flat_map f l) ≤ k * length l
 length-each f k [] h = omega arith
-length-each f k (a ∷ l) h = omega (arith, length-append (f a) (each f l), h a, length-each f k l h, mul-suc k (length l))
+length-each f k (a ∷ l) h = omega (arith, length-append (f a) (flat_map f l), h a, length-each f k l h, mul-suc k (length l))
 
 side-length : (n : List MeshNode) (a m b : MeshNode) (r : Float) → length (side_of n a m b r) ≤ 2
 side-length n a m b r = grind arith
@@ -100,44 +118,43 @@ unfolding corners_of
 corners-length q = length-each (corners_at q.poly) 4 q.leaves (λ r. omega arith)
 
 pub nodes-count : (n : List MeshNode) (qs : List Piece) → length (nodes_from n qs) ≤ length n + 4 * leaf_sum qs
-unfolding nodes_from leaf_sum
-nodes-count n [] = omega arith
-nodes-count n (q ∷ qs) = omega (arith, nodes-count (weld same_node n (corners_of q)) qs, weld-length same_node n (corners_of q), corners-length q)
+unfolding nodes_from
+nodes-count n [] = omega (arith, leaf_sum-nil)
+nodes-count n (q ∷ qs) = omega (arith, leaf_sum-cons q qs, nodes-count (weld same_node n (corners_of q)) qs, weld-length same_node n (corners_of q), corners-length q)
 
 pub edges-count : (n : List MeshNode) (qs : List Piece) → length (edges_from n qs) ≤ 8 * leaf_sum qs
-unfolding edges_from edges_of leaf_sum
-edges-count n [] = omega arith
+unfolding edges_from edges_of
+edges-count n [] = omega (arith, leaf_sum-nil)
 edges-count n (q ∷ qs) =
     let m = weld same_node n (corners_of q) in
-    let parts = each (sides_at m q.poly) q.leaves in
-    omega (arith, edges-count m qs, length-append (weld same_pair [] parts) (edges_from m qs), weld-length same_pair [] parts, length-each (sides_at m q.poly) 8 q.leaves (leaf-length m q.poly))
+    let parts = flat_map (sides_at m q.poly) q.leaves in
+    omega (arith, leaf_sum-cons q qs, edges-count m qs, length-append (weld same_pair [] parts) (edges_from m qs), weld-length same_pair [] parts, length-each (sides_at m q.poly) 8 q.leaves (leaf-length m q.poly))
 
 pub patches-count : (n : List MeshNode) (qs : List Piece) → length (patches_from n qs) ≡ leaf_sum qs
-unfolding patches_from leaf_sum
-patches-count n [] = refl
+unfolding patches_from
+patches-count n [] = sym leaf_sum-nil
 patches-count n (q ∷ qs) =
     let m = weld same_node n (corners_of q) in
-    omega (arith, patches-count m qs, length-append (map (patch_at m q.poly) q.leaves) (patches_from m qs), length-map q.leaves (patch_at m q.poly))
+    omega (arith, leaf_sum-cons q qs, patches-count m qs, length-append (map (patch_at m q.poly) q.leaves) (patches_from m qs), length-map q.leaves (patch_at m q.poly))
 
-leaves-length : (c : Cell) (t : List Cell) (k : ℕ) → length (leaves_of (c ∷ t) k) ≡ one_if (is_none c.kids && eqb c.polygon k) + length (leaves_of t k)
-unfolding leaves_of
-leaves-length c t k = grind arith
+leaves-length : (c : Cell) (t : List Cell) (k : ℕ) → length (leaves_of (c ∷ t) k) ≡ cond (is_none c.kids && eqb c.polygon k) 1 0 + length (leaves_of t k)
+leaves-length c t k = grind (arith, leaves_of-cons c t k)
 
 -- a leaf is in at most one piece
-once-only : (n : Bool) (p k : ℕ) → one_if (n && eqb p k) + one_if (n && leb (suc k) p) ≤ one_if (n && leb k p)
+once-only : (n : Bool) (p k : ℕ) → cond (n && eqb p k) 1 0 + cond (n && leb (suc k) p) 1 0 ≤ cond (n && leb k p) 1 0
 once-only n p k = grind (arith, nat_tests)
 
 no-leaves : (ps : List Poly) (k : ℕ) → leaf_sum (pieces [] ps k) ≡ 0
-unfolding leaf_sum pieces leaves_of
-no-leaves [] k = refl
-no-leaves (p ∷ ps) k = omega (arith, no-leaves ps (suc k))
+unfolding pieces leaves_of
+no-leaves [] k = leaf_sum-nil
+no-leaves (p ∷ ps) k = omega (arith, leaf_sum-cons (record { poly = p; leaves = [] }) (pieces [] ps (suc k)), no-leaves ps (suc k))
 
-leaf-once : (c : Cell) (t : List Cell) (ps : List Poly) (k : ℕ) → leaf_sum (pieces (c ∷ t) ps k) ≤ one_if (is_none c.kids && leb k c.polygon) + leaf_sum (pieces t ps k)
-unfolding leaf_sum pieces
-leaf-once c t [] k = omega arith
-leaf-once c t (p ∷ ps) k = omega (arith, leaves-length c t k, leaf-once c t ps (suc k), once-only (is_none c.kids) c.polygon k)
+leaf-once : (c : Cell) (t : List Cell) (ps : List Poly) (k : ℕ) → leaf_sum (pieces (c ∷ t) ps k) ≤ cond (is_none c.kids && leb k c.polygon) 1 0 + leaf_sum (pieces t ps k)
+unfolding pieces
+leaf-once c t [] k = omega (arith, leaf_sum-nil)
+leaf-once c t (p ∷ ps) k =
+    omega (arith, leaf_sum-cons (record { poly = p; leaves = leaves_of (c ∷ t) k }) (pieces (c ∷ t) ps (suc k)), leaf_sum-cons (record { poly = p; leaves = leaves_of t k }) (pieces t ps (suc k)), leaves-length c t k, leaf-once c t ps (suc k), once-only (is_none c.kids) c.polygon k)
 
 pub leaves-count : (t : List Cell) (ps : List Poly) (k : ℕ) → leaf_sum (pieces t ps k) ≤ leaf_count t
-unfolding leaf_count
 leaves-count [] ps k = omega (arith, no-leaves ps k)
-leaves-count (c ∷ t) ps k = grind (arith, leaf-once c t ps k, leaves-count t ps k)
+leaves-count (c ∷ t) ps k = grind (arith, leaf_count-cons c t, leaf-once c t ps k, leaves-count t ps k)

@@ -1,10 +1,10 @@
 -- How many leaves there are in the polygons up to k, in a list that goes polygon by polygon. Assumes nothing.
 use Rattle.std.proofs.lemmas.Bool.Decides.{nat_tests}
-use Rattle.std.proofs.Common.{◌≡◌, refl, sym, ap, ◌∙◌, subst, ◌&&◌, List, [], ◌∷◌, ◌++◌, map, append_assoc, ℕ, zero, suc, ◌+◌, ◌*◌, ◌/◌, ◌≤◌, ◌<◌, arith, ltb, leb, length, length-append, le-leb}
+use Rattle.std.proofs.Common.{◌≡◌, refl, sym, ap, ◌∙◌, subst, cond, ◌&&◌, List, [], ◌∷◌, ◌++◌, map, append_assoc, ℕ, zero, suc, ◌+◌, ◌*◌, ◌/◌, ◌≤◌, ◌<◌, arith, ltb, leb, length, length-append, le-leb}
 use lib.ListN.{length-map}
 use borrow.Author.Tests.{lt-leb}
 use Rattle.cell.specs.Boxes.{Box}
-use Rattle.net.specs.Net.{Poly, Piece, one_if}
+use Rattle.net.specs.Net.{Poly, Piece}
 use Rattle.net.specs.Flat.{Leaf, leaf, leaf_at, leaves_from}
 use Rattle.net.proofs.All.{All, all_append, all-by}
 use Rattle.net.proofs.Flat.{Upto}
@@ -12,7 +12,7 @@ use Rattle.net.proofs.Flat.{Upto}
 -- the leaves of the polygons up to k
 unfoldable pub count_up : List Leaf → ℕ → ℕ
 count_up [] k = 0
-count_up (x ∷ xs) k = one_if (leb x.piece k) + count_up xs k
+count_up (x ∷ xs) k = cond (leb x.piece k) 1 0 + count_up xs k
 
 count-append : (a b : List Leaf) (k : ℕ) → count_up (a ++ b) k ≡ count_up a k + count_up b k
 unfolding count_up
@@ -22,12 +22,12 @@ count-append (x ∷ a) b k = omega (arith, count-append a b k)
 count-all : (a : List Leaf) (k : ℕ) → All (λ (x : Leaf). x.piece ≤ k) a → count_up a k ≡ length a
 unfolding count_up All
 count-all [] k h = refl
-count-all (x ∷ a) k h = omega (arith, ap one_if (le-leb x.piece k h.0), count-all a k h.1)
+count-all (x ∷ a) k h = omega (arith, ap {B = ℕ} (λ b. cond b 1 0) (le-leb x.piece k h.0), count-all a k h.1)
 
 count_none : (a : List Leaf) (k : ℕ) → All (λ (x : Leaf). k < x.piece) a → count_up a k ≡ 0
 unfolding count_up All
 count_none [] k h = refl
-count_none (x ∷ a) k h = omega (arith, ap one_if (lt-leb x.piece k h.0), count_none a k h.1)
+count_none (x ∷ a) k h = omega (arith, ap {B = ℕ} (λ b. cond b 1 0) (lt-leb x.piece k h.0), count_none a k h.1)
 
 of-piece : (k : ℕ) (p : Poly) (rs : List Box) (Q : ℕ → Type 0) → Q k → All (λ (x : Leaf). Q x.piece) (map (leaf k p) rs)
 unfolding All

@@ -1,6 +1,8 @@
 -- Boards, with the net that the oracle (the original Rust, and the rules read on its own) makes of each; coordinates are 2 ^ 36 more than
 -- the oracle's. And the test that the definitions make the same, number for number and bit for bit.
-use Rattle.std.specs.Prelude.{Bool, true, false, ◌&&◌, List, [], ◌∷◌, map, ℕ, ◌==◌, Option, None, Some, IsTrue}
+use Rattle.std.specs.Prelude.{Bool, ◌&&◌, List, [], ◌∷◌, map, ℕ, nat_eq, Option, None, Some, IsTrue}
+use Rattle.std.specs.List.{list_all}
+use lib.Pointwise.{pointwise}
 use Rattle.std.specs.Float.{binary64}
 use Rattle.std.specs.Float.Ieee.{of_bits, to_bits}
 use Rattle.table.specs.Mesh.{Cell}
@@ -38,24 +40,15 @@ of_patch c = patch c.corners.southwest c.corners.southeast c.corners.northeast c
 abbrev of_edge : Edge → List ℕ
 of_edge e = edge e.from e.to (to_bits binary64 e.conductance)
 
-unfoldable pub alike : List ℕ → List ℕ → Bool
-alike [] [] = true
-alike [] (y ∷ ys) = false
-alike (x ∷ xs) [] = false
-alike (x ∷ xs) (y ∷ ys) = (x == y) && alike xs ys
-
-unfoldable pub all_alike : List (List ℕ) → List (List ℕ) → Bool
-all_alike [] [] = true
-all_alike [] (y ∷ ys) = false
-all_alike (x ∷ xs) [] = false
-all_alike (x ∷ xs) (y ∷ ys) = alike x y && all_alike xs ys
+-- lists of the same numbers
+abbrev alike : List (List ℕ) → List (List ℕ) → Bool
+alike = pointwise (pointwise nat_eq)
 
 unfoldable pub agrees : Board → Net → Bool
-agrees b n = all_alike (map of_node n.nodes) b.nodes && (all_alike (map of_patch n.cells) b.cells && all_alike (map of_edge n.edges) b.edges)
+agrees b n = alike (map of_node n.nodes) b.nodes && (alike (map of_patch n.cells) b.cells && alike (map of_edge n.edges) b.edges)
 
 unfoldable pub all_agree : List Board → Bool
-all_agree [] = true
-all_agree (b ∷ bs) = agrees b (network b.table b.polys) && all_agree bs
+all_agree bs = list_all (λ b. agrees b (network b.table b.polys)) bs
 
 -- the rules' worked example
 unfoldable pub worked : Board

@@ -1,5 +1,6 @@
 -- The first of equal keys, and the numbering of the new ones: what a sort of the keys gives, and what the net is computed from. Definitions only.
-use Rattle.std.specs.Prelude.{Bool, true, false, ◌&&◌, List, [], ◌∷◌, ◌++◌, ◌≡◌, ℕ, zero, suc, ◌+◌, ◌≤◌, ◌<◌, ◌==◌, nat_eq, length, slice_index_or, Float}
+-- Counts go by recursion on the number of places, as their lemmas do: std's `count_by` over `range_with_len` would add a turn to each.
+use Rattle.std.specs.Prelude.{Bool, ◌&&◌, List, [], ◌∷◌, ◌++◌, ◌≡◌, ℕ, zero, suc, ◌+◌, ◌≤◌, ◌<◌, ◌==◌, nat_eq, length, slice_index_or, Float, if◌then◌else◌}
 use Rattle.cell.specs.Boxes.{Box, mid}
 use Rattle.net.specs.Net.{find, MeshNode, Edge, NetCell, same_pair, Poly, node_at}
 
@@ -16,11 +17,11 @@ is_new ks i = first_of ks i == i
 -- how many of the first n are new, and which
 unfoldable pub rank : List ℕ → ℕ → ℕ
 rank ks zero = 0
-rank ks (suc i) = elim (is_new ks i) [ true ↦ suc (rank ks i) | false ↦ rank ks i ]
+rank ks (suc i) = if is_new ks i then suc (rank ks i) else rank ks i
 
 unfoldable pub news : List ℕ → ℕ → List ℕ
 news ks zero = []
-news ks (suc i) = elim (is_new ks i) [ true ↦ news ks i ++ (i ∷ []) | false ↦ news ks i ]
+news ks (suc i) = if is_new ks i then news ks i ++ (i ∷ []) else news ks i
 
 -- the parts of edges of all polygons, before any is left out, each with its polygon: the first with a polygon and a pair is kept
 pub record Part : Type 0 where
@@ -54,7 +55,7 @@ mids_at p r = node_at p (mid r.x0 r.x1) r.y0 ∷ node_at p (mid r.x0 r.x1) r.y1 
 -- how many below n are their own first
 unfoldable pub rank_in : List ℕ → ℕ → ℕ
 rank_in fs zero = 0
-rank_in fs (suc i) = elim (slice_index_or fs i 0 == i) [ true ↦ suc (rank_in fs i) | false ↦ rank_in fs i ]
+rank_in fs (suc i) = if slice_index_or fs i 0 == i then suc (rank_in fs i) else rank_in fs i
 
 -- a row of first places
 pub record Firsts (fs : List ℕ) : Type 0 where

@@ -1,7 +1,8 @@
 -- The leaves of all polygons in one list, and the net before the weights by indices into it: what rows of numbers hold. Definitions only.
-use Rattle.std.specs.Prelude.{Bool, true, false, List, [], ◌∷◌, ◌++◌, map, ℕ, zero, suc, ◌+◌, ◌*◌, nat_lt, Float, slice_index_or}
+-- Lists with a count beside them go by recursion, as their lemmas do: std's `fold` and `range_with_len` would add a turn to each.
+use Rattle.std.specs.Prelude.{Bool, List, [], ◌∷◌, ◌++◌, map, ℕ, zero, suc, ◌+◌, ◌*◌, nat_lt, Float, slice_index_or, if◌then◌else◌, flat_map}
 use Rattle.cell.specs.Boxes.{Box, mid}
-use Rattle.net.specs.Net.{each, Poly, MeshNode, Edge, NetCell, Piece, corners_at, across, upright, One, Half, ◌·◌, ◌÷◌}
+use Rattle.net.specs.Net.{Poly, MeshNode, Edge, NetCell, Piece, corners_at, across, upright, One, Half, ◌·◌, ◌÷◌}
 use Rattle.net.specs.First.{first_of, number_by, patch_by, mids_at, Part, part}
 
 -- a leaf, with its polygon and its polygon's index
@@ -54,23 +55,16 @@ mids_in l = mids_at l.poly l.box
 
 -- the corners of all leaves, and behind them the middles
 unfoldable pub flat_places : List Leaf → List MeshNode
-flat_places ls = each corners_in ls ++ each mids_in ls
+flat_places ls = flat_map corners_in ls ++ flat_map mids_in ls
 
 -- ---- the parts of edges, eight to a leaf: a side in halves, or the whole side twice, of which the second is never the first
-
-abbrev pub pick_num : Bool → ℕ → ℕ → ℕ
-pick_num true a b = a
-pick_num false a b = b
-
-abbrev pub pick_float : Bool → Float → Float → Float
-pick_float true a b = a
-pick_float false a b = b
 
 -- a side from the place a to the place b, with the middle m, that has the resistance r
 abbrev pub side_twice : List ℕ → Bool → ℕ → ℕ → ℕ → Float → List Edge
 side_twice ks hit a m b r =
-    record { from = number_by ks a; to = pick_num hit (number_by ks m) (number_by ks b); conductance = pick_float hit (One ÷ (r · Half)) (One ÷ r) }
-    ∷ record { from = pick_num hit (number_by ks m) (number_by ks a); to = number_by ks b; conductance = pick_float hit (One ÷ (r · Half)) (One ÷ r) } ∷ []
+    let g = if hit then One ÷ (r · Half) else One ÷ r in
+    record { from = number_by ks a; to = if hit then number_by ks m else number_by ks b; conductance = g }
+    ∷ record { from = if hit then number_by ks m else number_by ks a; to = number_by ks b; conductance = g } ∷ []
 
 unfoldable pub slots_by : List ℕ → ℕ → ℕ → ℕ → Float → Float → List Edge
 slots_by ks n c m f t =

@@ -1,6 +1,10 @@
 -- The net of a table of leaves: nodes, cells, edges and weights, by the rules' "The net". Coordinates are whole ticks, from 0 up;
 -- extents and faces are whole half ticks. Nothing is sorted and nothing is looked up: each rule goes through the whole list. Definitions only.
-use Rattle.std.specs.Prelude.{Bool, true, false, ◌&&◌, ◌||◌, not, List, [], ◌∷◌, ◌++◌, map, ◌≡◌, ℕ, suc, ◌+◌, ◌-◌, ◌<◌, min, max, nat_lt, ◌==◌, length, slice_index_or, drop, pos, Float, Option, None, Some}
+-- A recursion stands as one where its lemmas go by induction on the list: std's `fold` and `range_with_len` would add a turn to each. So does
+-- `sheet_of`, since std's `find` would stand beside the `find` here; `has` goes by that number, as what is said of welding does.
+use Rattle.std.specs.Prelude.{Bool, ◌&&◌, ◌||◌, not, List, [], ◌∷◌, ◌++◌, map, ◌≡◌, ℕ, suc, ◌+◌, ◌-◌, ◌<◌, min, max, nat_lt, ◌==◌, length, slice_index_or, drop, pos, Float, Option, None, Some, unwrap_or, flat_map, count_by, filter, if◌then◌else◌}
+use Rattle.std.specs.List.{position_or_len}
+use Rattle.std.specs.Int.{abs_diff}
 use Rattle.std.specs.Float.Ieee as Ieee
 use Rattle.std.specs.Float.{binary64}
 use Rattle.std.specs.Float.Ieee.{of_bits}
@@ -15,8 +19,7 @@ pub use Rattle.net_rows.specs.declared.rows.NetCell.{NetCell}
 module _ {A : Type 0} (same : A → A → Bool) where
   -- the number of the first that is the same as x; where there is none, the length
   unfoldable pub find : List A → A → ℕ
-  find [] x = 0
-  find (a ∷ l) x = elim (same a x) [ true ↦ 0 | false ↦ suc (find l x) ]
+  find l x = position_or_len (λ a. same a x) l
 
   abbrev pub has : List A → A → Bool
   has l x = nat_lt (find l x) (length l)
@@ -24,11 +27,7 @@ module _ {A : Type 0} (same : A → A → Bool) where
   -- each of the second list in turn goes behind the first, unless the same is there already
   unfoldable pub weld : List A → List A → List A
   weld l [] = l
-  weld l (x ∷ xs) = elim (has l x) [ true ↦ weld l xs | false ↦ weld (l ++ (x ∷ [])) xs ]
-
-unfoldable pub each : {A B : Type 0} → (A → List B) → List A → List B
-each f [] = []
-each f (a ∷ l) = f a ++ each f l
+  weld l (x ∷ xs) = if has l x then weld l xs else weld (l ++ (x ∷ [])) xs
 
 -- ---- what the net is made of
 
@@ -58,8 +57,7 @@ pub record Piece : Type 0 where
   pub leaves : List Box
 
 unfoldable pub leaves_of : List Cell → ℕ → List Box
-leaves_of [] k = []
-leaves_of (c ∷ cs) k = elim (is_none c.kids && (c.polygon == k)) [ true ↦ c.box ∷ leaves_of cs k | false ↦ leaves_of cs k ]
+leaves_of cs k = map (λ c. c.box) (filter (λ c. is_none c.kids && (c.polygon == k)) cs)
 
 -- the polygons ps, the first of which has the index k
 unfoldable pub pieces : List Cell → List Poly → ℕ → List Piece
@@ -87,7 +85,7 @@ abbrev pub corners_at : Poly → Box → List MeshNode
 corners_at p r = sw_of p r ∷ se_of p r ∷ ne_of p r ∷ nw_of p r ∷ []
 
 unfoldable pub corners_of : Piece → List MeshNode
-corners_of q = each (corners_at q.poly) q.leaves
+corners_of q = flat_map (corners_at q.poly) q.leaves
 
 -- the nodes, once the pieces are added to the nodes n
 unfoldable pub nodes_from : List MeshNode → List Piece → List MeshNode
@@ -144,7 +142,7 @@ join n a b g = record { from = number n a; to = number n b; conductance = g }
 
 -- one side of a leaf, of the resistance r: whole, or in halves. (A leaf's sides are even, so the midpoint m is neither end.)
 abbrev pub side_of : List MeshNode → MeshNode → MeshNode → MeshNode → Float → List Edge
-side_of n a m b r = elim (has same_node n m) [ true ↦ join n a m (One ÷ (r · Half)) ∷ join n m b (One ÷ (r · Half)) ∷ [] | false ↦ join n a b (One ÷ r) ∷ [] ]
+side_of n a m b r = if has same_node n m then join n a m (One ÷ (r · Half)) ∷ join n m b (One ÷ (r · Half)) ∷ [] else join n a b (One ÷ r) ∷ []
 
 unfoldable pub sides_at : List MeshNode → Poly → Box → List Edge
 sides_at n p r =
@@ -155,7 +153,7 @@ sides_at n p r =
 
 -- within a polygon a pair is emitted once
 unfoldable pub edges_of : List MeshNode → Piece → List Edge
-edges_of n q = weld same_pair [] (each (sides_at n q.poly) q.leaves)
+edges_of n q = weld same_pair [] (flat_map (sides_at n q.poly) q.leaves)
 
 unfoldable pub edges_from : List MeshNode → List Piece → List Edge
 edges_from n [] = []
@@ -182,21 +180,17 @@ abbrev pub lesser : ℕ → Option ℕ → Option ℕ
 lesser d None = Some d
 lesser d (Some e) = Some (min d e)
 
-abbrev pub or_zero : Option ℕ → ℕ
-or_zero None = 0
-or_zero (Some d) = d
-
 -- the least g of the nodes that pass the test p, which are numbered from j on
 unfoldable pub least : (MeshNode → ℕ → Bool) → (MeshNode → ℕ) → List MeshNode → ℕ → Option ℕ
 least p g [] j = None
-least p g (b ∷ bs) j = elim (p b j) [ true ↦ lesser (g b) (least p g bs (suc j)) | false ↦ least p g bs (suc j) ]
+least p g (b ∷ bs) j = if p b j then lesser (g b) (least p g bs (suc j)) else least p g bs (suc j)
 
 -- the gap from the node i to the next in its column, and to the one before: 0 at the ends
 unfoldable pub next_gap : List MeshNode → ℕ → ℕ
-next_gap n i = or_zero (least (λ b j. after (nth n i) i b j) (λ b. b.y - (nth n i).y) n 0)
+next_gap n i = unwrap_or (least (λ b j. after (nth n i) i b j) (λ b. b.y - (nth n i).y) n 0) 0
 
 unfoldable pub prev_gap : List MeshNode → ℕ → ℕ
-prev_gap n i = or_zero (least (λ b j. after b j (nth n i) i) (λ b. (nth n i).y - b.y) n 0)
+prev_gap n i = unwrap_or (least (λ b j. after b j (nth n i) i) (λ b. (nth n i).y - b.y) n 0) 0
 
 -- x and y exchanged: rows for columns
 abbrev pub turned : MeshNode → MeshNode
@@ -250,7 +244,7 @@ is_last n m i = same_place (nth n i) m && not (has same_place (drop (suc i) n) m
 -- the most that a cell asks for the node i on its edge's midpoint: half the cell's size, so the size in half ticks
 unfoldable pub hung : Way → List MeshNode → ℕ → List NetCell → ℕ
 hung w n i [] = 0
-hung w n i (c ∷ cs) = elim (is_last n (hangs_at w n c) i) [ true ↦ max (size_of w (box_of n c)) (hung w n i cs) | false ↦ hung w n i cs ]
+hung w n i (c ∷ cs) = if is_last n (hangs_at w n c) i then max (size_of w (box_of n c)) (hung w n i cs) else hung w n i cs
 
 unfoldable pub extent : Way → List MeshNode → List NetCell → ℕ → ℕ
 extent w n cs i = max (gap w n i) (hung w n i cs)
@@ -263,14 +257,11 @@ lesser_of w n cs e = min (extent w n cs e.from) (extent w n cs e.to)
 abbrev pub flat : List MeshNode → Edge → Bool
 flat n e = (nth n e.from).y == (nth n e.to).y
 
-abbrev pub apart : ℕ → ℕ → ℕ
-apart a b = max a b - min a b
-
 unfoldable pub face : List MeshNode → List NetCell → Edge → ℕ
-face n cs e = elim (flat n e) [ true ↦ lesser_of up n cs e + lesser_of down n cs e | false ↦ lesser_of right n cs e + lesser_of left n cs e ]
+face n cs e = if flat n e then lesser_of up n cs e + lesser_of down n cs e else lesser_of right n cs e + lesser_of left n cs e
 
 unfoldable pub distance : List MeshNode → Edge → ℕ
-distance n e = elim (flat n e) [ true ↦ apart (nth n e.from).x (nth n e.to).x | false ↦ apart (nth n e.from).y (nth n e.to).y ]
+distance n e = if flat n e then abs_diff (nth n e.from).x (nth n e.to).x else abs_diff (nth n e.from).y (nth n e.to).y
 
 abbrev pub is_side : NetCell → ℕ → ℕ → Bool
 is_side c a b =
@@ -281,12 +272,12 @@ is_side c a b =
 -- the sheet resistance of the first cell with that pair
 unfoldable pub sheet_of : List NetCell → ℕ → ℕ → Option Float
 sheet_of [] a b = None
-sheet_of (c ∷ cs) a b = elim (is_side c a b) [ true ↦ Some c.sheet | false ↦ sheet_of cs a b ]
+sheet_of (c ∷ cs) a b = if is_side c a b then Some c.sheet else sheet_of cs a b
 
 -- of the conductance so far, the face, the distance and the sheet resistance
 abbrev pub weight : Float → ℕ → ℕ → Option Float → Float
 weight g f d None = g
-weight g f d (Some s) = elim (f == 0) [ true ↦ g | false ↦ halves f ÷ (s · num d) ]
+weight g f d (Some s) = if f == 0 then g else halves f ÷ (s · num d)
 
 unfoldable pub weighed : List MeshNode → List NetCell → Edge → Edge
 weighed n cs e = record { from = e.from; to = e.to; conductance = weight e.conductance (face n cs e) (distance n e) (sheet_of cs e.from e.to) }
@@ -324,15 +315,6 @@ pub record Ends (k : ℕ) (e : Edge) : Type 0 where
   pub from : e.from < k
   pub to : e.to < k
 
--- how many leaves a table has, and the pieces
-abbrev pub one_if : Bool → ℕ
-one_if true = 1
-one_if false = 0
-
+-- how many leaves a table has
 unfoldable pub leaf_count : List Cell → ℕ
-leaf_count [] = 0
-leaf_count (c ∷ cs) = one_if (is_none c.kids) + leaf_count cs
-
-unfoldable pub leaf_sum : List Piece → ℕ
-leaf_sum [] = 0
-leaf_sum (q ∷ qs) = length q.leaves + leaf_sum qs
+leaf_count cs = count_by (λ c. is_none c.kids) cs

@@ -10,11 +10,7 @@ use table::Table;
 pub fn polygons_below(table: &Table, count: usize) -> bool
     ensures { result ≡ polygons_below count (cells table.now) }
 {
-    let mut below = true;
-    for id in 0..table.head.count {
-        below &= table.polygon(id) < count as u64;
-    }
-    below
+    (0..table.head.count).all(|id| table.polygon(id) < count as u64)
 }
 
 impl Polygons<'_> {

@@ -23,7 +23,7 @@ use Rattle.net.specs.Laws.{HasArea, IsWithin, widest}
 use Rattle.net.proofs.All as Each
 use Rattle.net.proofs.Faces.{Within}
 use Rattle.net.proofs.Leaves.{all-of, leaves-pieces, BoxWithin, nodes-within}
-use Rattle.net.proofs.Sound.{edges-ends, patches-cornered, nodes-count, patches-count, leaves-count}
+use Rattle.net.proofs.Sound.{leaf_count-cons, edges-ends, patches-cornered, nodes-count, patches-count, leaves-count}
 use Rattle.places.proofs.Within.{cells_are_within}
 use Rattle.bare_net.specs.declared.Counts.{Counts}
 use Rattle.bare_net.specs.Nets.{counted as counts_of}
@@ -42,10 +42,10 @@ pub record Begin (net : Net.Net) (old new : Rows) (counts : Counts) : Type 0 whe
 leaf_count-map : (f : ℕ → Cell) (ids : List ℕ) → leaf_count (map f ids) ≡ length (filter (λ i. is_none (f i).kids) ids)
 unfolding leaf_count
 leaf_count-map f [] = refl
-leaf_count-map f (i ∷ ids) = by (is_none (f i).kids) (leaf_count-map f ids)
+leaf_count-map f (i ∷ ids) = leaf_count-cons (f i) (map f ids) ∙ by (is_none (f i).kids) (leaf_count-map f ids)
   where
     by : (b : Bool) → leaf_count (map f ids) ≡ length (filter (λ i. is_none (f i).kids) ids)
-        → Net.one_if b + leaf_count (map f ids) ≡ length (cond b (i ∷ filter (λ i. is_none (f i).kids) ids) (filter (λ i. is_none (f i).kids) ids))
+        → cond b 1 0 + leaf_count (map f ids) ≡ length (cond b (i ∷ filter (λ i. is_none (f i).kids) ids) (filter (λ i. is_none (f i).kids) ids))
     by true h = omega arith
     by false h = omega arith
 

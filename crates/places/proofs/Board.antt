@@ -1,5 +1,5 @@
 -- The leaves of the net's pieces, in order, are the table's leaves by polygon, then id.
-use Rattle.std.proofs.Common.{◌≡◌, refl, sym, ap, ap₂, ◌∙◌, subst, Bool, true, false, ◌&&◌, cond, List, [], ◌∷◌, ◌++◌, map, ℕ, zero, suc, ◌+◌, ◌<◌, ◌≤◌, arith, add-one, eqb, ℤ, Float, length, get_or, filter, eqb-true, ne_eqb, All}
+use Rattle.std.proofs.Common.{◌≡◌, refl, sym, ap, ap₂, ◌∙◌, subst, Bool, true, false, ◌&&◌, cond, List, [], ◌∷◌, ◌++◌, map, ℕ, zero, suc, ◌+◌, ◌<◌, ◌≤◌, arith, add-one, eqb, ℤ, Float, length, get_or, filter, eqb-true, ne_eqb, All, if◌then◌else◌}
 use Rattle.std.specs.List.{range_with_len, flat_map}
 use Rattle.std.proofs.lemmas.List.{ext_get_or, map-append, length-map, get_or-map}
 use Rattle.std.proofs.lemmas.List.Elements.{All-nil, All-tail, All-append, All-filter, All-get_or, All-from_get_or}
@@ -14,6 +14,7 @@ use Rattle.table.proofs.Listed.{order_in-length}
 use Rattle.net_rows.specs.declared.rows.Polygons.{Polygons}
 use Rattle.net.specs.Net.{Poly, leaves_of, pieces}
 use Rattle.net.specs.Flat.{Leaf, leaf, leaves_from}
+use Rattle.net.proofs.Leaves.{leaves_of-cons}
 use Rattle.places.specs.Leaves as Entries
 use Rattle.places.specs.Leaves.{poly_at, polys_of, AreKnown, leaf_entry, entries_in, leaf_from, leaf_of, IsSound, AreSound}
 use Rattle.places.proofs.Within.{cell_within}
@@ -46,13 +47,15 @@ module _ (f : ℕ → Poly) where
       → map (leaf k (f k)) (leaves_of (map at ids) k) ≡ map (λ i. leaf_by (at i)) (filter (λ i. eqb (at i).polygon k) (filter (λ i. is_none (at i).kids) ids))
   unfolding leaves_of
   own at k [] = refl
-  own at k (i ∷ ids) = by (is_none (at i).kids) (eqb (at i).polygon k) refl (own at k ids)
+  own at k (i ∷ ids) =
+      ap (map (leaf k (f k))) (leaves_of-cons (at i) (map at ids) k)
+      ∙ by (is_none (at i).kids) (eqb (at i).polygon k) refl (own at k ids)
     where
       others : List ℕ
       others = filter (λ i. is_none (at i).kids) ids
 
       by : (a b : Bool) → eqb (at i).polygon k ≡ b → map (leaf k (f k)) (leaves_of (map at ids) k) ≡ map (λ i. leaf_by (at i)) (filter (λ i. eqb (at i).polygon k) others)
-          → ◌≡◌ {A = List Leaf} (map (leaf k (f k)) (elim (a && b) [ true ↦ (at i).box ∷ leaves_of (map at ids) k | false ↦ leaves_of (map at ids) k ]))
+          → ◌≡◌ {A = List Leaf} (map (leaf k (f k)) (if a && b then (at i).box ∷ leaves_of (map at ids) k else leaves_of (map at ids) k))
           (map (λ i. leaf_by (at i)) (filter (λ i. eqb (at i).polygon k) (cond a (i ∷ others) others)))
       by true true e h = rw e (ap₂ {C = List Leaf} (λ u w. u ∷ w) (ap (λ (j : ℕ). leaf j (f j) (at i).box) (sym (eqb-true (at i).polygon k e))) h)
       by true false e h = rw e h

@@ -1,5 +1,6 @@
 -- The numbers of the corners' nodes, and the row of nodes that is written from them.
 use Rattle.std.proofs.Common.{◌≡◌, refl, sym, ap, ap₂, ◌∙◌, append_assoc, true, false, ⊎_elim, List, [], ◌∷◌, ◌++◌, map, ℕ, zero, suc, ◌+◌, ◌-◌, ◌*◌, ◌<◌, ◌≤◌, arith, length, length-append, get_or, set, take, drop, eqb-true}
+use Rattle.std.specs.Prelude.{flat_map}
 use borrow.Author.Tests.{eqb-false}
 use Rattle.std.proofs.Math.Seq.{drop-cons}
 use Rattle.std.proofs.lemmas.List.{ext_get_or, length-map, get_or-map, map-append, get_or-take, get_or-drop, length-take-le, set-append_right}
@@ -7,7 +8,7 @@ use Rattle.std.proofs.Math.Seq.{take-append_seam}
 use Rattle.net_rows.specs.declared.rows.Node.{Node}
 use Rattle.net_rows.specs.Nodes.{in_ticks}
 use Rattle.net_rows.specs.Written.{written}
-use Rattle.net.specs.Net.{find, MeshNode, Piece, same_node, nth, nowhere, weld, each, nodes_from}
+use Rattle.net.specs.Net.{find, MeshNode, Piece, same_node, nth, nowhere, weld, nodes_from}
 use Rattle.net.specs.First.{key, first_of, is_new, rank, rank_in, news, number_by, Firsts}
 use Rattle.net.specs.Flat.{Leaf, corners_in, mids_in, flat_places, leaves_from}
 use Rattle.net.proofs.Flat.{flat-nodes}
@@ -79,19 +80,19 @@ module _ (P : List MeshNode) where
   pub nodes-old : (i : ℕ) → is_new fs i ≡ false → nodes_to (suc i) ≡ nodes_to i
   nodes-old i e = ap (λ l. map in_ticks (map (nth P) l)) (news-old fs i e)
 
-corners_of : (ls : List Leaf) → take (4 * length ls) (flat_places ls) ≡ each corners_in ls
+corners_of : (ls : List Leaf) → take (4 * length ls) (flat_places ls) ≡ flat_map corners_in ls
 unfolding flat_places
-corners_of ls = ap (λ n. take n (each corners_in ls ++ each mids_in ls)) (sym (corners-length ls)) ∙ take-append_seam (each corners_in ls) (each mids_in ls)
+corners_of ls = ap (λ n. take n (flat_map corners_in ls ++ flat_map mids_in ls)) (sym (corners-length ls)) ∙ take-append_seam (flat_map corners_in ls) (flat_map mids_in ls)
 
 -- the new ones of all corners are the nodes
-pub corners_new : (ls : List Leaf) → map (nth (flat_places ls)) (news (firsts (flat_places ls)) (4 * length ls)) ≡ weld same_node [] (each corners_in ls)
+pub corners_new : (ls : List Leaf) → map (nth (flat_places ls)) (news (firsts (flat_places ls)) (4 * length ls)) ≡ weld same_node [] (flat_map corners_in ls)
 corners_new ls =
     let P = flat_places ls in
     let n = places-length ls in
     sym (welded same_node nowhere P (firsts P) (firsts-keyed P) (4 * length ls) (omega arith)) ∙ ap (weld same_node []) (corners_of ls)
 
 -- the net's
-pub nodes-from : (qs : List Piece) → nodes_from [] qs ≡ weld same_node [] (each corners_in (leaves_from qs 0))
+pub nodes-from : (qs : List Piece) → nodes_from [] qs ≡ weld same_node [] (flat_map corners_in (leaves_from qs 0))
 nodes-from qs = let ls = leaves_from qs 0 in flat-nodes qs (firsts (flat_places ls)) (firsts-keyed (flat_places ls)) ∙ corners_new ls
 
 -- ---- the corners' first places

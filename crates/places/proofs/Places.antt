@@ -1,9 +1,10 @@
 -- The places of the leaves: what stands at each, and the first place of each node.
 use Rattle.std.proofs.Common.{◌≡◌, refl, sym, ap, ◌∙◌, List, ◌++◌, ℕ, zero, suc, ◌+◌, ◌*◌, ◌/◌, ◌%◌, ◌<◌, arith, length, get_or, length-append, get_or-append-add}
+use Rattle.std.specs.Prelude.{flat_map}
 use lib.ListN.{get_or-append}
 use Rattle.std.proofs.lemmas.List.{length-map}
 use Rattle.cell.specs.Boxes.{Box}
-use Rattle.net.specs.Net.{each, Poly, nth, nowhere, node_at, corners_at}
+use Rattle.net.specs.Net.{Poly, nth, nowhere, node_at, corners_at}
 use Rattle.net.specs.First.{mids_at}
 use Rattle.net.specs.Flat.{Leaf, leaf_at, no_leaf, place_x, place_y, corners_in, mids_in, flat_places}
 use Rattle.net.proofs.Board.{each-length, each_at}
@@ -26,12 +27,12 @@ middle-place p r (suc (suc (suc zero))) h = refl
 middle-place p r (suc (suc (suc (suc s)))) h = absurd (omega arith)
 
 module _ (ls : List Leaf) where
-  pub corners-length : length (each corners_in ls) ≡ 4 * length ls
+  pub corners-length : length (flat_map corners_in ls) ≡ 4 * length ls
   corners-length = each-length corners_in (λ r. refl) ls
 
   pub places-length : length (flat_places ls) ≡ 8 * length ls
   unfolding flat_places
-  places-length = omega (arith, length-append (each corners_in ls) (each mids_in ls), corners-length, each-length mids_in (λ r. refl) ls)
+  places-length = omega (arith, length-append (flat_map corners_in ls) (flat_map mids_in ls), corners-length, each-length mids_in (λ r. refl) ls)
 
   quarters : (i : ℕ) → i ≡ 4 * (i / 4) + i % 4
   quarters i = omega arith
@@ -40,17 +41,17 @@ module _ (ls : List Leaf) where
   unfolding flat_places
   corner_at i h =
       let c = corners-length in
-      sym (get_or-append (each corners_in ls) (each mids_in ls) nowhere i (omega arith)
-      ∙ ap (nth (each corners_in ls)) (quarters i)
+      sym (get_or-append (flat_map corners_in ls) (flat_map mids_in ls) nowhere i (omega arith)
+      ∙ ap (nth (flat_map corners_in ls)) (quarters i)
       ∙ each_at corners_in (λ r. refl) ls (i / 4) (i % 4) no_leaf nowhere (omega arith) (omega arith)
       ∙ corner-place (leaf_at ls (i / 4)).poly (leaf_at ls (i / 4)).box (i % 4) (omega arith))
 
   pub middle_at : (i : ℕ) → i < 4 * length ls → place_at ls (i / 4) (i % 4 + 4) ≡ nth (flat_places ls) (4 * length ls + i)
   unfolding flat_places
   middle_at i h =
-      sym (ap (λ (n : ℕ). nth (each corners_in ls ++ each mids_in ls) (n + i)) (sym corners-length)
-      ∙ get_or-append-add (each corners_in ls) (each mids_in ls) i nowhere
-      ∙ ap (nth (each mids_in ls)) (quarters i)
+      sym (ap (λ (n : ℕ). nth (flat_map corners_in ls ++ flat_map mids_in ls) (n + i)) (sym corners-length)
+      ∙ get_or-append-add (flat_map corners_in ls) (flat_map mids_in ls) i nowhere
+      ∙ ap (nth (flat_map mids_in ls)) (quarters i)
       ∙ each_at mids_in (λ r. refl) ls (i / 4) (i % 4) no_leaf nowhere (omega arith) (omega arith)
       ∙ middle-place (leaf_at ls (i / 4)).poly (leaf_at ls (i / 4)).box (i % 4) (omega arith))
 

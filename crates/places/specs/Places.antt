@@ -1,6 +1,6 @@
 -- The places on the leaves, numbered as nodes. Definitions only.
-use Rattle.std.specs.Prelude.{ℕ, ◌*◌, List, [], ◌∷◌, map, length, take}
-use Rattle.net.specs.Net.{MeshNode, find, weld, each, same_node, node_at, nth}
+use Rattle.std.specs.Prelude.{ℕ, ◌*◌, List, [], ◌∷◌, map, length, take, flat_map}
+use Rattle.net.specs.Net.{MeshNode, find, weld, same_node, node_at, nth}
 use Rattle.net.specs.First.{rank}
 use Rattle.net.specs.Flat as Flat
 use Rattle.net.specs.Flat.{flat_places, corners_in, place_x, place_y}
@@ -38,4 +38,4 @@ numbers_of places n = let fs = firsts places in map (rank fs) (take n fs)
 
 -- the nodes of the net: each corner that is not yet one
 abbrev pub nodes_in : Leaves → List MeshNode
-nodes_in b = weld same_node [] (each corners_in (leaves_in b))
+nodes_in b = weld same_node [] (flat_map corners_in (leaves_in b))

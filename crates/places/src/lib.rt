@@ -58,8 +58,8 @@ pub fn list_leaves(table: &Table, ids: &mut [u64], entries: &mut [LeafEntry])
     ensures { entries.new ≡ entries_in table.now.row.now table.now.head }
 {
     table.list_order(ids);
-    for v in 0..entries.len() {
-        entries[v] = leaf_entry(table, ids[v] as usize);
+    for (v, entry) in entries.iter_mut().enumerate() {
+        *entry = leaf_entry(table, ids[v] as usize);
     }
 }
 

@@ -141,8 +141,8 @@ impl Leaves<'_> {
         ensures { nodes.new ≡ written (map in_ticks (nodes_in self.now)) nodes.old }
     {
         let mut count = 0;
-        for i in 0..numbers.len() {
-            if numbers[i] == count as u64 {
+        for (i, number) in numbers.iter().enumerate() {
+            if *number == count as u64 {
                 nodes[count] = self.place(i).in_ticks();
                 count += 1;
             }
@@ -168,7 +168,7 @@ impl Entries<5> for Leaves<'_> {
 }
 
 // First places become the numbers of their nodes: how many places before the first one are their own first. Returns how
-// many are.
+// many are. By index: a number is read at another place of the row that is written.
 #[tactic(auto, unfolding(net::specs::First::rank_in))]
 fn number_firsts(row: &mut [u64]) -> usize
     requires { Firsts row.old }

@@ -11,6 +11,7 @@ use Rattle.record.specs.declared.board.Limits.{Limits}
 use Rattle.record.specs.Board.{Entry, Point, Polygon, is_above, layer, entry, coordinate, point, sheet_low, sheet_high, polygon, limits_of, polygon_list}
 use Rattle.record.specs.declared.board.Version.TheVariants.{One}
 use Rattle.record.specs.Rows.{rings}
+use Rattle.record.specs.Walks.{HasRoom}
 
 -- a read that comes to a value with a fact
 pub ok_and : {A : Type 0} (r : Result A Refusal) (P : A → Type 0) → IsOkAnd r P → (x : A) × (r ≡ Ok x) × P x
@@ -32,6 +33,13 @@ module _ {A S : Type 0} (item : S → Codec A) (leaves : A → S) (most : ℕ) (
 
   pub list_known : {xs : List A} {end : Cursor} → many item leaves seen n d ≡ Ok (xs, end) → (chained w16 most item leaves seen).reading old ≡ Ok (xs, end)
   list_known read_items = e ∙ ap Ok (same_read (many item leaves seen n d) items_known read_items)
+
+-- a row with room for the list has as many places as the list's number says
+pub list_room : {A S B : Type 0} (item : S → Codec A) (leaves : A → S) (most : ℕ) (seen : S) (old : Cursor) (row : List B) → IsOkAnd ((chained w16 most item leaves seen).reading old) (HasRoom row)
+    → {n : ℕ} {d : Cursor} → number w16 old ≡ Ok (n, d) → n ≤ length row
+list_room item leaves most seen old row fits {n} {d} read_count =
+    let list = ok_and ((chained w16 most item leaves seen).reading old) (HasRoom row) fits in
+    omega (arith, list.2, many_length item leaves seen n d (items_known item leaves most seen old list.1 read_count))
 
 -- ---- entries
 

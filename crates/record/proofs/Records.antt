@@ -9,7 +9,7 @@ use Rattle.record.specs.Board.{Board, limits_of, polygon, body, record_of}
 use Rattle.record.specs.Rows.{Rows}
 use Rattle.record.specs.Puts.{entry_bytes, polygon_bytes, settings_bytes, lists_bytes}
 use Rattle.record.specs.Writing.{entries_of, count_of, polygons_of, add_up, board_of, size_of}
-use Rattle.record.proofs.Stores.{bytes-length}
+use Rattle.fields.proofs.Stores.{bytes-length}
 use Rattle.record.proofs.Turns.{entries-long, polygons-long, splits-long}
 
 -- the lists of a board

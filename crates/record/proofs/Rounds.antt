@@ -14,7 +14,7 @@ use Rattle.record.specs.declared.board.Version.TheVariants.{One}
 use Rattle.record.specs.declared.board.Limits.{Limits}
 use Rattle.record.specs.Board.{Polygon, Board, version_of, limits_of, as_default, default_level, level, settings, is_above, layer, entry, layer_list, coordinate, point, sheet_low, sheet_high, polygon, polygon_list, split_list, body, board, record_of, is_in_range}
 use Rattle.record.specs.Puts.{entry_bytes, polygon_bytes, settings_bytes}
-use Rattle.record.proofs.Stores.{bytes-length}
+use Rattle.fields.proofs.Stores.{bytes-length}
 use Rattle.record.proofs.Turns.{each-length, entry-long, polygon-long, splits-long}
 use Rattle.record.proofs.Records.{board_lists, spelled, settings-long}
 

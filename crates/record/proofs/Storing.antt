@@ -1,15 +1,11 @@
 -- Items stored one after the other.
-use Rattle.std.proofs.Common.{◌≡◌, ℕ, ◌+◌, length, List, [], ◌∷◌, ◌++◌, map, set, ℤ, refl, sym, ap, ◌∙◌, suc, add-zero, add-suc, suc-add, zero-add, append_assoc, append-nil, length-append}
-use Rattle.std.proofs.lemmas.List.{map-append, length-map}
-use Rattle.std.proofs.lemmas.List.Edits.{sets}
+use Rattle.std.proofs.Common.{◌≡◌, ℕ, suc, ◌+◌, ◌-◌, ◌≤◌, arith, length, take, drop, List, [], ◌∷◌, ◌++◌, map, set, ℤ, refl, sym, ap, ◌∙◌, zero-add, append_assoc, append-nil, length-append}
+use Rattle.std.proofs.lemmas.List.{map-append, length-map, take-append-drop, length-take, drop-set-lt, length-drop, drop-drop}
+use Rattle.std.proofs.Math.Seq.{take-set-lt}
+use Rattle.std.proofs.lemmas.List.Edits.{sets, sets-eq}
+use Rattle.fields.proofs.Stores.{sets_append}
 use Rattle.record.specs.Board.{Polygon}
 use Rattle.record.specs.Rows.{point_row, rings}
-
--- one list behind another
-pub sets_append : {A : Type 0} (row : List A) (at : ℕ) (xs ys : List A) → sets row at (xs ++ ys) ≡ sets (sets row at xs) (at + length xs) ys
-sets_append row at [] ys = rw (add-zero at) refl
-sets_append row at (x ∷ xs) ys =
-    sets_append (set row at x) (suc at) xs ys ∙ ap (λ k. sets (sets (set row at x) (suc at) xs) k ys) (suc-add at (length xs) ∙ sym (add-suc at (length xs)))
 
 -- one item more
 pub stored_next : {A B : Type 0} (view : A → B) (row : List B) (first : ℕ) (front : List A) (x : A) {at : ℕ} → at ≡ first + length front
@@ -17,6 +13,27 @@ pub stored_next : {A B : Type 0} (view : A → B) (row : List B) (first : ℕ) (
 stored_next view row first front x here =
     ap (λ k. set (sets row first (map view front)) k (view x)) (here ∙ ap (λ k. first + k) (sym (length-map front view)))
     ∙ sym (ap (sets row first) (map-append view front (x ∷ [])) ∙ sets_append row first (map view front) (view x ∷ []))
+
+-- a list stored in a row's front, which was handed out
+pub stored_front : {B : Type 0} (row : List B) (n i : ℕ) (xs : List B) → i + length xs ≤ n → sets (take n row) i xs ++ drop n row ≡ sets row i xs
+stored_front row n i [] h = take-append-drop n row
+stored_front row n i (x ∷ xs) h =
+    let in_front : sets (take n (set row i x)) (suc i) xs ++ drop n (set row i x) ≡ sets (set row i x) (suc i) xs = stored_front (set row i x) n (suc i) xs (omega arith) in
+    rw (← take-set-lt n row i x (omega arith), ← drop-set-lt n row i x (omega arith)) in_front
+
+pub part_long : {B : Type 0} (row : List B) (first n : ℕ) → first + n ≤ length row → length (take (first + n - first) (drop first row)) ≡ n
+part_long row first n room = omega (arith, room, length-drop first row, length-take (first + n - first) (drop first row))
+
+-- and in a part of it
+pub stored_part : {B : Type 0} (row ys : List B) (first n : ℕ) (xs : List B) → length xs ≡ n → first + n ≤ length row → ys ≡ sets (take (first + n - first) (drop first row)) 0 xs
+    → take first row ++ (ys ++ drop (first + n - first) (drop first row)) ≡ sets row first xs
+stored_part {B} row ys first n xs long room is =
+    let rest : sets (take (first + n - first) (drop first row)) 0 xs ++ drop (first + n - first) (drop first row) ≡ sets (drop first row) 0 xs = stored_front (drop first row) (first + n - first) 0 xs (omega (arith, long)) in
+    let behind : sets (drop first row) 0 xs ≡ xs ++ drop (0 + length xs) (drop first row) = sets-eq xs (drop first row) 0 (omega (arith, long, room, length-drop first row)) in
+    let dropped : drop (0 + length xs) (drop first row) ≡ drop (first + length xs) row = ap (λ (k : ℕ). drop k (drop first row)) (zero-add (length xs)) ∙ drop-drop (length xs) first row in
+    ap (λ (z : List B). take first row ++ (z ++ drop (first + n - first) (drop first row))) is
+    ∙ ap (λ (z : List B). take first row ++ z) (rest ∙ behind ∙ ap (λ (z : List B). xs ++ z) dropped)
+    ∙ sym (sets-eq xs row first (omega (arith, long, room)) ∙ append_assoc (take first row) xs (drop (first + length xs) row))
 
 -- one polygon more: its points, and how many there are then
 pub rings_next : (front : List Polygon) (p : Polygon) → rings (front ++ p ∷ []) ≡ rings front ++ p.points

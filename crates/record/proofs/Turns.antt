@@ -1,29 +1,33 @@
 -- One polygon more: what its stores leave to be put.
-use Rattle.std.proofs.Common.{ℕ, suc, ◌+◌, ◌*◌, ◌-◌, ◌≤◌, ◌<◌, ◌≡◌, refl, sym, ap, ◌∙◌, Bool, true, false, ◌&&◌, List, [], ◌∷◌, ◌++◌, append_assoc, mul-suc, mul-zero, add-one, arith, leb, eqb, ℤ, Float, length, get_or, take, drop, length-append, length-drop, drop-cons, length-take-le, leb-true, le-leb, eqb-true, w64}
+use Rattle.std.proofs.Common.{ℕ, ◌+◌, ◌*◌, ◌-◌, ◌≤◌, ◌<◌, ◌≡◌, refl, sym, ap, ◌∙◌, Bool, true, false, ◌&&◌, List, [], ◌∷◌, ◌++◌, append_assoc, mul-suc, mul-zero, add-one, arith, leb, eqb, ℤ, Float, length, get_or, take, drop, length-append, length-drop, drop-cons, length-take-le, leb-true, le-leb, eqb-true, w64}
 use mathlib.Core.Bool.{false≢true}
-use lib.Ieee.{nan}
 use lib.ListN.{length-map}
 use lib.Seq.{sets}
 use borrow.Author.Tests.{lt-leb}
 use Rattle.record.specs.Board.{Entry, Polygon, Point}
 use Rattle.std.specs.List.{flat_map}
 use Rattle.std.specs.Int.{bytes_high_first, cast_unsigned}
-use Rattle.record.specs.Puts.{entry_bytes, point_bytes, polygon_bytes}
+use Rattle.record.specs.Puts.{entry_bytes, point_bytes, polygon_bytes, head_bytes}
 use Rattle.record.specs.Writing.{entry_of, entries_of, point_of, ring_of, sheet_bits, count_of, polygons_of, add_up}
-use Rattle.record.proofs.Stores.{bytes-length, sets_then, bytes_then, mapped-turn, mapped-end}
+use Rattle.fields.proofs.Stores.{bytes-length, sets_then, bytes_then}
+use Rattle.record.proofs.Stores.{mapped-turn, mapped-end}
 
 pub and_both : (a b : Bool) → (a && b) ≡ true → (a ≡ true) × (b ≡ true)
 and_both true b p = (refl, p)
 and_both false b p = absurd (false≢true p)
 
-pub count_fits : (ps : List (List ℕ)) (i m : ℕ) → i < length ps → add_up (drop i ps) m ≡ true
-    → (count_of (get_or ps i []) ≤ m) × (add_up (drop (i + 1) ps) (m - count_of (get_or ps i [])) ≡ true)
+pub none : {A : Type 0} (l : List A) → length l ≡ 0 → l ≡ []
+none [] e = refl
+none (x ∷ l) e = absurd (omega arith)
+
+pub count_fits : (p : List ℕ) (ps : List (List ℕ)) (m : ℕ) → add_up (p ∷ ps) m ≡ true → (count_of p ≤ m) × (add_up ps (m - count_of p) ≡ true)
 unfolding add_up
-count_fits ps i m h e =
-    let p = get_or ps i [] in
-    let q : (leb (count_of p) m && add_up (drop (suc i) ps) (m - count_of p)) ≡ true = ap (λ l. add_up l m) (sym (drop-cons ps i [] h)) ∙ e in
-    let b = and_both (leb (count_of p) m) (add_up (drop (suc i) ps) (m - count_of p)) q in
-    (leb-true (count_of p) m b.0, ap (λ k. add_up (drop k ps) (m - count_of p)) (add-one i) ∙ b.1)
+count_fits p ps m e = let b = and_both (leb (count_of p) m) (add_up ps (m - count_of p)) e in (leb-true (count_of p) m b.0, b.1)
+
+pub none_left : (ps : List (List ℕ)) (m : ℕ) → ps ≡ [] → add_up ps m ≡ true → m ≡ 0
+unfolding add_up
+none_left [] m e h = eqb-true m 0 h
+none_left (p ∷ ps) m e h = absurd cc
 
 pub each-length : {A : Type 0} (f : A → List ℕ) (k : ℕ) → ((x : A) → length (f x) ≡ k) → (xs : List A) → length (flat_map f xs) ≡ k * length xs
 each-length f k h [] = sym (mul-zero k)
@@ -48,47 +52,43 @@ head-long a b c d =
       bytes-length 2 d,
     )
 
-module _ (ps : List (List ℕ)) (rs : List Float) (qs : List (List ℤ)) (i at n : ℕ) (h : i < length ps) (same : length ps ≡ length rs)
-    (counted : n ≡ count_of (get_or ps i [])) (room : n ≤ length qs) where
+-- the polygon of a turn: its head and then its ring, and what is left is put behind them
+module _ (p : List ℕ) (r : Float) (qs : List (List ℤ)) (room : count_of p ≤ length qs) where
   here : Polygon
-  here = record { layer = get_or (get_or ps i []) 0 0; component = get_or (get_or ps i []) 1 0; sheet = sheet_bits (get_or rs i nan); points = ring_of (take n qs) }
+  here = record { layer = get_or p 0 0; component = get_or p 1 0; sheet = sheet_bits r; points = ring_of (take (count_of p) qs) }
 
-  next : polygons_of (drop i ps) (drop i rs) qs ≡ here ∷ polygons_of (drop (i + 1) ps) (drop (i + 1) rs) (drop n qs)
-  unfolding polygons_of here
-  next =
-      ap (λ l. polygons_of l (drop i rs) qs) (drop-cons ps i [] h)
-      ∙ ap (λ l. polygons_of (get_or ps i [] ∷ drop (suc i) ps) l qs) (drop-cons rs i nan (omega arith))
-      ∙ rw (← counted, add-one i) refl
-
-  -- the polygon of a turn: its head and then its ring, and what is left is put behind them
-  pub polygon-turn : (out head ring : List ℕ)
-      → head ≡ sets out at (bytes_high_first 2 (get_or (get_or ps i []) 0 0) ++ (bytes_high_first 4 (get_or (get_or ps i []) 1 0) ++ (bytes_high_first 8 (sheet_bits (get_or rs i nan)) ++ bytes_high_first 2 n)))
-      → ring ≡ sets head (at + 16) (flat_map point_bytes (ring_of (take n qs)))
-      → sets ring (at + (16 + 16 * n)) (flat_map polygon_bytes (polygons_of (drop (i + 1) ps) (drop (i + 1) rs) (drop n qs)))
-      ≡ sets out at (flat_map polygon_bytes (polygons_of (drop i ps) (drop i rs) qs))
+  points-long : length here.points ≡ count_of p
   unfolding here
-  polygon-turn out head ring p r =
-      let a = get_or (get_or ps i []) 0 0 in
-      let b = get_or (get_or ps i []) 1 0 in
-      let c = sheet_bits (get_or rs i nan) in
-      let t = bytes_high_first 2 a ++ (bytes_high_first 4 b ++ (bytes_high_first 8 c ++ bytes_high_first 2 n)) in
+  points-long = length-map (take (count_of p) qs) _ ∙ length-take-le (count_of p) qs room
+
+  parts : head_bytes p (sheet_bits r) ++ flat_map point_bytes here.points ≡ polygon_bytes here
+  unfolding here
+  parts =
       let u = flat_map point_bytes here.points in
-      let l : length here.points ≡ n = length-map (take n qs) _ ∙ length-take-le n qs room in
-      let w : t ++ u ≡ polygon_bytes here = regroup (bytes_high_first 2 a) (bytes_high_first 4 b) (bytes_high_first 8 c) (bytes_high_first 2 n) u ∙ ap (λ k. bytes_high_first 2 a ++ (bytes_high_first 4 b ++ (bytes_high_first 8 c ++ (bytes_high_first 2 k ++ u)))) (sym l) in
-      let v : ring ≡ sets out at (polygon_bytes here) = sets_then out at (at + 16) t u (omega (arith, head-long a b c n)) p r ∙ ap (sets out at) w in
-      let z : 16 + 16 * n ≡ length (polygon_bytes here) =
-      omega (arith, ap length w, length-append t u, head-long a b c n, each-length point_bytes 16 point-long here.points, l) in
-      let rest = flat_map polygon_bytes (polygons_of (drop (i + 1) ps) (drop (i + 1) rs) (drop n qs)) in
-      sets_then out at (at + (16 + 16 * n)) (polygon_bytes here) rest (ap (λ k. at + k) z) v refl ∙ ap (λ x. sets out at (flat_map polygon_bytes x)) (sym next)
+      regroup (bytes_high_first 2 (get_or p 0 0)) (bytes_high_first 4 (get_or p 1 0)) (bytes_high_first 8 (sheet_bits r)) (bytes_high_first 2 (count_of p)) u
+      ∙ ap (λ k. bytes_high_first 2 (get_or p 0 0) ++ (bytes_high_first 4 (get_or p 1 0) ++ (bytes_high_first 8 (sheet_bits r) ++ (bytes_high_first 2 k ++ u)))) (sym points-long)
 
-nil : {A : Type 0} (l : List A) → length l ≡ 0 → l ≡ []
-nil [] e = refl
-nil (x ∷ l) e = absurd (omega arith)
+  pub polygon-turn : (ps : List (List ℕ)) (rs : List Float) (at : ℕ) (out head ring : List ℕ)
+      → head ≡ sets out at (head_bytes p (sheet_bits r))
+      → ring ≡ sets head (at + 16) (flat_map point_bytes (ring_of (take (count_of p) qs)))
+      → sets ring (at + (16 + 16 * count_of p)) (flat_map polygon_bytes (polygons_of ps rs (drop (count_of p) qs)))
+      ≡ sets out at (flat_map polygon_bytes (polygons_of (p ∷ ps) (r ∷ rs) qs))
+  unfolding here polygons_of
+  polygon-turn ps rs at out head ring first second =
+      let t = head_bytes p (sheet_bits r) in
+      let u = flat_map point_bytes here.points in
+      let long = head-long (get_or p 0 0) (get_or p 1 0) (sheet_bits r) (count_of p) in
+      let v : ring ≡ sets out at (polygon_bytes here) = sets_then out at (at + 16) t u (omega (arith, long)) first second ∙ ap (sets out at) parts in
+      let z : 16 + 16 * count_of p ≡ length (polygon_bytes here) =
+      omega (arith, ap length parts, length-append t u, long, each-length point_bytes 16 point-long here.points, points-long) in
+      sets_then out at (at + (16 + 16 * count_of p)) (polygon_bytes here) (flat_map polygon_bytes (polygons_of ps rs (drop (count_of p) qs)))
+      (ap (λ k. at + k) z) v refl
 
-pub polygons-end : (ps : List (List ℕ)) (rs : List Float) (qs : List (List ℤ)) (i at : ℕ) (out : List ℕ) → length ps ≤ i
-    → sets out at (flat_map polygon_bytes (polygons_of (drop i ps) rs qs)) ≡ out
+pub none_to_put : (out : List ℕ) (at : ℕ) (ps : List (List ℕ)) (rs : List Float) (qs : List (List ℤ)) → ps ≡ []
+    → sets out at (flat_map polygon_bytes (polygons_of ps rs qs)) ≡ out
 unfolding polygons_of
-polygons-end ps rs qs i at out h = ap (λ l. sets out at (flat_map polygon_bytes (polygons_of l rs qs))) (nil (drop i ps) (length-drop i ps ∙ omega arith))
+none_to_put out at [] rs qs e = refl
+none_to_put out at (p ∷ ps) rs qs e = absurd cc
 
 -- ---- counts that add up
 
@@ -103,7 +103,7 @@ module _ (ps : List (List ℕ)) (i m : ℕ) where
 
   pub add_end : length ps ≤ i → add_up (drop i ps) m ≡ eqb m 0
   unfolding add_up
-  add_end h = ap (λ x. add_up x m) (nil (drop i ps) (length-drop i ps ∙ omega arith))
+  add_end h = ap (λ x. add_up x m) (none (drop i ps) (length-drop i ps ∙ omega arith))
 
 -- ---- lengths
 

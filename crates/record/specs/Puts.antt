@@ -1,6 +1,6 @@
 -- The bytes of the parts of a record, as they are put in place. All of this is internal: proofs/Records.antt has that
 -- they are what the fields' descriptions spell.
-use Rattle.std.specs.Prelude.{ℕ, List, ◌++◌, length, slice_index_or}
+use Rattle.std.specs.Prelude.{ℕ, ◌+◌, ◌*◌, List, ◌++◌, length, slice_index_or}
 use Rattle.std.specs.List.{flat_map}
 use Rattle.std.specs.Int.{w64, cast_unsigned, bytes_high_first}
 use Rattle.record.specs.declared.board.Settings.{Settings}
@@ -44,3 +44,11 @@ splits_bytes row = bytes_high_first 2 (length row) ++ flat_map (bytes_high_first
 
 abbrev pub lists_bytes : Rows → List ℕ
 lists_bytes rows = layers_bytes rows.layers ++ (polygons_bytes rows ++ splits_bytes rows.splits)
+
+-- how many bytes the polygons take, and all lists together
+abbrev pub polygons_size : Rows → ℕ
+polygons_size rows = 2 + 16 * length rows.polygons + 16 * length rows.points
+
+abbrev pub lists_size : Rows → ℕ
+lists_size rows =
+    6 + 10 * length rows.layers + 16 * length rows.polygons + 16 * length rows.points + 4 * length rows.splits

@@ -54,7 +54,8 @@ impl Version {
     }
 }
 
-/// The settings of a board.
+/// The settings of a board, as a record has them. build has a type of its own: it knows no default level, which `write`
+/// takes as 255, and neither crate stands on the other.
 #[derive(Clone, Copy, Debug, PartialEq, Eq)]
 pub struct Settings {
     pub level: u64,

@@ -16,23 +16,22 @@ pub fn copy_layers(reader: &mut Reader<'_>, row: &mut [[u64; 2]])
     ensures { Copies entry_row row.old 0 row.new reader.new ((layer_list (limits_of One)).reading reader.old) }
 {
     let count = usize::from(reader.known_u16());
-    for i in 0..count {
+    for entry in &mut row[..count] {
         let layer = reader.known_u16();
         let cell = reader.known_u64();
-        row[i] = [u64::from(layer), cell];
+        *entry = [u64::from(layer), cell];
     }
 }
 
-/// So many points of a ring, from `first` on.
-fn copy_ring(reader: &mut Reader<'_>, count: usize, row: &mut [[i64; 2]], first: usize)
-    requires sound { IsOk (times point count reader.old) }
-    requires room { first + count ≤ length row.old }
-    ensures { Copies point_row row.old first row.new reader.new (times point count reader.old) }
+/// The points of a ring, as many as the row takes.
+fn copy_ring(reader: &mut Reader<'_>, row: &mut [[i64; 2]])
+    requires { IsOk (times point (length row.old) reader.old) }
+    ensures { Copies point_row row.old 0 row.new reader.new (times point (length row.old) reader.old) }
 {
-    for i in 0..count {
+    for place in row {
         let x = reader.known_i64();
         let y = reader.known_i64();
-        row[first + i] = [x, y];
+        *place = [x, y];
     }
 }
 
@@ -57,8 +56,9 @@ pub fn copy_polygons(
         let size = reader.known_u16();
         heads[i] = [u64::from(layer), u64::from(component), u64::from(size)];
         sheets[i] = f64::from_bits(bits);
-        copy_ring(reader, usize::from(size), points, first);
-        first += usize::from(size);
+        let end = first + usize::from(size);
+        copy_ring(reader, &mut points[first..end]);
+        first = end;
     }
 }
 
@@ -68,7 +68,7 @@ pub fn copy_splits(reader: &mut Reader<'_>, row: &mut [u64])
     ensures { Copies (λ id. id) row.old 0 row.new reader.new (split_list.reading reader.old) }
 {
     let count = usize::from(reader.known_u16());
-    for i in 0..count {
-        row[i] = u64::from(reader.known_u32());
+    for split in &mut row[..count] {
+        *split = u64::from(reader.known_u32());
     }
 }

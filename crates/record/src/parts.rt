@@ -32,16 +32,7 @@ pub fn read_layer(reader: &mut Reader<'_>, last: Option<u16>) -> Result<u16, Ref
 {
     let mut ahead = reader.ahead();
     let layer = ahead.read_u16()?;
-    let rises = match last {
-        None => true,
-        Some(last) => last < layer,
-    };
-    if rises {
-        *reader = ahead;
-        Ok(layer)
-    } else {
-        Err(Refusal::OutOfRange(reader.offset()))
-    }
+    reader.accept(ahead, layer, last.is_none_or(|last| last < layer))
 }
 
 /// A coordinate in range.
@@ -52,10 +43,5 @@ pub fn read_coordinate(reader: &mut Reader<'_>) -> Result<i64, Refusal>
 {
     let mut ahead = reader.ahead();
     let value = ahead.read_i64()?;
-    if cell::ticks::in_range(value) {
-        *reader = ahead;
-        Ok(value)
-    } else {
-        Err(Refusal::OutOfRange(reader.offset()))
-    }
+    reader.accept(ahead, value, cell::ticks::in_range(value))
 }

@@ -1,80 +1,59 @@
-//! Bytes put in place, one part behind the other: each call answers the offset behind what it put. All of this is
-//! internal: each call asks that there is room.
+//! The parts of a record, written one behind the other. All of this is internal: each call asks that there is room.
 
-ghost use Rattle.std.specs.Prelude.{◌≡◌, ◌++◌, ◌+◌, ◌*◌, ◌≤◌, true, length};
+ghost use Rattle.std.specs.Prelude.{◌≡◌, ◌++◌, ◌+◌, ◌*◌, true, length};
 ghost use Rattle.std.specs.List.{flat_map};
 ghost use Rattle.std.specs.Int.{bytes_high_first};
-ghost use Rattle.std.proofs.lemmas.List.Edits.{sets};
+ghost use Rattle.fields.specs.Written.{Writes, HasRoom};
 ghost use Rattle.record.specs.Puts.{entry_bytes, point_bytes, head_bytes, settings_bytes};
 ghost use Rattle.record.specs.Puts.{layers_bytes, polygons_bytes, splits_bytes, lists_bytes};
+ghost use Rattle.record.specs.Puts.{polygons_size, lists_size};
 ghost use Rattle.record.specs.Lent.{lent_rows};
 ghost use Rattle.record.specs.Writing.{entry_of, point_of, ring_of, sheet_bits, add_up};
 
 use crate::board::Settings;
 use crate::rows::BoardRows;
+use fields::writer::Writer;
 
-/// A number in `width` bytes, the last of them first. What is above them is lost.
-#[tactic(auto, using(crate::proofs::Stores::bytes_turn, crate::proofs::Stores::bytes_none))]
-pub fn put(out: &mut [u8], at: usize, width: usize, value: u64) -> usize
-    requires { at + width ≤ length out.old }
-    ensures next { result ≡ at + width }
-    ensures stored { out.new ≡ sets out.old at (bytes_high_first width value) }
-{
-    let mut rest = value;
-    for i in (0..width).rev() {
-        out[at + i] = (rest % 256) as u8;
-        rest /= 256;
-    }
-    at + width
-}
-
-#[tactic(auto, using(crate::proofs::Stores::bytes_then))]
-fn put_entry(out: &mut [u8], at: usize, entry: [u64; 2]) -> usize
-    requires { at + 10 ≤ length out.old }
-    ensures next { result ≡ at + 10 }
-    ensures stored { out.new ≡ sets out.old at (entry_bytes (entry_of entry)) }
+#[tactic(auto, using(fields::proofs::Stores::bytes_then))]
+fn put_entry(writer: &mut Writer<'_>, entry: [u64; 2])
+    requires { HasRoom 10 writer.old }
+    ensures { Writes 10 (entry_bytes (entry_of entry)) writer.old writer.new }
 {
     let [layer, cell] = entry;
-    let next = put(out, at, 2, layer);
-    put(out, next, 8, cell)
+    writer.put(2, layer);
+    writer.put(8, cell);
 }
 
 /// The number of entries, and the entries.
 #[tactic(auto, using(crate::proofs::Turns::entries_put))]
-pub fn put_layers(out: &mut [u8], at: usize, row: &[[u64; 2]]) -> usize
-    requires { at + (2 + 10 * length row.now) ≤ length out.old }
-    ensures next { result ≡ at + (2 + 10 * length row.now) }
-    ensures stored { out.new ≡ sets out.old at (layers_bytes row.now) }
+pub fn put_layers(writer: &mut Writer<'_>, row: &[[u64; 2]])
+    requires { HasRoom (2 + 10 * length row.now) writer.old }
+    ensures { Writes (2 + 10 * length row.now) (layers_bytes row.now) writer.old writer.new }
 {
-    let mut next = put(out, at, 2, row.len() as u64);
+    writer.put(2, row.len() as u64);
     for entry in row {
-        next = put_entry(out, next, *entry);
+        put_entry(writer, *entry);
     }
-    next
 }
 
-#[tactic(auto, using(crate::proofs::Stores::bytes_then))]
-fn put_point(out: &mut [u8], at: usize, point: [i64; 2]) -> usize
-    requires { at + 16 ≤ length out.old }
-    ensures next { result ≡ at + 16 }
-    ensures stored { out.new ≡ sets out.old at (point_bytes (point_of point)) }
+#[tactic(auto, using(fields::proofs::Stores::bytes_then))]
+fn put_point(writer: &mut Writer<'_>, point: [i64; 2])
+    requires { HasRoom 16 writer.old }
+    ensures { Writes 16 (point_bytes (point_of point)) writer.old writer.new }
 {
     let [x, y] = point;
-    let next = put(out, at, 8, x.cast_unsigned());
-    put(out, next, 8, y.cast_unsigned())
+    writer.put(8, x.cast_unsigned());
+    writer.put(8, y.cast_unsigned());
 }
 
 #[tactic(auto, using(crate::proofs::Turns::ring_put))]
-fn put_ring(out: &mut [u8], at: usize, row: &[[i64; 2]]) -> usize
-    requires { at + 16 * length row.now ≤ length out.old }
-    ensures next { result ≡ at + 16 * length row.now }
-    ensures stored { out.new ≡ sets out.old at (flat_map point_bytes (ring_of row.now)) }
+fn put_ring(writer: &mut Writer<'_>, row: &[[i64; 2]])
+    requires { HasRoom (16 * length row.now) writer.old }
+    ensures { Writes (16 * length row.now) (flat_map point_bytes (ring_of row.now)) writer.old writer.new }
 {
-    let mut next = at;
     for point in row {
-        next = put_point(out, next, *point);
+        put_point(writer, *point);
     }
-    next
 }
 
 #[tactic(auto, using(crate::proofs::Stores::eq_self))]
@@ -85,79 +64,69 @@ fn sheet_bits(r: f64) -> u64
 }
 
 /// A polygon but for its points: layer, component, r_sheet and point count.
-#[tactic(auto, using(crate::proofs::Stores::bytes_then))]
-fn put_head(out: &mut [u8], at: usize, head: [u64; 3], sheet: u64) -> usize
-    requires { at + 16 ≤ length out.old }
-    ensures next { result ≡ at + 16 }
-    ensures stored { out.new ≡ sets out.old at (head_bytes head sheet) }
+#[tactic(auto, using(fields::proofs::Stores::bytes_then))]
+fn put_head(writer: &mut Writer<'_>, head: [u64; 3], sheet: u64)
+    requires { HasRoom 16 writer.old }
+    ensures { Writes 16 (head_bytes head sheet) writer.old writer.new }
 {
     let [layer, component, count] = head;
-    let behind_layer = put(out, at, 2, layer);
-    let behind_component = put(out, behind_layer, 4, component);
-    let behind_sheet = put(out, behind_component, 8, sheet);
-    put(out, behind_sheet, 2, count)
+    writer.put(2, layer);
+    writer.put(4, component);
+    writer.put(8, sheet);
+    writer.put(2, count);
 }
 
 /// The number of polygons, and the polygons, each with the points that its count takes from those that are left.
-pub fn put_polygons(out: &mut [u8], at: usize, rows: &BoardRows<'_>) -> usize
+pub fn put_polygons(writer: &mut Writer<'_>, rows: &BoardRows<'_>)
     requires same_len { length rows.now.polygons.now ≡ length rows.now.sheets.now }
     requires counted { add_up rows.now.polygons.now (length rows.now.points.now) ≡ true }
-    requires room { at + (2 + 16 * length rows.now.polygons.now + 16 * length rows.now.points.now) ≤ length out.old }
-    ensures next { result ≡ at + (2 + 16 * length rows.now.polygons.now + 16 * length rows.now.points.now) }
-    ensures stored { out.new ≡ sets out.old at (polygons_bytes (lent_rows rows.now)) }
+    requires room { HasRoom (polygons_size (lent_rows rows.now)) writer.old }
+    ensures { Writes (polygons_size (lent_rows rows.now)) (polygons_bytes (lent_rows rows.now)) writer.old writer.new }
 {
-    let mut next = put(out, at, 2, rows.polygons.len() as u64);
+    writer.put(2, rows.polygons.len() as u64);
     let mut left = rows.points;
-    for i in 0..rows.polygons.len() {
-        let head = rows.polygons[i];
-        let behind_head = put_head(out, next, head, sheet_bits(rows.sheets[i]));
+    for (head, sheet) in rows.polygons.iter().zip(rows.sheets) {
+        put_head(writer, *head, sheet_bits(*sheet));
         let (ring, others) = left.split_at(head[2] as usize);
-        next = put_ring(out, behind_head, ring);
+        put_ring(writer, ring);
         left = others;
     }
-    next
 }
 
 /// The number of splits, and the splits.
 #[tactic(auto, using(crate::proofs::Stores::splits_put))]
-pub fn put_splits(out: &mut [u8], at: usize, row: &[u64]) -> usize
-    requires { at + (2 + 4 * length row.now) ≤ length out.old }
-    ensures next { result ≡ at + (2 + 4 * length row.now) }
-    ensures stored { out.new ≡ sets out.old at (splits_bytes row.now) }
+pub fn put_splits(writer: &mut Writer<'_>, row: &[u64])
+    requires { HasRoom (2 + 4 * length row.now) writer.old }
+    ensures { Writes (2 + 4 * length row.now) (splits_bytes row.now) writer.old writer.new }
 {
-    let mut next = put(out, at, 2, row.len() as u64);
+    writer.put(2, row.len() as u64);
     for id in row {
-        next = put(out, next, 4, *id);
+        writer.put(4, *id);
     }
-    next
 }
 
 /// The first fields, with the length of all that follows it.
-#[tactic(auto, using(crate::proofs::Stores::bytes_then))]
-pub fn put_settings(out: &mut [u8], rest: u64, settings: Settings) -> usize
-    requires { 16 ≤ length out.old }
-    ensures next { result ≡ 16 }
-    ensures stored { out.new
-        ≡ sets out.old 0 (bytes_high_first 1 1 ++ (bytes_high_first 4 rest ++ settings_bytes settings)) }
+#[tactic(auto, using(fields::proofs::Stores::bytes_then))]
+pub fn put_settings(writer: &mut Writer<'_>, rest: u64, settings: Settings)
+    requires { HasRoom 16 writer.old }
+    ensures { Writes 16 (bytes_high_first 1 1 ++ (bytes_high_first 4 rest ++ settings_bytes settings))
+        writer.old writer.new }
 {
-    let behind_version = put(out, 0, 1, 1);
-    let behind_length = put(out, behind_version, 4, rest);
-    let behind_level = put(out, behind_length, 1, settings.level);
-    let behind_cap = put(out, behind_level, 2, settings.cap);
-    put(out, behind_cap, 8, settings.target)
+    writer.put(1, 1);
+    writer.put(4, rest);
+    writer.put(1, settings.level);
+    writer.put(2, settings.cap);
+    writer.put(8, settings.target);
 }
 
 /// The three lists.
-pub fn put_lists(out: &mut [u8], at: usize, rows: &BoardRows<'_>) -> usize
+pub fn put_lists(writer: &mut Writer<'_>, rows: &BoardRows<'_>)
     requires same_len { length rows.now.polygons.now ≡ length rows.now.sheets.now }
     requires counted { add_up rows.now.polygons.now (length rows.now.points.now) ≡ true }
-    requires room { at + (6 + 10 * length rows.now.layers.now + 16 * length rows.now.polygons.now
-        + 16 * length rows.now.points.now + 4 * length rows.now.splits.now) ≤ length out.old }
-    ensures next { result ≡ at + (6 + 10 * length rows.now.layers.now + 16 * length rows.now.polygons.now
-        + 16 * length rows.now.points.now + 4 * length rows.now.splits.now) }
-    ensures stored { out.new ≡ sets out.old at (lists_bytes (lent_rows rows.now)) }
+    requires room { HasRoom (lists_size (lent_rows rows.now)) writer.old }
+    ensures { Writes (lists_size (lent_rows rows.now)) (lists_bytes (lent_rows rows.now)) writer.old writer.new }
 {
-    let behind_layers = put_layers(out, at, rows.layers);
-    let behind_polygons = put_polygons(out, behind_layers, rows);
-    put_splits(out, behind_polygons, rows.splits)
+    put_layers(writer, rows.layers);
+    put_polygons(writer, rows);
+    put_splits(writer, rows.splits);
 }

@@ -46,7 +46,8 @@ impl BoardRows<'_> {
     }
 }
 
-/// Whether the point counts add up to so many points.
+/// Whether the point counts add up to so many points. They stand in the polygons' entries, and in a row of their own
+/// where build asks the same (`adds_up`).
 #[tactic(auto, using(crate::proofs::Turns::add_short, crate::proofs::Turns::add_next, crate::proofs::Turns::add_end))]
 fn add_up(polygons: &[[u64; 3]], points: usize) -> bool
     ensures { result ≡ add_up polygons.now points }

@@ -7,6 +7,7 @@ ghost use Rattle.record.specs.Writing.{write_said, write_says, write_leaves};
 use crate::board::Settings;
 use crate::put;
 use crate::rows::BoardRows;
+use fields::writer::Writer;
 use refusals::Refusal;
 
 /// The record of a board, from the start of `out`, and how many bytes it took. Counts are judged, since they shape
@@ -30,6 +31,8 @@ pub fn write(settings: Settings, rows: &BoardRows<'_>, out: &mut [u8]) -> Result
     if out.len() < size {
         return Err(Refusal::NoRoom);
     }
-    let behind_settings = put::put_settings(out, (size - 5) as u64, settings);
-    Ok(put::put_lists(out, behind_settings, rows))
+    let mut writer = Writer::new(out);
+    put::put_settings(&mut writer, (size - 5) as u64, settings);
+    put::put_lists(&mut writer, rows);
+    Ok(writer.at)
 }

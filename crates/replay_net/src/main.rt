@@ -64,9 +64,9 @@ impl Numbers {
         })
     }
 
-    // The rows with their types: refused as a bad net where their lengths don't fit together, or a layer or component
-    // has too many bits.
-    fn typed(&self, alloc: Global) -> Result<Result<Net, Refusal>, AllocError> {
+    // The rows with their types. They are no net where their lengths don't fit together, or a layer or component has
+    // too many bits.
+    fn typed(&self, alloc: Global) -> Result<Option<Net>, AllocError> {
         let (nodes_in, no_node) = self.nodes.as_chunks::<4>();
         let (ends_in, no_end) = self.ends.as_chunks::<2>();
         let (corners_in, no_corner) = self.corners.as_chunks::<4>();
@@ -75,13 +75,13 @@ impl Numbers {
             || ends_in.len() != self.conductances.len()
             || corners_in.len() != self.sheets.len()
         {
-            return Ok(Err(Refusal::BadTable));
+            return Ok(None);
         }
         let mut nodes = Vec::new(alloc);
         for numbers in nodes_in {
             match node_of(*numbers) {
                 Some(node) => nodes.push(node)?,
-                None => return Ok(Err(Refusal::BadTable)),
+                None => return Ok(None),
             }
         }
         let mut edges = Vec::new(alloc);
@@ -104,7 +104,7 @@ impl Numbers {
                 sheet: *sheet,
             })?;
         }
-        Ok(Ok(Net {
+        Ok(Some(Net {
             nodes,
             edges,
             cells,
@@ -167,12 +167,6 @@ impl Net {
     }
 }
 
-fn read_head(cases: &mut Cases) -> Head {
-    let count = cases.index();
-    let max_level = cases.word();
-    Head { count, max_level }
-}
-
 // The hanging node and the two ends of the edge that it hangs on, or nothing.
 fn print_fault(out: &mut String, fault: Option<Hanging>) -> Result<(), AllocError> {
     match fault {
@@ -189,16 +183,13 @@ fn print_counts(out: &mut String, n: Counts) -> Result<(), AllocError> {
 fn run_power(
     alloc: Global,
     cases: &mut Cases,
-    net: &Result<Net, Refusal>,
+    net: Result<&Net, Refusal>,
     out: &mut String,
 ) -> Result<(), AllocError> {
     let potentials: Vec<f64> = cases.row(alloc)?;
     let mut answers: Vec<f64> = cases.row(alloc)?;
     write!(out, "power")?;
-    let answer = match net {
-        Ok(net) => power::cell_power(&net.rows(), &potentials, &mut answers),
-        Err(why) => Err(*why),
-    };
+    let answer = net.and_then(|net| power::cell_power(&net.rows(), &potentials, &mut answers));
     print::answered(out, answer, |out, ()| writeln!(out))?;
     print::fractions(out, &answers)
 }
@@ -207,17 +198,19 @@ fn run_power(
 fn run_network_conforming(
     alloc: Global,
     cases: &mut Cases,
-    net: &Result<Net, Refusal>,
+    net: Result<&Net, Refusal>,
     out: &mut String,
 ) -> Result<(), AllocError> {
-    let head = read_head(cases);
+    let head = cases.head();
     let t: Vec<i64> = cases.row(alloc)?;
     let mut work: Vec<u64> = cases.row(alloc)?;
     write!(out, "check_network_conforming")?;
-    let answer = match net {
-        Ok(net) => checks::check_network_conforming(&t, head, &net.rows(), &mut work),
-        Err(why) => Err(*why),
-    };
+    let answer = net.and_then(|net| checks::check_network_conforming(
+        &t,
+        head,
+        &net.rows(),
+        &mut work,
+    ));
     print::answered(out, answer, print_fault)?;
     print::work(out, &work)
 }
@@ -226,10 +219,10 @@ fn run_network_conforming(
 fn run_by_layer(
     alloc: Global,
     cases: &mut Cases,
-    net: &Result<Net, Refusal>,
+    net: Result<&Net, Refusal>,
     out: &mut String,
 ) -> Result<(), AllocError> {
-    let head = read_head(cases);
+    let head = cases.head();
     let t: Vec<i64> = cases.row(alloc)?;
     let layers: Vec<u16> = cases.row(alloc)?;
     let components: Vec<u32> = cases.row(alloc)?;
@@ -239,17 +232,20 @@ fn run_by_layer(
         layers: &layers,
         components: &components,
     };
-    let answer = match net {
-        Ok(net) => checks::check_by_layer(&t, head, &net.rows(), &polygons, &mut work),
-        Err(why) => Err(*why),
-    };
+    let answer = net.and_then(|net| checks::check_by_layer(
+        &t,
+        head,
+        &net.rows(),
+        &polygons,
+        &mut work,
+    ));
     print::answered(out, answer, print_fault)?;
     print::work(out, &work)
 }
 
 // A table with its head in front, the polygons' rows, and the rows for the net stand next.
 fn run_network(alloc: Global, cases: &mut Cases, out: &mut String) -> Result<(), AllocError> {
-    let head = read_head(cases);
+    let head = cases.head();
     let t: Vec<i64> = cases.row(alloc)?;
     let layers: Vec<u16> = cases.row(alloc)?;
     let components: Vec<u32> = cases.row(alloc)?;
@@ -262,7 +258,7 @@ fn run_network(alloc: Global, cases: &mut Cases, out: &mut String) -> Result<(),
         components: &components,
     };
     match lent.typed(alloc)? {
-        Ok(mut net) => {
+        Some(mut net) => {
             let answer = network::network(
                 &t,
                 head,
@@ -276,8 +272,8 @@ fn run_network(alloc: Global, cases: &mut Cases, out: &mut String) -> Result<(),
             print::answered(out, answer, print_counts)?;
             net.numbers(alloc)?.print(out)?;
         }
-        Err(why) => {
-            print::refused(out, why)?;
+        None => {
+            print::refused(out, Refusal::BadTable)?;
             lent.print(out)?;
         }
     }
@@ -289,11 +285,12 @@ fn run(alloc: Global, cases: &mut Cases, out: &mut String) -> Result<(), AllocEr
     if kind == NETWORK {
         return run_network(alloc, cases, out);
     }
-    let net = Numbers::read(alloc, cases)?.typed(alloc)?;
+    let typed = Numbers::read(alloc, cases)?.typed(alloc)?;
+    let net = typed.as_ref().ok_or(Refusal::BadTable);
     match kind {
-        POWER => run_power(alloc, cases, &net, out),
-        NETWORK_CONFORMING => run_network_conforming(alloc, cases, &net, out),
-        _ => run_by_layer(alloc, cases, &net, out),
+        POWER => run_power(alloc, cases, net, out),
+        NETWORK_CONFORMING => run_network_conforming(alloc, cases, net, out),
+        _ => run_by_layer(alloc, cases, net, out),
     }
 }
 

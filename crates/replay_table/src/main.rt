@@ -8,6 +8,7 @@ use cases::stored::Stored;
 use cases::{Cases, print};
 use cell::rectangles::Rect;
 use even::Evening;
+use refusals::Refusal;
 use std::alloc::{AllocError, Global};
 use std::fmt::Write;
 use std::io;
@@ -54,15 +55,15 @@ fn run_contact(cases: &mut Cases, out: &mut String) -> Result<(), AllocError> {
     print::answered(out, cell::rectangles::between(a, b), print_shared)
 }
 
-fn list_leaves(out: &mut String, t: &[i64], head: Head, ids: &mut [u64]) -> Result<(), AllocError> {
-    write!(out, "leaves")?;
-    print::counted(out, table::leaves::leaves(t, head, ids))?;
-    print::row(out, ids)
-}
-
-fn list_order(out: &mut String, t: &[i64], head: Head, ids: &mut [u64]) -> Result<(), AllocError> {
-    write!(out, "leaf_order")?;
-    print::counted(out, table::leaves::leaf_order(t, head, ids))?;
+// What a call that lists leaves answered, and its list.
+fn print_list(
+    out: &mut String,
+    call: &str,
+    answer: Result<usize, Refusal>,
+    ids: &[u64],
+) -> Result<(), AllocError> {
+    write!(out, "{call}")?;
+    print::counted(out, answer)?;
     print::row(out, ids)
 }
 
@@ -72,27 +73,21 @@ fn run_refine(out: &mut String, t: &mut [i64], head: Head, id: usize) -> Result<
     print::row(out, t)
 }
 
-fn run_balance(out: &mut String, t: &mut [i64], head: Head) -> Result<(), AllocError> {
-    write!(out, "balance")?;
-    print::answered(out, even::balance(t, head), print_evening)?;
-    print::row(out, t)
-}
-
-fn run_conform(out: &mut String, t: &mut [i64], head: Head) -> Result<(), AllocError> {
-    write!(out, "conform")?;
-    print::answered(out, even::conform(t, head), print_evening)?;
+// What balance or conform answered, and the table.
+fn print_evened(
+    out: &mut String,
+    call: &str,
+    answer: Result<Evening, Refusal>,
+    t: &[i64],
+) -> Result<(), AllocError> {
+    write!(out, "{call}")?;
+    print::answered(out, answer, print_evening)?;
     print::row(out, t)
 }
 
 fn run_leaf_count(out: &mut String, t: &[i64], head: Head) -> Result<(), AllocError> {
     write!(out, "leaf_count")?;
     print::counted(out, table::leaves::leaf_count(t, head))
-}
-
-fn read_head(cases: &mut Cases) -> Head {
-    let count = cases.index();
-    let max_level = cases.word();
-    Head { count, max_level }
 }
 
 // A table stands next, its head in front, and behind it what the call of this kind takes.
@@ -102,21 +97,35 @@ fn run_table(
     kind: u64,
     out: &mut String,
 ) -> Result<(), AllocError> {
-    let head = read_head(cases);
+    let head = cases.head();
     let mut t: Vec<i64> = cases.row(alloc)?;
     match kind {
         REFINE => run_refine(out, &mut t, head, cases.index()),
-        BALANCE => run_balance(out, &mut t, head),
-        CONFORM => run_conform(out, &mut t, head),
+        BALANCE => {
+            let answer = even::balance(&mut t, head);
+            print_evened(out, "balance", answer, &t)
+        }
+        CONFORM => {
+            let answer = even::conform(&mut t, head);
+            print_evened(out, "conform", answer, &t)
+        }
         LEAF_COUNT => run_leaf_count(out, &t, head),
-        LEAVES => list_leaves(out, &t, head, &mut cases.row(alloc)?),
-        _ => list_order(out, &t, head, &mut cases.row(alloc)?),
+        LEAVES => {
+            let mut ids: Vec<u64> = cases.row(alloc)?;
+            let answer = table::leaves::leaves(&t, head, &mut ids);
+            print_list(out, "leaves", answer, &ids)
+        }
+        _ => {
+            let mut ids: Vec<u64> = cases.row(alloc)?;
+            let answer = table::leaves::leaf_order(&t, head, &mut ids);
+            print_list(out, "leaf_order", answer, &ids)
+        }
     }
 }
 
 // A row of zeros, which may be longer than a stream: its length stands behind the head.
 fn run_zeros(alloc: Global, cases: &mut Cases, out: &mut String) -> Result<(), AllocError> {
-    let head = read_head(cases);
+    let head = cases.head();
     let zeros = vec![in alloc; 0i64; cases.index()]?;
     run_leaf_count(out, &zeros, head)
 }
@@ -124,7 +133,7 @@ fn run_zeros(alloc: Global, cases: &mut Cases, out: &mut String) -> Result<(), A
 // A length stands behind the head, then a table of which no more than that is lent: what stands behind could pass for a
 // part of it.
 fn run_part(alloc: Global, cases: &mut Cases, out: &mut String) -> Result<(), AllocError> {
-    let head = read_head(cases);
+    let head = cases.head();
     let length = cases.index();
     let t: Vec<i64> = cases.row(alloc)?;
     match t.get(..length) {

@@ -110,7 +110,8 @@ impl<'a> Around<'a> {
                     .saturating_sub(self.table.level(c))
     }
 
-    // The first root from `from` on that meets the cell; an id from the roots' end on, where there is none.
+    // The first root from `from` on that meets the cell; an id from the roots' end on, where there is none. Its tests
+    // promise one way only, so it says what is passed over, and no list that an iterator could yield.
     fn next_root(&self, from: usize) -> usize
         ensures past { from ≤ result }
         ensures passed { Passed (cells self.now.table) self.now.cell from result }

@@ -7,6 +7,7 @@ ghost use Rattle.table.specs.Tables.{cells};
 ghost use Rattle.search.specs.Search.{RootsBelow, Within, Clears};
 ghost use Rattle.search.specs.Roots.{HoldsRoots, Indexes, bounds_box, block_box};
 
+use cell::ticks::TOP;
 use refusals::limits::SLOTS;
 use table::Table;
 use table::slots::cell_at;
@@ -71,8 +72,8 @@ impl Bounds {
         ensures { HoldsRoots (cells table.now) from to (bounds_box result) }
     {
         let mut bounds = Bounds {
-            x0: 137438953472,
-            y0: 137438953472,
+            x0: TOP,
+            y0: TOP,
             x1: 0,
             y1: 0,
         };
@@ -135,7 +136,7 @@ impl Roots {
     }
 }
 
-// An id that every root's is below: one past the last cell of level 0.
+// An id that every root's is below: one past the last cell of level 0. Tried by `rposition`; the proof didn't close.
 fn roots_end(table: &Table<'_>) -> usize
     ensures inside { result ≤ table.now.head.count }
     ensures below { RootsBelow (cells table.now) result }

@@ -10,7 +10,7 @@ use Rattle.std.proofs.lemmas.Grind.{get_or-set_at}
 use Rattle.std.proofs.lemmas.List.{get_or_default, get_or-drop, get_or-set_other}
 use Rattle.std.proofs.lemmas.List.FromFn.{length-map-range_with_len, get_or-map-range_with_len}
 use Rattle.std.proofs.lemmas.List.Elements.{All-get_or, All-from_get_or, Contains-get_or}
-use Rattle.std.proofs.lemmas.List.Sorted.{ranks_by, sorted_far, All-permutation, Contains-permutation, length_permutation}
+use Rattle.std.proofs.lemmas.List.Sorted.{ranks_by, sorted_far, All-permutation, Contains-permutation}
 use Rattle.sorted.specs.Firsts.{IsInOrder, EndInNumbers, IsFirst}
 use Rattle.sorted.proofs.Below.{first_column}
 
@@ -69,9 +69,6 @@ module _ (entry : ℕ → List ℕ) (m n : ℕ) (row : List (List ℕ)) (O : IsI
 
   ends : (i : ℕ) → i < n → get_or (entry i) m 0 ≡ i
   ends i h = sym (get_or-drop m (entry i) 0 0 ∙ ap (λ (k : ℕ). get_or (entry i) k 0) (add-zero m)) ∙ ap (λ (l : List ℕ). get_or l 0 0) (N i h)
-
-  pub row_long : length row ≡ n
-  row_long = length_permutation _ _ O.same ∙ length-map-range_with_len entry 0 n
 
   pub is_entry : (k : ℕ) → k < length row → IsEntry (get_or row k [])
   is_entry k h =

@@ -1,5 +1,8 @@
 -- The entries of a sorted row that begin with a key stand together.
 use Rattle.std.proofs.Common.{◌≡◌, ℕ, zero, suc, ◌+◌, ◌-◌, ◌<◌, ◌≤◌, Bool, true, false, ◌||◌, Option, length-append, get_or-append-add, nat_eq, List, [], ◌∷◌, ◌++◌, length, get_or, take, drop, filter, refl, sym, ap, ap₂, ◌∙◌, ⊎_elim, arith, All, IsSorted, Ordering, Less, Equal, Greater, Some, None}
+use denote.Bor.{Bor}
+use Rattle.std.specs.Bool.{then_some}
+use Rattle.std.specs.Option.{option_copied}
 use Rattle.std.specs.Ordering.{is_lt, nat_cmp, ordering_index}
 use Rattle.std.specs.List.{starts_with}
 use Rattle.std.specs.List.Sorted.{IsPartitionedBy, IsPartitionPoint}
@@ -223,3 +226,8 @@ module _ (row : List (List ℕ)) (up : IsSorted (slice_cmp nat_cmp) row) (key : 
               let z = some in
               let l = less-parted i (end - 1) [] (omega arith) (omega arith) below in
               rw (get_or-take end row i [] (omega arith)) (⊎_elim (λ (t : begins (get_or row i []) ≡ true). absurd (true≢false (sym l ∙ no_less key (get_or row i []) t))) (λ f. f) (cases_Bool (begins (get_or row i []))))
+
+-- an entry that is handed out where a test holds
+pub handed : (b : Bool) (e : Bor (List ℕ)) (o : Option (List ℕ)) → (b ≡ true → Some e.now ≡ o) → (b ≡ false → None ≡ o) → option_copied (then_some b e) ≡ o
+handed true e o t f = t refl
+handed false e o t f = f refl

@@ -1,11 +1,11 @@
 -- Two rows of numbers, column by column.
-use Rattle.std.proofs.Common.{◌≡◌, ℕ, nat_eq, suc, ◌+◌, ◌<◌, ◌≤◌, Bool, true, false, ◌&&◌, ◌||◌, eqb, ltb, List, [], ◌∷◌, length, get_or, drop, refl, sym, ap, ◌∙◌, arith, add-one}
+use Rattle.std.proofs.Common.{◌≡◌, ℕ, suc, ◌+◌, ◌<◌, ◌≤◌, Bool, true, false, ◌&&◌, ◌||◌, eqb, ltb, List, [], ◌∷◌, length, get_or, drop, refl, sym, ap, ◌∙◌, arith, add-one}
 use Rattle.std.specs.Ordering.{is_lt, nat_cmp}
-use Rattle.std.specs.List.{starts_with}
 use Rattle.std.specs.Cmp.Lexicographic.{slice_cmp}
 use Rattle.std.proofs.Math.Seq.{drop-cons}
 use Rattle.std.proofs.lemmas.List.{drop_all}
 use Rattle.std.proofs.lemmas.Bool.Decides.{nat_tests}
+use Rattle.sorted.specs.Upto.{is_upto}
 
 pub first_column : (x y : ℕ) (e k : List ℕ) → is_lt (slice_cmp nat_cmp (x ∷ e) (y ∷ k)) ≡ (ltb x y || (eqb x y && is_lt (slice_cmp nat_cmp e k)))
 first_column x y e k = grind (arith, nat_tests)
@@ -38,26 +38,27 @@ module _ (entry key : List ℕ) (c : ℕ) (b q : Bool) (I : is_lt (slice_cmp nat
       nothing false true = refl
       nothing false false = refl
 
-first_begin : (x y : ℕ) (e k : List ℕ) → starts_with nat_eq (x ∷ e) (y ∷ k) ≡ (eqb x y && starts_with nat_eq e k)
-first_begin x y e k = grind (arith, nat_tests)
+first_upto : (x y : ℕ) (e k : List ℕ) → is_upto (y ∷ k) (x ∷ e) ≡ (ltb x y || (eqb x y && is_upto k e))
+first_upto x y e k = grind (arith, nat_tests)
 
-apart : (q s r : Bool) → (q && (s && r)) ≡ ((q && s) && r)
-apart true s r = refl
-apart false s r = refl
+-- whether the columns of an entry from c on are up to a key's: the first of them decides where it differs, and else the others
+module _ (entry key : List ℕ) (c : ℕ) (h : c < length entry) (g : c < length key) where
+  upto : is_upto (drop c key) (drop c entry) ≡ (ltb (get_or entry c 0) (get_or key c 0) || (eqb (get_or entry c 0) (get_or key c 0) && is_upto (drop (c + 1) key) (drop (c + 1) entry)))
+  upto =
+      (λ t. is_upto (drop-cons key c 0 g t) (drop-cons entry c 0 h t))
+      ∙ (first_upto (get_or entry c 0) (get_or key c 0) (drop (suc c) entry) (drop (suc c) key)
+      ∙ ap (λ (n : ℕ). ltb (get_or entry c 0) (get_or key c 0) || (eqb (get_or entry c 0) (get_or key c 0) && is_upto (drop n key) (drop n entry))) (sym (add-one c)))
 
-module _ (entry key : List ℕ) (c : ℕ) (q : Bool) (I : starts_with nat_eq entry key ≡ (q && starts_with nat_eq (drop c entry) (drop c key))) where
-  pub begin_more : c < length entry → c < length key → starts_with nat_eq entry key ≡ ((q && eqb (get_or entry c 0) (get_or key c 0)) && starts_with nat_eq (drop (c + 1) entry) (drop (c + 1) key))
-  begin_more h g =
-      I
-      ∙ (ap (λ (t : Bool). q && t)
-      ((λ t. starts_with nat_eq (drop-cons entry c 0 h t) (drop-cons key c 0 g t))
-      ∙ (first_begin (get_or entry c 0) (get_or key c 0) (drop (suc c) entry) (drop (suc c) key)
-      ∙ ap (λ (n : ℕ). eqb (get_or entry c 0) (get_or key c 0) && starts_with nat_eq (drop n entry) (drop n key)) (sym (add-one c))))
-      ∙ apart q (eqb (get_or entry c 0) (get_or key c 0)) (starts_with nat_eq (drop (c + 1) entry) (drop (c + 1) key)))
+  left_to : (a b : ℕ) (r : Bool) → a ≡ b → (ltb a b || (eqb a b && r)) ≡ r
+  left_to a b r e = grind (arith, nat_tests)
 
-  pub begin_end : length key ≤ c → q ≡ starts_with nat_eq entry key
-  begin_end h = sym (I ∙ (ap (λ (k : List ℕ). q && starts_with nat_eq (drop c entry) k) (drop_all c key h) ∙ whole q))
-    where
-      whole : (q : Bool) → (q && true) ≡ q
-      whole true = refl
-      whole false = refl
+  pub upto_on : get_or entry c 0 ≡ get_or key c 0 → is_upto (drop c key) (drop c entry) ≡ is_upto (drop (c + 1) key) (drop (c + 1) entry)
+  upto_on e = upto ∙ left_to _ _ _ e
+
+-- behind the last column of a key
+pub past_upto : (entry key : List ℕ) (c : ℕ) → length key ≤ c → true ≡ is_upto (drop c key) (drop c entry)
+past_upto entry key c h = sym (ap (λ (k : List ℕ). is_upto k (drop c entry)) (drop_all c key h) ∙ all (drop c entry))
+  where
+    all : (e : List ℕ) → is_upto [] e ≡ true
+    all [] = refl
+    all (x ∷ e) = refl

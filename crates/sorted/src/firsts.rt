@@ -14,7 +14,7 @@ fn are_alike<const N: usize>(a: &[u64; N], b: &[u64; N]) -> bool
 }
 
 /// Of each entry, by its number, which is its last column, the number of the first that is equal but for it. Those that
-/// are stand together in the row of all entries, the first in front.
+/// are stand together in the row of all entries, the first in front. By index: each is held against the one before.
 pub fn write_firsts<const N: usize, E: Entries<N>>(
     from: &E,
     entries: &[[u64; N]],

@@ -1,4 +1,5 @@
-//! Sorted rows, each in place of a map from keys to entries.
+//! Sorted rows, each in place of a map from keys to entries. Who has such a row knows more of it than its order, mostly
+//! whose entries it holds, and that in one fact; so the order is asked for as a fact, too, and is no type of its own.
 ghost use Rattle.std.specs.Prelude.{◌≡◌, ◌-◌, ◌<◌, ◌≤◌, true, false, length, nat_eq, filter, slice_get, IsSorted};
 ghost use Rattle.std.specs.Ordering.{is_lt, nat_cmp};
 ghost use Rattle.std.specs.Option.{option_copied};
@@ -7,14 +8,12 @@ ghost use Rattle.std.specs.List.Sorted.{IsPartitionedBy, IsPartitionPoint};
 ghost use Rattle.std.specs.Cmp.Lexicographic.{slice_cmp};
 ghost use Rattle.sorted.specs.Upto.{is_upto};
 
-// Whether an entry is below a key, and whether it begins with it. No branch hangs on their numbers, so that the
-// processor has nothing to guess at in a search.
+// Whether an entry is below a key. No branch hangs on their numbers: few columns are compared, and each key is another.
 #[inline(always)]
-fn compared<const N: usize>(entry: &[u64; N], key: &[u64]) -> (bool, bool)
+fn is_below<const N: usize>(entry: &[u64; N], key: &[u64]) -> bool
     requires few_columns { N < 16 }
     requires key_fits { length key.now ≤ N }
-    ensures below { result.0 ≡ is_lt (slice_cmp nat_cmp entry.now key.now) }
-    ensures begins { result.1 ≡ starts_with nat_eq entry.now key.now }
+    ensures { result ≡ is_lt (slice_cmp nat_cmp entry.now key.now) }
 {
     let mut below = false;
     let mut equal = true;
@@ -22,27 +21,23 @@ fn compared<const N: usize>(entry: &[u64; N], key: &[u64]) -> (bool, bool)
         below = below | (equal & (entry[c] < key[c]));
         equal = equal & (entry[c] == key[c]);
     }
-    (below, equal)
-}
-
-#[inline(always)]
-fn is_below<const N: usize>(entry: &[u64; N], key: &[u64]) -> bool
-    requires few_columns { N < 16 }
-    requires key_fits { length key.now ≤ N }
-    ensures { result ≡ is_lt (slice_cmp nat_cmp entry.now key.now) }
-{
-    let (below, _) = compared(entry, key);
     below
 }
 
+// Whether an entry is below a key or begins with it. The first column that differs ends it: there are many, and most
+// are equal. std's `<=` of slices says the same, and makes a search a third slower.
 #[inline(always)]
 fn is_upto<const N: usize>(entry: &[u64; N], key: &[u64]) -> bool
     requires few_columns { N < 16 }
     requires key_fits { length key.now ≤ N }
     ensures { result ≡ is_upto key.now entry.now }
 {
-    let (below, begins) = compared(entry, key);
-    below | begins
+    for c in 0..key.len() {
+        if entry[c] != key[c] {
+            return entry[c] < key[c];
+        }
+    }
+    true
 }
 
 // How many entries are below a key, which stand in front.
@@ -105,14 +100,8 @@ pub fn first<'a, const N: usize>(row: &'a [[u64; N]], key: &[u64]) -> Option<&'a
     ensures { option_copied result ≡ slice_get (filter (λ e. starts_with nat_eq e key.now) row.now) 0 }
 {
     let rest = &row[count_below(row, key)..];
-    let Some(entry) = rest.first() else {
-        return None;
-    };
-    if entry.starts_with(key) {
-        Some(entry)
-    } else {
-        None
-    }
+    let entry = rest.first()?;
+    entry.starts_with(key).then_some(entry)
 }
 
 /// The last entry that begins with a key.
@@ -125,17 +114,12 @@ pub fn last<'a, const N: usize>(row: &'a [[u64; N]], key: &[u64]) -> Option<&'a 
         option_copied result ≡ slice_get run (length run - 1) }
 {
     let front = &row[..count_upto(row, key)];
-    let Some(entry) = front.last() else {
-        return None;
-    };
-    if entry.starts_with(key) {
-        Some(entry)
-    } else {
-        None
-    }
+    let entry = front.last()?;
+    entry.starts_with(key).then_some(entry)
 }
 
-/// The entries that begin with a key: a run of the row, handed back and not copied.
+/// The entries that begin with a key: a run of the row, handed back and not copied, as a map's `range`. `first` and
+/// `last` are its ends, each by one search.
 #[inline]
 pub fn run<'a, const N: usize>(row: &'a [[u64; N]], key: &[u64]) -> &'a [[u64; N]]
     requires few_columns { N < 16 }

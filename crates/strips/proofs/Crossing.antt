@@ -1,58 +1,15 @@
 -- The strips of the rules are those that the code's walk meets: edges that are in order by x, passed by a band's test, give the band's
--- crossings in order; and the bands between distinct heights are those between neighbours that differ. Assumes nothing.
-use Rattle.std.proofs.Common.{ap₂, ◌++◌, ℕ, zero, suc, ◌/◌, ◌%◌, ◌<◌, ◌≤◌, ◌≡◌, refl, sym, ap, ◌∙◌, Bool, cond, ◌&&◌, List, [], ◌∷◌, map, ⊎_elim, arith, ℤ, eqb, length, lt-ltb, eqb-true}
+-- crossings in order. Assumes nothing.
+use Rattle.std.proofs.Common.{ap₂, ◌++◌, ℕ, zero, suc, ◌/◌, ◌%◌, ◌<◌, ◌≤◌, ◌≡◌, refl, sym, ap, ◌∙◌, Bool, cond, ◌&&◌, List, [], ◌∷◌, ⊎_elim, arith, ℤ, length, lt-ltb}
 use Rattle.std.specs.List.{range_with_len}
-use borrow.Author.Tests.{eqb-false}
 use Rattle.cell.proofs.Offsets.{below?}
 use Rattle.refusals.specs.Limits.{max_points}
-use Rattle.strips.specs.Sorted.{insert, sorted, distinct}
-use Rattle.strips.specs.Rings.{y_at}
-use Rattle.strips.specs.Strips.{levels, crossings, pair_up, banded, strips_of}
-use Rattle.strips.specs.Walk.{heights_of, vertical_at, key_of, unsorted_edges, edges_of, spans, crossed, walked, all_of, Ready}
+use Rattle.strips.specs.Sorted.{insert, sorted}
+use Rattle.strips.specs.Strips.{levels, crossings, banded, strips_of}
+use Rattle.strips.specs.Walk.{vertical_at, key_of, unsorted_edges, edges_of, spans, crossed, walked, all_of, Ready}
 use Rattle.strips.proofs.Picking.{range-suc, picked, split, picked-yes, picked-no, picked-append}
-use Rattle.strips.proofs.Walks.{crossed-flat}
-use Rattle.strips.proofs.Orders.{insert-stop, insert-go, insert-none}
-
--- each number of a list is at least v; rising lists
-unfoldable pub From : ℕ → List ℕ → Type 0
-From v [] = Unit
-From v (w ∷ l) = (v ≤ w) × From v l
-
-unfoldable pub Rising : List ℕ → Type 0
-Rising [] = Unit
-Rising (v ∷ l) = From v l × Rising l
-
-from_less : (u v : ℕ) (l : List ℕ) → u ≤ v → From v l → From u l
-unfolding From
-from_less u v [] h f = tt
-from_less u v (w ∷ l) h f = (omega arith, from_less u v l h f.1)
-
-from-insert : (u v : ℕ) (l : List ℕ) → u ≤ v → From u l → From u (insert v l)
-unfolding From insert
-from-insert u v [] h f = (h, tt)
-from-insert u v (w ∷ l) h f =
-    let r = from-insert u v l h f.1 in
-    split (lib.Dec.leb v w) (λ e. rw e (h, f)) (λ e. rw e (f.0, r))
-
-rising-insert : (v : ℕ) (l : List ℕ) → Rising l → Rising (insert v l)
-unfolding Rising From insert
-rising-insert v [] r = (tt, tt)
-rising-insert v (w ∷ l) r =
-    let i = rising-insert v l r.1 in
-    ⊎_elim
-    (λ (h : w < v). rw (insert-go v w l h) (from-insert w v l (omega arith) r.0, i))
-    (λ (h : v ≤ w). rw (insert-stop v w l h) ((h, from_less v w l h r.0), r))
-    (below? w v)
-
-pub rising-sorted : (l : List ℕ) → Rising (sorted l)
-unfolding Rising sorted
-rising-sorted [] = tt
-rising-sorted (v ∷ l) = rising-insert v (sorted l) (rising-sorted l)
-
-insert-low : (v : ℕ) (l : List ℕ) → From v l → insert v l ≡ v ∷ l
-unfolding From
-insert-low v [] f = insert-none v
-insert-low v (w ∷ l) f = insert-stop v w l f.0
+use Rattle.strips.proofs.Orders.{insert-stop, insert-go, insert-none, insert-low, From, Rising, from_less, rising-sorted}
+use Rattle.strips.proofs.Distinct.{Above, Strict, strict-levels}
 
 -- a test and a map that keeps the order, over a list that rises
 module _ (p : ℕ → Bool) (f : ℕ → ℕ) (mono : (a b : ℕ) → a ≤ b → f a ≤ f b) where
@@ -123,15 +80,6 @@ picked_same p q f g (suc n) s t =
     ∙ ap₂ (λ a b. a ++ b) r last
     ∙ sym (ap (picked q g) (range-suc n) ∙ picked-append q g ns (n ∷ []))
 
-pub head-distinct : (v : ℕ) (l : List ℕ) → (t : List ℕ) × (distinct (v ∷ l) ≡ v ∷ t)
-unfolding distinct
-head-distinct v [] = ([], refl)
-head-distinct v (w ∷ l) =
-    let i = head-distinct w l in
-    split (eqb v w)
-    (λ e. (i.0, rw e (i.1 ∙ ap (λ (x : ℕ). x ∷ i.0) (sym (eqb-true v w e)))))
-    (λ e. (distinct (w ∷ l), rw e refl))
-
 module _ (ps : List (List ℤ)) (few : length ps ≤ max_points) where
   pub crossed-all : (lo hi : ℕ) → lo < hi → crossed ps lo hi (edges_of ps) ≡ crossings ps lo hi
   unfolding crossed edges_of unsorted_edges crossings spans
@@ -143,24 +91,18 @@ module _ (ps : List (List ℤ)) (few : length ps ≤ max_points) where
       (λ i k. let e : key_of ps i % max_points ≡ i = omega arith in rw (lt-ltb lo hi h, e) refl)
       (λ i k. omega arith))
 
-  walked-banded : (hs : List ℕ) → Rising hs → walked ps (edges_of ps) hs ≡ banded ps (distinct hs)
-  unfolding walked banded distinct Rising From pair_up
-  walked-banded [] r = refl
-  walked-banded (lo ∷ []) r = refl
-  walked-banded (lo ∷ hi ∷ hs) r =
-      let i = walked-banded (hi ∷ hs) r.1 in
-      let d = head-distinct hi hs in
-      split (eqb lo hi)
-      (λ e. let q = eqb-true lo hi e in rw (e, crossed-flat ps lo hi (omega arith) (edges_of ps)) i)
-      (λ e.
-      let n = eqb-false lo hi e in
-      let h : lo < hi = ⊎_elim (λ (k : lo < hi). k) (λ (k : hi ≤ lo). absurd (n (omega arith))) (below? lo hi) in
-      rw (e, crossed-all lo hi h, i, d.1) refl)
+  walked-banded : (hs : List ℕ) → Strict hs → walked ps (edges_of ps) hs ≡ banded ps hs
+  unfolding walked banded Strict Above
+  walked-banded [] s = refl
+  walked-banded (lo ∷ []) s = refl
+  walked-banded (lo ∷ hi ∷ hs) s =
+      let i = walked-banded (hi ∷ hs) s.1 in
+      rw (crossed-all lo hi s.0.0, i) refl
 
   -- the law: what the code walks over are the rules' strips
-  pub all-strips : all_of ps (heights_of ps) (edges_of ps) ≡ strips_of ps
-  unfolding all_of strips_of heights_of levels
-  all-strips = rw (walked-banded (heights_of ps) (rising-sorted (map (y_at ps) (range_with_len 0 (length ps))))) refl
+  pub all-strips : all_of ps (levels ps) (edges_of ps) ≡ strips_of ps
+  unfolding all_of strips_of
+  all-strips = rw (walked-banded (levels ps) (strict-levels ps)) refl
 
 pub ready-strips : (ps : List (List ℤ)) (hs es : List ℕ) → Ready ps hs es → all_of ps hs es ≡ strips_of ps
 ready-strips ps hs es r = rw (r.heights, r.edges) (all-strips ps r.few)

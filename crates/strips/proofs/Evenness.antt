@@ -1,16 +1,16 @@
 -- On a closed ring without slanted edges the crossings of a band come in an even number: walking round the ring one gets from below the
 -- band to above it as often as back. Assumes nothing.
 use Rattle.std.proofs.Common.{subst, ℕ, zero, suc, ◌+◌, ◌%◌, ◌<◌, ◌≤◌, ◌≡◌, refl, sym, ap, ◌∙◌, Bool, true, false, not, ◌&&◌, ◌||◌, List, [], ◌∷◌, ◌++◌, map, ◌⊎◌, inl, inr, ⊎_elim, arith, ℤ, ltb, leb, eqb, length, length-append, lt-ltb, le-ltb, le-leb, eqb-true, ne_eqb}
-use Rattle.std.specs.List.{range_with_len}
+use Rattle.std.specs.List.{dedup, range_with_len}
 use mathlib.Core.Bool.{false≢true}
 use mathlib.Core.List.{map-append}
 use borrow.Author.Tests.{lt-leb, eqb-false}
-use Rattle.strips.specs.Sorted.{insert, sorted, distinct}
+use Rattle.strips.specs.Sorted.{insert, sorted}
 use Rattle.strips.specs.Rings.{x_at, y_at, after, edge_at, vertical, reaches, slants, slants_at, ring_slants}
 use Rattle.strips.specs.Strips.{levels, crossings}
 use Rattle.strips.proofs.Picking.{range-suc, picked, some_below, some-suc, split, more_yes, more_no}
 use Rattle.strips.proofs.Orders.{length-sorted}
-use Rattle.strips.proofs.Crossing.{From, Rising, rising-sorted, head-distinct}
+use Rattle.strips.proofs.Distinct.{Above, Strict, strict-levels}
 use Rattle.cell.proofs.Offsets.{below?}
 
 abbrev differ : Bool → Bool → Bool
@@ -146,15 +146,6 @@ unfoldable pub In : ℕ → List ℕ → Type 0
 In v [] = ⊥
 In v (w ∷ l) = (v ≡ w) ⊎ In v l
 
--- each number of a list is above v; lists that rise strictly
-unfoldable pub Above : ℕ → List ℕ → Type 0
-Above v [] = Unit
-Above v (w ∷ l) = (v < w) × Above v l
-
-unfoldable pub Strict : List ℕ → Type 0
-Strict [] = Unit
-Strict (v ∷ l) = Above v l × Strict l
-
 in_insert : (u v : ℕ) (l : List ℕ) → (u ≡ v) ⊎ In u l → In u (insert v l)
 unfolding In insert
 in_insert u v [] m = m
@@ -164,22 +155,26 @@ in_insert u v (w ∷ l) m =
     (λ e. rw e m)
     (λ e. rw e (⊎_elim (λ q. inr (r (inl q))) (λ n. ⊎_elim (λ q. inl q) (λ k. inr (r (inr k))) n) m))
 
-pub in-sorted : (u : ℕ) (l : List ℕ) → In u l → In u (sorted l)
+in-sorted : (u : ℕ) (l : List ℕ) → In u l → In u (sorted l)
 unfolding In sorted
 in-sorted u [] m = m
 in-sorted u (v ∷ l) m =
     let r = in-sorted u l in
     in_insert u v (sorted l) (⊎_elim (λ q. inl q) (λ k. inr (r k)) m)
 
-in-distinct : (u : ℕ) (l : List ℕ) → In u l → In u (distinct l)
-unfolding In distinct
-in-distinct u [] m = m
-in-distinct u (v ∷ []) m = m
-in-distinct u (v ∷ w ∷ l) m =
-    let r = in-distinct u (w ∷ l) in
-    split (eqb v w)
-    (λ e. let q = eqb-true v w e in rw e (r (⊎_elim (λ k. inl (k ∙ q)) (λ k. k) m)))
-    (λ e. rw e (⊎_elim (λ k. inl k) (λ k. inr (r k)) m))
+in_kept : (u v : ℕ) (l : List ℕ) → In u (v ∷ l) → In u (dedup eqb (v ∷ l))
+unfolding In
+in_kept u v [] m = m
+in_kept u v (w ∷ l) m =
+    let r = in_kept u v l in
+    let i = in_kept u w l in
+    split (eqb w v)
+    (λ e. let q = eqb-true w v e in rw e (r (⊎_elim (λ k. inl k) (λ n. ⊎_elim (λ k. inl (k ∙ q)) (λ k. inr k) n) m)))
+    (λ e. rw e (⊎_elim (λ k. inl k) (λ k. inr (i k)) m))
+
+in-dedup : (u : ℕ) (l : List ℕ) → In u l → In u (dedup eqb l)
+in-dedup u [] m = m
+in-dedup u (v ∷ l) m = in_kept u v l m
 
 in-append : (u : ℕ) (l m : List ℕ) → In u l ⊎ In u m → In u (l ++ m)
 unfolding In
@@ -188,7 +183,7 @@ in-append u (v ∷ l) m h =
     let r = in-append u l m in
     ⊎_elim (λ k. ⊎_elim (λ q. inl q) (λ n. inr (r (inl n))) k) (λ k. inr (r (inr k))) h
 
-pub in_map : (f : ℕ → ℕ) (n i : ℕ) → i < n → In (f i) (map f (range_with_len 0 n))
+in_map : (f : ℕ → ℕ) (n i : ℕ) → i < n → In (f i) (map f (range_with_len 0 n))
 unfolding In
 in_map f zero i h = absurd (omega arith)
 in_map f (suc n) i h =
@@ -196,26 +191,6 @@ in_map f (suc n) i h =
     subst (λ l. In (f i) l) (sym (ap (map f) (range-suc n) ∙ map-append f (range_with_len 0 n) (n ∷ [])))
     (in-append (f i) (map f (range_with_len 0 n)) (f n ∷ [])
     (⊎_elim (λ (k : i < n). inl (r k)) (λ (k : n ≤ i). let q : i ≡ n = omega arith in inr (inl (ap f q))) (below? i n)))
-
-above-less : (u v : ℕ) (l : List ℕ) → u ≤ v → Above v l → Above u l
-unfolding Above
-above-less u v [] h a = tt
-above-less u v (w ∷ l) h a = (omega arith, above-less u v l h a.1)
-
--- above v, of a list's first number, is above v of all the list's distinct numbers
-pub strict-distinct : (l : List ℕ) → Rising l → Strict (distinct l)
-unfolding Strict Above Rising From distinct
-strict-distinct [] r = tt
-strict-distinct (v ∷ []) r = (tt, tt)
-strict-distinct (v ∷ w ∷ l) r =
-    let i = strict-distinct (w ∷ l) r.1 in
-    let d = head-distinct w l in
-    split (eqb v w)
-    (λ e. rw e i)
-    (λ e.
-    let n = eqb-false v w e in
-    let h : v < w = ⊎_elim (λ (k : v < w). k) (λ (k : w ≤ v). absurd (n (omega arith))) (below? v w) in
-    rw e (rw d.1 (h, above-less v w d.0 (omega arith) (rw d.1 at i).0), i))
 
 -- a number of a list that rises strictly lies at or below one of two neighbours, or at or above the other
 above_in : (u v : ℕ) (l : List ℕ) → Above v l → In u l → v < u
@@ -246,9 +221,9 @@ pub level-band : (ps : List (List ℤ)) (lo hi : ℕ) (pre post : List ℕ) → 
 unfolding levels
 level-band ps lo hi pre post e =
     let ys = map (y_at ps) (range_with_len 0 (length ps)) in
-    let s = strict-distinct (sorted ys) (rising-sorted ys) in (
+    let s = strict-levels ps in (
       between lo hi pre post (rw e at s),
-      λ i h. neighbours (y_at ps i) lo hi pre post (rw e at s) (rw e at (in-distinct (y_at ps i) (sorted ys) (in-sorted (y_at ps i) ys (in_map (y_at ps) (length ps) i h)))),
+      λ i h. neighbours (y_at ps i) lo hi pre post (rw e at s) (rw e at (in-dedup (y_at ps i) (sorted ys) (in-sorted (y_at ps i) ys (in_map (y_at ps) (length ps) i h)))),
     )
 
 -- the law: between neighbouring levels of a ring that isn't slanted the crossings pair up

@@ -1,18 +1,17 @@
 -- Heights as they are lent and as a cell holds them: the same edges span a band. Assumes nothing.
-use Rattle.std.proofs.Common.{ℕ, zero, suc, ◌+◌, ◌-◌, ◌/◌, ◌%◌, min, ◌<◌, ◌≤◌, ◌≡◌, refl, sym, ap₂, ◌∙◌, Bool, true, false, not, ◌&&◌, ◌||◌, List, [], ◌∷◌, ◌⊎◌, inl, inr, ⊎_elim, arith, ℤ, pos, negsuc, leb, ltb, eqb, lt-ltb, le-ltb, le-leb, ltb-true, ltb-false, leb-true, leb-false, eq-eqb, ne_eqb, length, drop, get_or}
+use Rattle.std.proofs.Common.{ℕ, zero, suc, ◌+◌, ◌-◌, min, ◌<◌, ◌≤◌, ◌≡◌, refl, sym, ap, ap₂, ◌∙◌, eqb-true, to_z-of_z, FitsSigned, w64, of_z, to_z, Bool, true, not, ◌&&◌, ◌||◌, List, [], ◌⊎◌, ⊎_elim, arith, ℤ, pos, negsuc, leb, eqb, lt-ltb, le-ltb, le-leb, leb-true, eq-eqb, ne_eqb, length, get_or}
 use mathlib.Core.Bool.{xor}
 use lib.IntN.{sub_ℕ}
 use lib.Signed.{le_z}
-use borrow.Author.Tests.{lt-leb}
+use borrow.Author.Tests.{lt-leb, eqb-false}
 use Rattle.refusals.specs.Limits.{coordinate, max_points}
 use Rattle.cell.specs.Ticks.{off, on, in_range}
-use Rattle.cell.proofs.Offsets.{below?, on-is, off-le}
+use Rattle.cell.proofs.Offsets.{below?, on-is}
 use Rattle.strips.specs.Rings.{y_at, after, edge_at, reaches, slants, slants_at, point_in_range, ring_in_range}
-use Rattle.strips.specs.Levels.{level_at, crosses, apart}
-use Rattle.strips.specs.Walk.{IsBand, spans, crossed, left}
+use Rattle.strips.specs.Levels.{level_at, crosses}
+use Rattle.strips.specs.Walk.{IsBand}
 use Rattle.cell.proofs.Contact.{and_left, and_right}
-use Rattle.strips.proofs.Picking.{all_below, all-suc, split, picked-no}
-use Rattle.strips.proofs.Walks.{crossed-flat, left-flat}
+use Rattle.strips.proofs.Picking.{all_below, all-suc, split}
 
 sub_low : (a b : ℕ) → b ≤ a → sub_ℕ a b ≡ pos (a - b)
 sub_low a b h = simp (le-ltb a b h)
@@ -46,60 +45,6 @@ below-is (negsuc n) lo h =
     (λ (g : coordinate ≤ lo). rw (on-high lo g (omega arith)) (sym (le-leb (coordinate - suc n) lo (omega arith))))
     (below? lo coordinate)
 
--- no edge goes above all coordinates
-neither : (a b : Bool) → (a && false) || (b && false) ≡ false
-neither true true = refl
-neither true false = refl
-neither false true = refl
-neither false false = refl
-
-never : (ps : List (List ℤ)) (i lo hi : ℕ) → coordinate + coordinate < hi → reaches lo hi (edge_at ps i) ≡ false
-unfolding reaches edge_at
-never ps i lo hi h =
-    let a : leb hi (off (level_at ps i)) ≡ false = lt-leb hi (off (level_at ps i)) (omega (arith, off-le (level_at ps i))) in
-    let b : leb hi (off (level_at ps (after ps i))) ≡ false = lt-leb hi (off (level_at ps (after ps i))) (omega (arith, off-le (level_at ps (after ps i)))) in
-    rw (a, b) (neither (leb (off (level_at ps i)) lo) (leb (off (level_at ps (after ps i))) lo))
-
-and_no : (a b : Bool) → b ≡ false → (a && b) ≡ false
-and_no true b e = e
-and_no false b e = refl
-
-pub crossed-high : (ps : List (List ℤ)) (lo hi : ℕ) → coordinate + coordinate < hi → (es : List ℕ) → crossed ps lo hi es ≡ []
-unfolding crossed spans
-crossed-high ps lo hi h [] = refl
-crossed-high ps lo hi h (e ∷ es) = picked-no (spans ps lo hi) (λ e. e / max_points) e es (and_no (ltb lo hi) _ (never ps (e % max_points) lo hi h)) ∙ crossed-high ps lo hi h es
-
--- the test of a band, by its answers
-pub band-yes : (lo hi : ℕ) → (ltb lo hi && leb hi (coordinate + coordinate)) ≡ true → (lo < hi) × (hi ≤ coordinate + coordinate)
-band-yes lo hi e =
-    split (ltb lo hi)
-    (λ t. (ltb-true lo hi t, leb-true hi (coordinate + coordinate) (rw t at e)))
-    (λ t. let z = rw t at e in let y : ◌≡◌ {A = ℕ} 0 1 = cc in absurd (omega arith))
-
-pub band-no : (lo hi : ℕ) → (ltb lo hi && leb hi (coordinate + coordinate)) ≡ false → (hi ≤ lo) ⊎ (coordinate + coordinate < hi)
-band-no lo hi e =
-    split (ltb lo hi)
-    (λ t. inr (leb-false hi (coordinate + coordinate) (rw t at e)))
-    (λ t. inl (ltb-false lo hi t))
-
--- a band of no height, or out of range
-pub left-none : (ps : List (List ℤ)) (es hs : List ℕ) (j k : ℕ) → k + 1 < length hs → (ltb (get_or hs k 0) (get_or hs (k + 1) 0) && leb (get_or hs (k + 1) 0) (coordinate + coordinate)) ≡ false → left ps es j (drop k hs) ≡ left ps es 0 (drop (k + 1) hs)
-left-none ps es hs j k h e =
-    left-flat ps es hs j k h
-    (⊎_elim (λ w. crossed-flat ps (get_or hs k 0) (get_or hs (k + 1) 0) w) (λ w. crossed-high ps (get_or hs k 0) (get_or hs (k + 1) 0) w) (band-no (get_or hs k 0) (get_or hs (k + 1) 0) e))
-
--- numbers in range differ as their offset ones do
-differs : (a b x y : ℕ) → (a ≡ b → x ≡ y) → (x ≡ y → a ≡ b) → (ltb a b || ltb b a) ≡ not (eqb x y)
-differs a b x y f g =
-    ⊎_elim
-    (λ (h : a < b). rw (lt-ltb a b h, ne_eqb x y (λ e. let q = g e in omega arith)) refl)
-    (λ (h : b ≤ a).
-    ⊎_elim
-    (λ (k : b < a). rw (le-ltb a b h, lt-ltb b a k, ne_eqb x y (λ e. let q = g e in omega arith)) refl)
-    (λ (k : a ≤ b). let q : a ≡ b = omega arith in rw (le-ltb a b h, le-ltb b a k, eq-eqb x y (f q)) refl)
-    (below? b a))
-    (below? a b)
-
 low_of : (n : ℕ) → in_range (negsuc n) ≡ true → n < coordinate
 unfolding in_range
 low_of n e = let h = leb-true n (coordinate - 1) (and_left (leb n (coordinate - 1)) true e) in omega arith
@@ -108,18 +53,25 @@ high-of : (n : ℕ) → in_range (pos n) ≡ true → n ≤ coordinate
 unfolding in_range
 high-of n e = leb-true n coordinate (and_right true (leb n coordinate) e)
 
-apart-is : (a b : ℤ) → in_range a ≡ true → in_range b ≡ true → apart a b ≡ not (eqb (off a) (off b))
-unfolding apart off
-apart-is (pos n) (pos m) e d =
-    let h = high-of n e in
-    let k = high-of m d in
-    differs n m (min (n + coordinate) (coordinate + coordinate)) (min (m + coordinate) (coordinate + coordinate)) (λ q. omega arith) (λ q. omega arith)
-apart-is (pos n) (negsuc m) e d = rw (ne_eqb (min (n + coordinate) (coordinate + coordinate)) (coordinate - suc m) (λ q. omega arith)) refl
-apart-is (negsuc n) (pos m) e d = rw (ne_eqb (coordinate - suc n) (min (m + coordinate) (coordinate + coordinate)) (λ q. omega arith)) refl
-apart-is (negsuc n) (negsuc m) e d =
-    let h = low_of n e in
-    let k = low_of m d in
-    differs m n (coordinate - suc n) (coordinate - suc m) (λ q. omega arith) (λ q. omega arith)
+-- coordinates in range are the same where their offset ones are
+off-same : (a b : ℤ) → in_range a ≡ true → in_range b ≡ true → off a ≡ off b → a ≡ b
+unfolding off
+off-same (pos n) (pos m) e d q = let h = high-of n e in let k = high-of m d in ap pos (omega arith)
+off-same (pos n) (negsuc m) e d q = let k = low_of m d in absurd (omega arith)
+off-same (negsuc n) (pos m) e d q = let h = low_of n e in absurd (omega arith)
+off-same (negsuc n) (negsuc m) e d q = let h = low_of n e in let k = low_of m d in ap negsuc (omega arith)
+
+fits : (a : ℤ) → in_range a ≡ true → FitsSigned w64 a
+fits (pos n) e = let h = high-of n e in omega arith
+fits (negsuc n) e = let h = low_of n e in omega arith
+
+same-is : (a b : ℤ) → in_range a ≡ true → in_range b ≡ true
+    → eqb (of_z w64 a) (of_z w64 b) ≡ eqb (off a) (off b)
+same-is a b e d =
+    split (eqb (off a) (off b))
+    (λ t. rw t (eq-eqb (of_z w64 a) (of_z w64 b) (ap (of_z w64) (off-same a b e d (eqb-true (off a) (off b) t)))))
+    (λ t. rw t (ne_eqb (of_z w64 a) (of_z w64 b)
+    (λ q. eqb-false (off a) (off b) t (ap off (sym (to_z-of_z (fits a e)) ∙ ap (to_z w64) q ∙ to_z-of_z (fits b d))))))
 
 all-at : (p : ℕ → Bool) (n i : ℕ) → all_below p n ≡ true → i < n → p i ≡ true
 all-at p zero i e h = absurd (omega arith)
@@ -168,13 +120,16 @@ spans-is ps i lo hi b h =
     rw (below-is (level_at ps i) lo l, below-is (level_at ps (after ps i)) lo l)
     (aside (y_at ps i) (y_at ps (after ps i)) lo hi t (b.clear i h) (b.clear (after ps i) (after-inside ps i h)))
 
-pub slants-is : (ps : List (List ℤ)) (i : ℕ) → ring_in_range ps ≡ true → i < length ps → (apart (get_or (get_or ps i []) 0 (pos 0)) (get_or (get_or ps (after ps i) []) 0 (pos 0)) && apart (level_at ps i) (level_at ps (after ps i))) ≡ slants_at ps i
+pub slants-is : (ps : List (List ℤ)) (i : ℕ) → ring_in_range ps ≡ true → i < length ps
+    → (not (eqb (of_z w64 (get_or (get_or ps i []) 0 (pos 0))) (of_z w64 (get_or (get_or ps (after ps i) []) 0 (pos 0))))
+    && not (eqb (of_z w64 (level_at ps i)) (of_z w64 (level_at ps (after ps i))))) ≡ slants_at ps i
 unfolding slants edge_at
 slants-is ps i e h =
+    let j = after ps i in
     let x0 = get_or (get_or ps i []) 0 (pos 0) in
-    let x1 = get_or (get_or ps (after ps i) []) 0 (pos 0) in
+    let x1 = get_or (get_or ps j []) 0 (pos 0) in
     let a = point-in ps i e h in
-    let b = point-in ps (after ps i) e (after-inside ps i h) in
-    ap₂ (λ (t u : Bool). t && u)
-    (apart-is x0 x1 (and_left (in_range x0) (in_range (level_at ps i)) a) (and_left (in_range x1) (in_range (level_at ps (after ps i))) b))
-    (apart-is (level_at ps i) (level_at ps (after ps i)) (and_right (in_range x0) (in_range (level_at ps i)) a) (and_right (in_range x1) (in_range (level_at ps (after ps i))) b))
+    let b = point-in ps j e (after-inside ps i h) in
+    ap₂ (λ (t u : Bool). not t && not u)
+    (same-is x0 x1 (and_left (in_range x0) (in_range (level_at ps i)) a) (and_left (in_range x1) (in_range (level_at ps j)) b))
+    (same-is (level_at ps i) (level_at ps j) (and_right (in_range x0) (in_range (level_at ps i)) a) (and_right (in_range x1) (in_range (level_at ps j)) b))

@@ -1,7 +1,7 @@
 -- Heights as they are lent: which edges the code takes for those that span a band. Internal.
-use Rattle.std.specs.Prelude.{ℕ, Bool, ◌||◌, List, [], ℤ, pos, slice_index_or}
+use Rattle.std.specs.Prelude.{ℕ, Bool, List, [], ℤ, pos, slice_index_or}
 use Rattle.std.specs.Bool.{xor}
-use Rattle.std.specs.Int.Signed.{le_z, lt_z}
+use Rattle.std.specs.Int.Signed.{le_z}
 
 abbrev pub level_at : List (List ℤ) → ℕ → ℤ
 level_at ps i = slice_index_or (slice_index_or ps i []) 1 (pos 0)
@@ -9,6 +9,3 @@ level_at ps i = slice_index_or (slice_index_or ps i []) 1 (pos 0)
 -- one of two heights is at lo or below, and the other above it
 unfoldable pub crosses : ℤ → ℤ → ℤ → Bool
 crosses lo y0 y1 = xor (le_z y0 lo) (le_z y1 lo)
-
-unfoldable pub apart : ℤ → ℤ → Bool
-apart a b = lt_z a b || lt_z b a

@@ -4,7 +4,6 @@ pub mod Rings
 pub mod Strips
 pub mod Said
 pub mod Levels
-pub mod Tally
 pub mod Walk
 pub mod Coming
 pub mod Laws

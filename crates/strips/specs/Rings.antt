@@ -32,10 +32,11 @@ slants e = not (e.x0 == e.x1) && not (e.y0 == e.y1)
 unfoldable pub reaches : ℕ → ℕ → Edge → Bool
 reaches lo hi e = (nat_le e.y0 lo && nat_le hi e.y1) || (nat_le e.y1 lo && nat_le hi e.y0)
 
+abbrev pub both_in_range : List ℤ → Bool
+both_in_range p = in_range (slice_index_or p 0 (pos 0)) && in_range (slice_index_or p 1 (pos 0))
+
 abbrev pub point_in_range : List (List ℤ) → ℕ → Bool
-point_in_range ps i =
-    in_range (slice_index_or (slice_index_or ps i []) 0 (pos 0))
-    && in_range (slice_index_or (slice_index_or ps i []) 1 (pos 0))
+point_in_range ps i = both_in_range (slice_index_or ps i [])
 
 -- the rules' ranges: the number of points, and every coordinate
 unfoldable pub ring_in_range : List (List ℤ) → Bool

@@ -1,8 +1,9 @@
 -- What the public call says, and what it leaves in the lent row.
-use Rattle.std.specs.Prelude.{ℕ, List, [], ◌∷◌, ◌++◌, map, length, take, drop, ℤ, Result, if◌then◌else◌, nat_lt}
+use Rattle.std.specs.Prelude.{ℕ, List, [], ◌∷◌, ◌++◌, map, length, take, drop, ℤ, Result, Ok, Err, ⊤}
+use Rattle.std.specs.Prelude.{if◌then◌else◌, nat_lt}
 use Rattle.refusals.specs.declared.Refusal.{Refusal}
 pub use Rattle.refusals.specs.Said.{if_accepted}
-use Rattle.refusals.specs.Said.{Said, accepted, refused, said}
+use Rattle.refusals.specs.Said.{Said, accepted, refused, refusal, said}
 use Rattle.cell.specs.Ticks.{on}
 use Rattle.strips.specs.Rings.{ring_in_range, ring_slants}
 use Rattle.strips.specs.Strips.{strips_of}
@@ -20,6 +21,11 @@ strip_row s = on s.x0 ∷ on s.y0 ∷ on s.x1 ∷ on s.y1 ∷ []
 abbrev pub judged : ℕ → List (List ℤ) → Said → Said
 judged place ps otherwise =
     if ring_in_range ps then (if ring_slants ps then refused 4 place else otherwise) else refused 3 place
+
+-- what an answer of a judge says: nothing, or its refusal
+abbrev pub fault : Result ⊤ Refusal → Said → Said
+fault (Ok done) otherwise = otherwise
+fault (Err why) otherwise = refusal why
 
 -- 6 for too little room; otherwise the number
 abbrev pub counted : ℕ → ℕ → Said

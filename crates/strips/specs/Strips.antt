@@ -1,13 +1,13 @@
 -- The rules' "Rings to roots", as far as the strips.
-use Rattle.std.specs.Prelude.{ℕ, ◌&&◌, List, [], ◌∷◌, ◌++◌, map, length, ℤ, if◌then◌else◌, nat_lt}
-use Rattle.std.specs.List.{filter, range_with_len}
-use Rattle.strips.specs.Sorted.{sorted, distinct}
+use Rattle.std.specs.Prelude.{ℕ, ◌&&◌, List, [], ◌∷◌, ◌++◌, map, length, ℤ, if◌then◌else◌, nat_eq, nat_lt}
+use Rattle.std.specs.List.{dedup, filter, range_with_len}
+use Rattle.strips.specs.Sorted.{sorted}
 use Rattle.strips.specs.Rings.{x_at, y_at, edge_at, vertical, reaches}
 use Rattle.strips.specs.declared.walk.Strip.{Strip}
 
 -- "the distinct y values in rising order"
 unfoldable pub levels : List (List ℤ) → List ℕ
-levels ps = distinct (sorted (map (y_at ps) (range_with_len 0 (length ps))))
+levels ps = dedup nat_eq (sorted (map (y_at ps) (range_with_len 0 (length ps))))
 
 -- "in a band the x values of the vertical ring edges spanning it, sorted"
 unfoldable pub crossings : List (List ℤ) → ℕ → ℕ → List ℕ

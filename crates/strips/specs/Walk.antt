@@ -1,17 +1,15 @@
 -- How the code goes over a ring: the y values and the vertical edges are put in order once; each band then takes from
 -- the edges, in their order, those that span it. Internal: the public promise is about Strips alone.
-use Rattle.std.specs.Prelude.{ℕ, ◌+◌, ◌*◌, ◌/◌, ◌%◌, ◌<◌, ◌≤◌, min, ◌≡◌, ◌⊎◌, Bool, ◌&&◌, List, [], ◌∷◌, ◌++◌, map}
+use Rattle.std.specs.Prelude.{ℕ, ◌+◌, ◌*◌, ◌/◌, ◌%◌, ◌<◌, ◌≤◌, ◌≡◌, ◌⊎◌, Bool, ◌&&◌, List, [], ◌∷◌, ◌++◌, map}
 use Rattle.std.specs.Prelude.{length, take, drop, ℤ, Option, None, Some, if◌then◌else◌, nat_lt, slice_index}
 use Rattle.refusals.specs.Limits.{coordinate, max_points}
 use Rattle.std.specs.List.{filter, range_with_len}
 use Rattle.strips.specs.Sorted.{sorted}
-use Rattle.strips.specs.Rings.{x_at, y_at, edge_at, vertical, reaches}
-use Rattle.strips.specs.Strips.{pair_up}
+use Rattle.strips.specs.Rings.{x_at, y_at, after, edge_at, vertical, reaches}
+use Rattle.strips.specs.Levels.{level_at, crosses}
+use Rattle.strips.specs.Strips.{levels, pair_up}
 use Rattle.strips.specs.declared.walk.Strip.{Strip}
 use Rattle.strips.specs.declared.walk.Step.{Step}
-
-unfoldable pub heights_of : List (List ℤ) → List ℕ
-heights_of ps = sorted (map (y_at ps) (range_with_len 0 (length ps)))
 
 -- a vertical edge as one number: by x, then by its first point
 abbrev pub key_of : List (List ℤ) → ℕ → ℕ
@@ -32,9 +30,9 @@ pub record Gathered (l row : List ℕ) (n : ℕ) : Type 0 where
   pub count : n ≡ length l
   pub fits : n ≤ length row
 
--- both rows of a ring are ready, with m vertical edges
-pub record Prepared (ps : List (List ℤ)) (hs es : List ℕ) (m : ℕ) : Type 0 where
-  pub heights : Gathered (heights_of ps) hs (length ps)
+-- both rows of a ring are ready, with k heights and m vertical edges
+pub record Prepared (ps : List (List ℤ)) (hs es : List ℕ) (k m : ℕ) : Type 0 where
+  pub heights : Gathered (levels ps) hs k
   pub edges : Gathered (edges_of ps) es m
 
 -- each edge of a list begins at one of n points
@@ -59,17 +57,24 @@ crossed ps lo hi es = map (λ e. e / max_points) (filter (spans ps lo hi) es)
 abbrev pub in_band : List (List ℤ) → ℕ → ℕ → List ℕ → List Strip
 in_band ps lo hi es = pair_up lo hi (crossed ps lo hi es)
 
--- the crossings from the edge at j on, where `find` answers j: none at the end
-unfoldable pub from : List (List ℤ) → ℕ → ℕ → List ℕ → ℕ → List ℕ
-from ps lo hi es j =
-    if nat_lt j (length es) then slice_index es j / max_points ∷ crossed ps lo hi (drop (j + 1) es)
-    else []
+-- an edge goes from low, or below, to above it, or the other way, as lent
+abbrev pub crosses_at : List (List ℤ) → ℤ → ℕ → Bool
+crosses_at ps low e =
+    crosses low (level_at ps (e % max_points)) (level_at ps (after ps (e % max_points)))
 
--- r is the first edge from j on that spans the band, or the number of edges
-pub record Finds (ps : List (List ℤ)) (lo hi : ℕ) (es : List ℕ) (j r : ℕ) : Type 0 where
-  pub low : min j (length es) ≤ r
-  pub high : r ≤ length es
-  pub same : crossed ps lo hi (drop j es) ≡ from ps lo hi es r
+-- the edges at a and b are the first two from j on that span the band
+pub record IsNextPair (ps : List (List ℤ)) (lo hi : ℕ) (es : List ℕ) (j a b : ℕ) : Type 0 where
+  pub later : j ≤ a
+  pub rising : a < b
+  pub within : b < length es
+  pub same :
+      crossed ps lo hi (drop j es)
+      ≡ slice_index es a / max_points ∷ slice_index es b / max_points ∷ crossed ps lo hi (drop (b + 1) es)
+
+-- they are these, or fewer than two span it
+abbrev pub FindsPair : List (List ℤ) → ℕ → ℕ → List ℕ → ℕ → Option (ℕ × ℕ) → Type 0
+FindsPair ps lo hi es j None = in_band ps lo hi (drop j es) ≡ []
+FindsPair ps lo hi es j (Some pair) = IsNextPair ps lo hi es j pair.0 pair.1
 
 -- the strips of all bands between neighbouring heights
 unfoldable pub walked : List (List ℤ) → List ℕ → List ℕ → List Strip
@@ -82,11 +87,6 @@ unfoldable pub left : List (List ℤ) → List ℕ → ℕ → List ℕ → List
 left ps es j [] = []
 left ps es j (lo ∷ []) = []
 left ps es j (lo ∷ hi ∷ hs) = pair_up lo hi (crossed ps lo hi (drop j es)) ++ walked ps es (hi ∷ hs)
-
--- from band r on there is as much to come as from band k on
-pub record Skips (hs : List ℕ) (k r : ℕ) : Type 0 where
-  pub low : k ≤ r
-  pub same : (ps : List (List ℤ)) (es : List ℕ) → left ps es 0 (drop r hs) ≡ left ps es 0 (drop k hs)
 
 -- the strips of a ring of at least 3 points
 unfoldable pub all_of : List (List ℤ) → List ℕ → List ℕ → List Strip
@@ -118,12 +118,8 @@ pub record Sound (s : Strip) : Type 0 where
   pub right : s.x1 ≤ coordinate + coordinate
   pub top : s.y1 ≤ coordinate + coordinate
 
-unfoldable pub AllSound : List Strip → Type 0
-AllSound [] = Unit
-AllSound (s ∷ ss) = Sound s × AllSound ss
-
 -- what `prepare` has made ready of a ring within the limit
 pub record Ready (ps : List (List ℤ)) (hs es : List ℕ) : Type 0 where
   pub few : length ps ≤ max_points
-  pub heights : hs ≡ heights_of ps
+  pub heights : hs ≡ levels ps
   pub edges : es ≡ edges_of ps

@@ -12,15 +12,15 @@ use refusals::Refusal;
 use refusals::limits::RING_POINTS;
 use walk::Ready;
 
+pub mod heights;
 pub mod laws;
 pub mod ring;
-pub mod tally;
 pub mod walk;
 
 // A ring of at most so many points has short work rows.
 const FEW: usize = 16;
 
-// The strips into the row if there is room for them.
+// The strips into the row if there is room for them. Tried by `enumerate`; the proof didn't close.
 fn lay(ring: &Ready<'_>, out: &mut [[i64; 4]]) -> Result<usize, Refusal>
     ensures answer { stripped_said result ≡ counted (length (strips_of ring.now.points.now)) (length out.old) }
     ensures row { out.new ≡ if_accepted (stripped_said result) (laid (strips_of ring.now.points.now) out.old) out.old }
@@ -51,10 +51,10 @@ fn cut(
     ensures row { out.new ≡ if_accepted (stripped_said result) (laid (strips_of points.now) out.old) out.old }
 {
     let n = points.len();
-    walk::sort_heights(points, &mut heights[..n]);
+    let k = walk::sort_heights(points, &mut heights[..n]);
     let ring = Ready {
         points,
-        heights: &heights[..n],
+        heights: &heights[..k],
         edges,
     };
     lay(&ring, out)
@@ -100,12 +100,7 @@ pub fn strips(points: &[[i64; 2]], out: &mut [[i64; 4]]) -> Result<usize, Refusa
     ensures answer { stripped_said result ≡ strips_says points.now (length out.old) }
     ensures row { out.new ≡ strips_leave points.now out.old }
 {
-    if !ring::in_range(points) {
-        return Err(Refusal::OutOfRange(0));
-    }
-    if ring::slanted(points) {
-        return Err(Refusal::Slanted(0));
-    }
+    ring::judge(points, 0)?;
     if points.len() <= FEW {
         return cut_few(points, out);
     }

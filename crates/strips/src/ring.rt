@@ -1,10 +1,14 @@
 //! A ring of points, every point joined to the next and the last to the first.
 ghost use Rattle.std.specs.Prelude.{◌≡◌, ◌<◌, ◌^◌, ◌&&◌, IsTrue, length};
-ghost use Rattle.strips.specs.Rings.{x_at, y_at, after, edge_at, vertical, slants_at, point_in_range, ring_in_range};
+ghost use Rattle.std.specs.List.{list_all};
+ghost use Rattle.strips.specs.Rings.{x_at, y_at, after, edge_at, vertical, slants_at, both_in_range, ring_in_range};
 ghost use Rattle.strips.specs.Rings.{ring_slants};
-ghost use Rattle.strips.specs.Levels.{level_at, crosses, apart};
+ghost use Rattle.refusals.specs.Said.{Said};
+ghost use Rattle.strips.specs.Levels.{level_at, crosses};
+ghost use Rattle.strips.specs.Said.{fault, judged};
 
 use cell::ticks;
+use refusals::Refusal;
 use refusals::limits::RING_POINTS;
 
 /// From one point of a ring to the next.
@@ -54,11 +58,15 @@ fn next_point(points: &[[i64; 2]], i: usize) -> usize
 /// Whether the edge from point i goes from lo, or below, to above it, or the other way, all as lent. Where no point
 /// lies inside a band that begins at lo, the edge spans it.
 pub fn spans(points: &[[i64; 2]], i: usize, lo: i64) -> bool
-    requires { i < length points.now }
+    requires { i < 2 ^ 63 }
     ensures { result ≡ crosses lo (level_at points.now i) (level_at points.now (after points.now i)) }
 {
     let j = next_point(points, i);
-    crosses(points[i][1], points[j][1], lo)
+    if i < points.len() {
+        // The same without a test of either index, since a band asks it of every vertical edge.
+        return crosses(points[i][1], points[j][1], lo);
+    }
+    crosses(level_at(points, i), level_at(points, j), lo)
 }
 
 /// The edge from point i.
@@ -83,44 +91,34 @@ impl Edge {
     }
 }
 
-// Whether both coordinates of point i are in range. Internal.
-fn point_in_range(points: &[[i64; 2]], i: usize) -> bool
-    requires { i < length points.now }
-    ensures { result ≡ point_in_range points.now i }
+// Whether both coordinates of every point are in range.
+fn each_in_range(points: &[[i64; 2]]) -> bool
+    ensures { result ≡ list_all both_in_range points.now }
 {
-    ticks::in_range(points[i][0]) & ticks::in_range(points[i][1])
+    points
+        .iter()
+        .all(|p| ticks::in_range(p[0]) & ticks::in_range(p[1]))
 }
 
 /// The rules' ranges for a ring: the number of its points, and each coordinate.
 pub fn in_range(points: &[[i64; 2]]) -> bool
     ensures { result ≡ ring_in_range points.now }
 {
-    let mut ok = points.len() <= RING_POINTS;
-    for i in 0..points.len() {
-        ok &= point_in_range(points, i);
-    }
-    ok
+    points.len() <= RING_POINTS && each_in_range(points)
 }
 
-// Whether two points differ in both x and y.
-fn differ(x0: i64, y0: i64, x1: i64, y1: i64) -> bool
-    ensures { result ≡ (apart x0 x1 && apart y0 y1) }
-{
-    ((x0 < x1) | (x1 < x0)) & ((y0 < y1) | (y1 < y0))
-}
-
-// Whether the edge from point i differs in both. Internal, as the next: coordinates are in range, so that they differ
-// as offset ones do.
+// Whether the edge from point i differs in both x and y. Internal, as the next: coordinates are in range, so that they
+// differ as offset ones do.
 fn slants_at(points: &[[i64; 2]], i: usize) -> bool
     requires inside { i < length points.now }
     requires in_range { IsTrue (ring_in_range points.now) }
     ensures { result ≡ slants_at points.now i }
 {
     let j = next_point(points, i);
-    differ(points[i][0], points[i][1], points[j][0], points[j][1])
+    (points[i][0] != points[j][0]) & (points[i][1] != points[j][1])
 }
 
-/// Whether some edge differs in both x and y from end to end.
+/// Whether some edge differs in both x and y from end to end. Over the index, since an edge is two points of the ring.
 pub fn slanted(points: &[[i64; 2]]) -> bool
     requires { IsTrue (ring_in_range points.now) }
     ensures { result ≡ ring_slants points.now }
@@ -130,4 +128,17 @@ pub fn slanted(points: &[[i64; 2]]) -> bool
         found |= slants_at(points, i);
     }
     found
+}
+
+/// Refuses a ring that is out of range, and one that has a slanted edge, at the place given.
+pub fn judge(points: &[[i64; 2]], place: usize) -> Result<(), Refusal>
+    ensures { (otherwise : Said) → fault result otherwise ≡ judged place points.now otherwise }
+{
+    if !in_range(points) {
+        return Err(Refusal::OutOfRange(place));
+    }
+    if slanted(points) {
+        return Err(Refusal::Slanted(place));
+    }
+    Ok(())
 }

@@ -1,12 +1,12 @@
 //! The strips of a ring one after another. The y values and the vertical edges are put in order once; a band then meets
 //! the edges that span it from left to right, so that no band sorts anything.
-ghost use Rattle.std.specs.Prelude.{◌≡◌, ℕ, ◌+◌, ◌<◌, ◌≤◌, length, drop};
+ghost use Rattle.std.specs.Prelude.{◌≡◌, ℕ, ◌+◌, ◌/◌, ◌%◌, ◌<◌, ◌≤◌, length, drop, position};
 ghost use Rattle.refusals.specs.Limits.{max_points};
-ghost use Rattle.strips.specs.Tally.{Tallied};
-ghost use Rattle.strips.specs.Walk.{heights_of, unsorted_edges, edges_of, Gathered, Prepared, Roomy};
-ghost use Rattle.strips.specs.Walk.{BeginAtPoints, IsBand, Finds, Skips, left, ahead};
+ghost use Rattle.strips.specs.Strips.{levels};
+ghost use Rattle.strips.specs.Walk.{unsorted_edges, edges_of, Gathered, Prepared, Roomy};
+ghost use Rattle.strips.specs.Walk.{IsBand, crosses_at, FindsPair, left, ahead};
 
-use crate::{ring, tally};
+use crate::{heights, ring};
 use cell::ticks;
 use refusals::limits::RING_POINTS;
 
@@ -35,14 +35,14 @@ impl Strip {
     }
 }
 
-/// A ring made ready for the walk: the heights of its points and its vertical edges, each in rising order.
+/// A ring made ready for the walk: the heights that it has points at, each once, and its vertical edges, in order.
 #[derive(Clone, Copy)]
 pub struct Ready<'a> {
     pub points: &'a [[i64; 2]],
     pub heights: &'a [u64],
     pub edges: &'a [u64],
     ghost few: { length points.now ≤ max_points },
-    ghost heights_in_order: { heights.now ≡ heights_of points.now },
+    ghost heights_in_order: { heights.now ≡ levels points.now },
     ghost edges_in_order: { edges.now ≡ edges_of points.now },
 }
 
@@ -70,36 +70,22 @@ struct Step {
     edge: usize,
 }
 
-// The y values, each that differs once, with how often it stands there. Answers how many differ. Internal: the row is
-// as long as the ring, which is within the limit.
-fn tally_heights(points: &[[i64; 2]], row: &mut [u64]) -> usize
-    requires as_long { length row.old ≡ length points.now }
-    requires within_limit { length points.now ≤ max_points }
-    ensures { Tallied (heights_of points.now) row.new result }
+/// The y values in rising order, each once. Answers how many there are. Internal: the row is as long as the ring. Never
+/// inlined, nor is the sort of the edges: their frames are gone before the walk begins.
+#[inline(never)]
+pub fn sort_heights(points: &[[i64; 2]], row: &mut [u64]) -> usize
+    requires { length row.old ≡ length points.now }
+    ensures { Gathered (levels points.now) row.new result }
 {
     let mut k = 0;
-    let mut i = points.len();
-    while 0 < i {
-        i -= 1;
-        k = tally::add(row, k, ring::y_at(points, i));
+    for i in (0..points.len()).rev() {
+        k = heights::add(row, k, ring::y_at(points, i));
     }
     k
 }
 
-/// The y values in rising order. Internal, as the last. Never inlined, nor is the sort of the edges: their frames are
-/// gone before the walk begins.
-#[inline(never)]
-pub fn sort_heights(points: &[[i64; 2]], row: &mut [u64])
-    requires as_long { length row.old ≡ length points.now }
-    requires within_limit { length points.now ≤ max_points }
-    ensures { row.new ≡ heights_of points.now }
-{
-    let k = tally_heights(points, row);
-    tally::unpack(row, k);
-}
-
 // The vertical edges, each as one number: its x, and then its first point. Answers how many. Internal: the row is as
-// long as the ring.
+// long as the ring. Tried: pairs take twice the room on the stack, and a sort of them or of points by x twice the time.
 fn gather_edges(points: &[[i64; 2]], row: &mut [u64]) -> usize
     requires { length row.old ≡ length points.now }
     ensures { Gathered (unsorted_edges points.now (length points.now)) row.new result }
@@ -126,76 +112,88 @@ pub fn sort_edges(points: &[[i64; 2]], row: &mut [u64]) -> usize
     n
 }
 
-// The heights and the vertical edges of a ring, each at the front of its row, in order. Answers how many edges there
-// are.
-fn prepare(points: &[[i64; 2]], heights: &mut [u64], edges: &mut [u64]) -> usize
+// The heights and the vertical edges of a ring, each at the front of its row, in order. Answers how many heights there
+// are, and how many edges.
+fn prepare(points: &[[i64; 2]], heights: &mut [u64], edges: &mut [u64]) -> (usize, usize)
     requires { Roomy points.now heights.old edges.old }
-    ensures { Prepared points.now heights.new edges.new result }
+    ensures { Prepared points.now heights.new edges.new result.0 result.1 }
 {
     let n = points.len();
     let m = sort_edges(points, &mut edges[..n]);
-    sort_heights(points, &mut heights[..n]);
-    m
+    let k = sort_heights(points, &mut heights[..n]);
+    (k, m)
 }
 
-// The first edge from j on that spans the band from lo on; the number of edges where none does. Internal: the edges are
-// the ring's.
-fn find(points: &[[i64; 2]], edges: &[u64], j: usize, lo: u64) -> usize
-    requires { BeginAtPoints (length points.now) edges.now }
-    ensures { (hi : ℕ) → IsBand points.now lo hi → Finds points.now lo hi edges.now j result }
+// The x of a vertical edge, and the point that it begins at.
+fn x_of(edge: u64) -> u64
+    ensures { result ≡ edge / max_points }
 {
-    let low = ticks::ticks(lo);
-    for k in j..edges.len() {
-        let i = edges[k] % RING_POINTS as u64;
-        if ring::spans(points, i as usize, low) {
-            return k;
+    edge / RING_POINTS as u64
+}
+
+fn first_of(edge: u64) -> usize
+    ensures { result ≡ edge % max_points }
+{
+    (edge % RING_POINTS as u64) as usize
+}
+
+impl WorkRoom {
+    /// Makes a ring ready. What the room held before is lost.
+    pub fn ready<'r>(&'r mut self, points: &'r [[i64; 2]]) -> Ready<'r>
+        requires { length points.now ≤ max_points }
+        ensures { result.points.now ≡ points.now }
+    {
+        let (k, m) = prepare(points, &mut self.heights, &mut self.edges);
+        Ready {
+            points,
+            heights: &self.heights[..k],
+            edges: &self.edges[..m],
         }
     }
-    edges.len()
 }
 
-// The first band from k on that has a height: heights that are equal are passed at once.
-fn skip(heights: &[u64], k: usize) -> usize
-    requires { k < length heights.now }
-    ensures { Skips heights.now k result }
-{
-    let last = heights.len() - 1;
-    for b in k..last {
-        if heights[b] < heights[b + 1] {
-            return b;
-        }
-    }
-    last
-}
+impl<'a> Ready<'a> {
+    ghost use Rattle.strips.specs.Strips.{strips_of};
+    ghost use Rattle.strips.specs.Coming.{coming};
 
-// The next strip of positive width, from an edge of a band on.
-#[inline(always)]
-fn next_strip(
-    points: &[[i64; 2]],
-    heights: &[u64],
-    edges: &[u64],
-    band: usize,
-    edge: usize,
-) -> Option<Step>
-    requires begin { BeginAtPoints (length points.now) edges.now }
-    requires heights { heights.now ≡ heights_of points.now }
-    ensures { ahead points.now heights.now edges.now result ≡ left points.now edges.now edge (drop band heights.now) }
-{
-    if heights.len() == 0 {
-        return None;
+    // The first of some edges that goes from low, or below, to above it, or the other way, as lent.
+    #[inline(always)]
+    fn find(&self, edges: &[u64], low: i64) -> Option<usize>
+        ensures { result ≡ position (crosses_at self.now.points.now low) edges.now }
+    {
+        edges
+            .iter()
+            .position(|&e| ring::spans(self.points, first_of(e), low))
     }
-    let last = heights.len() - 1;
-    let mut k = band;
-    let mut j = edge;
-    while k < last {
-        let lo = heights[k];
-        let hi = heights[k + 1];
-        if (lo < hi) & (hi <= ticks::TOP) {
-            let a = find(points, edges, j, lo);
-            let b = find(points, edges, a + 1, lo);
-            if b < edges.len() {
-                let x0 = edges[a] / RING_POINTS as u64;
-                let x1 = edges[b] / RING_POINTS as u64;
+
+    // The next two edges from j on that span the band from lo on.
+    #[inline(always)]
+    fn find_pair(&self, j: usize, lo: u64) -> Option<(usize, usize)>
+        ensures { (hi : ℕ) → IsBand self.now.points.now lo hi
+            → FindsPair self.now.points.now lo hi self.now.edges.now j result }
+    {
+        let low = ticks::ticks(lo);
+        let rest = self.edges.get(j..)?;
+        let a = j + self.find(rest, low)?;
+        let b = a + 1 + self.find(&self.edges[a + 1..], low)?;
+        Some((a, b))
+    }
+
+    // The next strip of positive width, from an edge of a band on.
+    #[inline(always)]
+    fn next_strip(&self, band: usize, edge: usize) -> Option<Step>
+        ensures { ahead self.now.points.now self.now.heights.now self.now.edges.now result
+            ≡ left self.now.points.now self.now.edges.now edge (drop band self.now.heights.now) }
+    {
+        let last = self.heights.len().saturating_sub(1);
+        let mut k = band;
+        let mut j = edge;
+        while k < last {
+            let lo = self.heights[k];
+            let hi = self.heights[k + 1];
+            if let Some((a, b)) = self.find_pair(j, lo) {
+                let x0 = x_of(self.edges[a]);
+                let x1 = x_of(self.edges[b]);
                 j = b + 1;
                 if x0 < x1 {
                     return Some(Step {
@@ -213,33 +211,9 @@ fn next_strip(
                 k += 1;
                 j = 0;
             }
-        } else {
-            k = skip(heights, k + 1);
-            j = 0;
         }
+        None
     }
-    None
-}
-
-impl WorkRoom {
-    /// Makes a ring ready. What the room held before is lost.
-    pub fn ready<'r>(&'r mut self, points: &'r [[i64; 2]]) -> Ready<'r>
-        requires { length points.now ≤ max_points }
-        ensures { result.points.now ≡ points.now }
-    {
-        let n = points.len();
-        let m = prepare(points, &mut self.heights, &mut self.edges);
-        Ready {
-            points,
-            heights: &self.heights[..n],
-            edges: &self.edges[..m],
-        }
-    }
-}
-
-impl<'a> Ready<'a> {
-    ghost use Rattle.strips.specs.Strips.{strips_of};
-    ghost use Rattle.strips.specs.Coming.{coming};
 
     /// The strips of the ring.
     pub fn strips(&self) -> Strips<'a>
@@ -271,13 +245,7 @@ impl<'a> Iterator for Strips<'a> {
 
     #[inline(always)]
     fn next(&mut self) -> Option<Strip> {
-        match next_strip(
-            self.ring.points,
-            self.ring.heights,
-            self.ring.edges,
-            self.band,
-            self.edge,
-        ) {
+        match self.ring.next_strip(self.band, self.edge) {
             Some(step) => {
                 self.band = step.band;
                 self.edge = step.edge;

@@ -1,8 +1,9 @@
 -- The parts of the test of well-formedness, of the whole row and of one cell. Assumes nothing.
 use Rattle.std.proofs.Common.{ℕ, ◌+◌, ◌^◌, ◌<◌, ◌≤◌, ◌≡◌, true, ◌&&◌, List, ltb, leb, ℤ, length, ltb-true, leb-true, lt-ltb, le-leb}
+use Rattle.std.specs.List.{list_all, range_with_len}
 use Rattle.refusals.specs.Limits.{max_polygons}
 use Rattle.table.specs.Slots.{cell_at, in_slot}
-use Rattle.table.specs.Formed.{all_to, rest_zero, place_ok, kids_ok, cell_ok, shape_ok, well_formed}
+use Rattle.table.specs.Formed.{rest_zero, place_ok, kids_ok, cell_ok, shape_ok, well_formed}
 use Rattle.table.proofs.All.{and_left, and_right, all-at, all_of}
 
 pub record CellFacts (t : List ℤ) (n M i : ℕ) : Type 0 where
@@ -40,14 +41,14 @@ module _ (t : List ℤ) (n M : ℕ) where
   pub formed-cell : well_formed t n M ≡ true → (i : ℕ) → i < n → CellFacts t n M i
   unfolding well_formed
   formed-cell e i h =
-      cell-facts i (all-at (cell_ok t n M) n (and_right (rest_zero t n) (all_to (cell_ok t n M) n)
-      (and_right (shape_ok (length t) n M) (rest_zero t n && all_to (cell_ok t n M) n) e)) i h)
+      cell-facts i (all-at (cell_ok t n M) n (and_right (rest_zero t n) (list_all (cell_ok t n M) (range_with_len 0 n))
+      (and_right (shape_ok (length t) n M) (rest_zero t n && list_all (cell_ok t n M) (range_with_len 0 n)) e)) i h)
 
   pub formed-rest : well_formed t n M ≡ true → rest_zero t n ≡ true
   unfolding well_formed
   formed-rest e =
-      and_left (rest_zero t n) (all_to (cell_ok t n M) n)
-      (and_right (shape_ok (length t) n M) (rest_zero t n && all_to (cell_ok t n M) n) e)
+      and_left (rest_zero t n) (list_all (cell_ok t n M) (range_with_len 0 n))
+      (and_right (shape_ok (length t) n M) (rest_zero t n && list_all (cell_ok t n M) (range_with_len 0 n)) e)
 
   pub parts-formed : shape_ok (length t) n M ≡ true → rest_zero t n ≡ true → ((i : ℕ) → i < n → CellFacts t n M i) → well_formed t n M ≡ true
   unfolding well_formed

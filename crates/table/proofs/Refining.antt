@@ -1,19 +1,14 @@
 -- The call that splits a leaf: when it is accepted, and that it then leaves a well-formed table, with that leaf split.
 -- Assumes nothing.
-use Rattle.std.proofs.Common.{ℕ, ◌+◌, ◌/◌, ◌<◌, ◌≤◌, ◌≡◌, refl, ap, ◌∙◌, Bool, true, false, cond, [], ◌∷◌, List, ltb, leb, ℤ, length, lt-ltb, le-leb, ltb-true, leb-true}
+use Rattle.std.proofs.Common.{ℕ, ◌+◌, ◌/◌, ◌<◌, ◌≤◌, ◌≡◌, refl, Bool, true, false, cond, [], ◌∷◌, List, ltb, leb, ℤ, length, lt-ltb, le-leb, ltb-true, leb-true}
 use mathlib.Core.Bool.{false≢true}
 use Rattle.refusals.specs.Said.{accepted, refusal, is_accepted}
 use Rattle.refusals.specs.declared.Refusal.TheVariants.{BadTable, NoSuchCell, AlreadySplit, FinestLevel, NoRoom}
 use Rattle.table.specs.declared.Head.{Head}
-use Rattle.table.specs.Slots.{cell_at}
-use Rattle.table.specs.Mesh.{at, split, is_leaf}
+use Rattle.table.specs.Mesh.{at, is_leaf}
 use Rattle.table.specs.Formed.{well_formed}
-use Rattle.table.specs.Leaves.{leaf_at}
 use Rattle.table.specs.Rows.{IsTable, cells_in}
-use Rattle.table.specs.Refine.{split_row, refine_says, refined_row}
-use Rattle.table.proofs.Wellformed.{formed-facts}
-use Rattle.table.proofs.Splits.{split-table}
-use Rattle.table.proofs.Tables.{leaf_read, level_read}
+use Rattle.table.specs.Refine.{refine_says}
 
 pub record Refinable (row : List ℤ) (head : Head) (id : ℕ) : Type 0 where
   pub formed : IsTable row head
@@ -21,10 +16,6 @@ pub record Refinable (row : List ℤ) (head : Head) (id : ℕ) : Type 0 where
   pub leaf : is_leaf (cells_in row head) id ≡ true
   pub finer : (at (cells_in row head) id).level < head.max_level
   pub room : head.count + 4 ≤ length row / 8
-
--- the head with four cells more
-abbrev pub grown : Head → Head
-grown head = record { count = head.count + 4; max_level = head.max_level }
 
 module _ (row : List ℤ) (head : Head) (id : ℕ) where
   abbrev level : ℕ
@@ -55,17 +46,3 @@ module _ (row : List ℤ) (head : Head) (id : ℕ) where
   module _ (ok : is_accepted (refine_says row head id) ≡ true) where
     pub refine-values : refine_says row head id ≡ accepted ((head.count + 4) ∷ head.max_level ∷ [])
     refine-values = facts-accepted (accepted-facts ok)
-
-    row-split : refined_row row head id ≡ split_row row head.count id
-    row-split = ap (λ (b : Bool). cond b (split_row row head.count id) row) ok
-
-    leaf-there : leaf_at row id ≡ true
-    leaf-there = let r = accepted-facts ok in leaf_read row head.count id r.inside ∙ r.leaf
-
-    finer-there : (cell_at row id).level < head.max_level
-    finer-there = let r = accepted-facts ok in rw (level_read row head.count id r.inside) r.finer
-
-    pub accepted-table : cells_in (refined_row row head id) (grown head) ≡ split (cells_in row head) id
-    accepted-table =
-        let r = accepted-facts ok in
-        rw row-split (split-table row head.count head.max_level id (formed-facts row head.count head.max_level r.formed) r.inside leaf-there finer-there r.room)

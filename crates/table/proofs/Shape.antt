@@ -1,8 +1,9 @@
 -- The shape of a lent row, as a test and as facts. Assumes nothing.
 use Rattle.std.proofs.Common.{ℕ, ◌+◌, ◌*◌, ◌/◌, ◌%◌, ◌^◌, ◌<◌, ◌≤◌, ◌≡◌, true, ◌&&◌, arith, leb, ltb, eqb, ℤ, length, List, leb-true, ltb-true, eqb-true, le-leb, eq-eqb}
+use Rattle.std.specs.List.{list_all, range_with_len}
 use Rattle.refusals.specs.Limits.{widest_level, max_slots, max_polygons}
 use Rattle.table.specs.Slots.{cell_at, in_slot}
-use Rattle.table.specs.Formed.{shape_ok, rest_zero, all_to, place_ok, kids_ok, cell_ok, well_formed}
+use Rattle.table.specs.Formed.{holds_whole_slots, shape_ok, rest_zero, place_ok, kids_ok, cell_ok, well_formed}
 use Rattle.table.proofs.All.{and_left, and_right, all-at}
 
 pub record Shape (size n M : ℕ) : Type 0 where
@@ -15,13 +16,13 @@ module _ (size n M : ℕ) where
   pub shape_of : shape_ok size n M ≡ true → Shape size n M
   unfolding shape_ok
   shape_of e =
-      let a = and_left (leb M widest_level && eqb (size % 8) 0 && leb (size / 8) max_slots) (leb n (size / 8)) e in
-      let b = and_left (leb M widest_level && eqb (size % 8) 0) (leb (size / 8) max_slots) a in
+      let slotted = and_left (leb M widest_level && holds_whole_slots size) (leb n (size / 8)) e in
+      let whole = and_right (leb M widest_level) (holds_whole_slots size) slotted in
       record {
-        range = leb-true M widest_level (and_left (leb M widest_level) (eqb (size % 8) 0) b);
-        whole = eqb-true (size % 8) 0 (and_right (leb M widest_level) (eqb (size % 8) 0) b);
-        slots = leb-true (size / 8) max_slots (and_right (leb M widest_level && eqb (size % 8) 0) (leb (size / 8) max_slots) a);
-        count = leb-true n (size / 8) (and_right (leb M widest_level && eqb (size % 8) 0 && leb (size / 8) max_slots) (leb n (size / 8)) e);
+        range = leb-true M widest_level (and_left (leb M widest_level) (holds_whole_slots size) slotted);
+        whole = eqb-true (size % 8) 0 (and_left (eqb (size % 8) 0) (leb (size / 8) max_slots) whole);
+        slots = leb-true (size / 8) max_slots (and_right (eqb (size % 8) 0) (leb (size / 8) max_slots) whole);
+        count = leb-true n (size / 8) (and_right (leb M widest_level && holds_whole_slots size) (leb n (size / 8)) e);
       }
 
   pub of-shape : Shape size n M → shape_ok size n M ≡ true
@@ -35,7 +36,7 @@ within size n M s = omega arith
 -- past the test of well-formedness
 pub formed-shape : (t : List ℤ) (n M : ℕ) → well_formed t n M ≡ true → Shape (length t) n M
 unfolding well_formed
-formed-shape t n M e = shape_of (length t) n M (and_left (shape_ok (length t) n M) (rest_zero t n && all_to (cell_ok t n M) n) e)
+formed-shape t n M e = shape_of (length t) n M (and_left (shape_ok (length t) n M) (rest_zero t n && list_all (cell_ok t n M) (range_with_len 0 n)) e)
 
 pub formed-within : (t : List ℤ) (n M : ℕ) → well_formed t n M ≡ true → n * 8 ≤ length t
 formed-within t n M e = within (length t) n M (formed-shape t n M e)
@@ -44,7 +45,7 @@ pub formed-poly : (t : List ℤ) (n M : ℕ) → well_formed t n M ≡ true → 
 unfolding well_formed cell_ok
 formed-poly t n M e i h =
     let c = cell_at t i in
-    let all = and_right (rest_zero t n) (all_to (cell_ok t n M) n) (and_right (shape_ok (length t) n M) (rest_zero t n && all_to (cell_ok t n M) n) e) in
+    let all = and_right (rest_zero t n) (list_all (cell_ok t n M) (range_with_len 0 n)) (and_right (shape_ok (length t) n M) (rest_zero t n && list_all (cell_ok t n M) (range_with_len 0 n)) e) in
     let ok = all-at (cell_ok t n M) n all i h in
     let placed = and_left (in_slot t i && leb c.level M && ltb c.poly max_polygons && place_ok t n (2 ^ (M + 1)) i c) (kids_ok t n M i c) ok in
     let small = and_left (in_slot t i && leb c.level M && ltb c.poly max_polygons) (place_ok t n (2 ^ (M + 1)) i c) placed in

@@ -1,16 +1,15 @@
 -- What the code reads of a slot, as the cells have it, and how a walk over the leaves goes on. Assumes nothing.
-use Rattle.std.proofs.Common.{◌≡◌, ℕ, zero, suc, ◌+◌, ◌-◌, ◌/◌, ◌<◌, ◌≤◌, ◌≢◌, Bool, true, false, cond, List, ◌∷◌, ℤ, None, Some, length, filter, refl, sym, ap, ◌∙◌, arith, eqb}
+use Rattle.std.proofs.Common.{◌≡◌, ℕ, zero, suc, ◌+◌, ◌-◌, ◌/◌, ◌<◌, ◌≤◌, Bool, true, false, cond, List, ◌∷◌, ℤ, length, filter, refl, sym, ap, ◌∙◌, arith, eqb, is_none}
 use Rattle.std.specs.List.{range_with_len}
 use Rattle.refusals.specs.Limits.{widest_level, max_slots}
 use Rattle.cell.specs.Cells.{no_cell}
 use Rattle.table.specs.declared.Head.{Head}
 use Rattle.table.specs.Slots.{cell_at}
-use Rattle.table.specs.Mesh.{Cell, at, table, is_none, is_leaf, opt, opt_if}
+use Rattle.table.specs.Mesh.{Cell, at, table, is_leaf, opt, opt_if}
 use Rattle.table.specs.Leaves.{leaf_at}
 use Rattle.table.specs.Rows.{IsTable}
 use Rattle.table.proofs.Cells.{at_table}
 use Rattle.table.proofs.Shape.{formed-shape}
-use Rattle.table.proofs.Wellformed.{opt-some, opt_none}
 
 -- the bounds that a table keeps, in a form that the prover takes up where the test stands
 pub table_bounds : (row : List ℤ) (head : Head) → IsTable row head
@@ -31,24 +30,12 @@ module _ (t : List ℤ) (n i : ℕ) (inside : i < n) where
   kids_read : opt (cell_at t i).first ≡ (at (table t n) i).kids
   kids_read = ap (λ (c : Cell). c.kids) (sym (at_table t n i inside))
 
-  parent_read : opt (cell_at t i).parent ≡ (at (table t n) i).parent
-  parent_read = ap (λ (c : Cell). c.parent) (sym (at_table t n i inside))
-
-  pub no_kids : (cell_at t i).first ≡ no_cell → None ≡ (at (table t n) i).kids
-  no_kids e = sym (opt_none _ e) ∙ kids_read
-
-  pub some_kids : (cell_at t i).first ≢ no_cell → Some (cell_at t i).first ≡ (at (table t n) i).kids
-  some_kids e = sym (opt-some _ e) ∙ kids_read
-
-  pub no_parent : (cell_at t i).parent ≡ no_cell → None ≡ (at (table t n) i).parent
-  no_parent e = sym (opt_none _ e) ∙ parent_read
-
-  pub some_parent : (cell_at t i).parent ≢ no_cell → Some (cell_at t i).parent ≡ (at (table t n) i).parent
-  some_parent e = sym (opt-some _ e) ∙ parent_read
-
   pub leaf_read : leaf_at t i ≡ is_leaf (table t n) i
   unfolding leaf_at
   leaf_read = sym (is_none-opt_if (eqb (cell_at t i).first no_cell) (cell_at t i).first) ∙ ap is_none kids_read
+
+-- what the polygon of a leaf is read from
+pub ruleset runs_read = (leaf_read, polygon_read)
 
 -- of the ids from i on that pass a test the first is i, or they are those from the next on
 module _ (p : ℕ → Bool) (n i : ℕ) (inside : i < n) where

@@ -4,7 +4,9 @@ use borrow.Author.Tests.{eqb-false}
 use Rattle.refusals.specs.Limits.{max_polygons}
 use Rattle.refusals.specs.Said.{bit}
 use Rattle.table.specs.Slots.{cell_at}
-use Rattle.table.specs.Leaves.{one_if, ids_to, leaf_at, leaf_of, leaf_ids, order_to, order_ids}
+use Rattle.table.specs.Leaves.{leaf_at, leaf_of, polygon_ids, order_to, order_ids}
+use Rattle.table.proofs.Ids.{one_if, ids_to, ids-none, ids-more}
+use Rattle.table.proofs.Order.{order-suc}
 
 -- how often an id stands in a list
 unfoldable pub times : ℕ → List ℕ → ℕ
@@ -55,21 +57,23 @@ module _ (f : ℕ → Bool) (i : ℕ) where
       by false d = refl
 
   pub times-ids : (n : ℕ) → times i (ids_to f n) ≡ bit (ltb i n && f i)
-  unfolding ids_to times
-  times-ids zero = sym (ap (λ (b : Bool). bit (b && f i)) (le-ltb i 0 (omega arith)))
+  times-ids zero =
+      (let e : times i [] ≡ 0 = unfold times in refl in
+      ap (times i) (ids-none f) ∙ e)
+      ∙ sym (ap (λ (b : Bool). bit (b && f i)) (le-ltb i 0 (omega arith)))
   times-ids (suc n) =
-      times-append i (ids_to f n) (one_if (f n) n)
+      ap (times i) (ids-more f n)
+      ∙ times-append i (ids_to f n) (one_if (f n) n)
       ∙ ap₂ ◌+◌ (times-ids n) (one_time n (f n) ∙ this-time n)
       ∙ sym (behind (f i) (ltb i n) (eqb i n) (ltb i (suc n)) (one_more i n))
 
 module _ (t : List ℤ) (n i : ℕ) where
   -- every leaf once, and nothing else
-  pub times-leaves : times i (leaf_ids t n) ≡ bit (ltb i n && leaf_at t i)
-  unfolding leaf_ids
+  pub times-leaves : times i (ids_to (leaf_at t) n) ≡ bit (ltb i n && leaf_at t i)
   times-leaves = times-ids (leaf_at t) i n
 
   times-under : (p : ℕ) → times i (order_to t n p) ≡ bit (ltb i n && (leaf_at t i && ltb (cell_at t i).poly p))
-  unfolding order_to times leaf_of
+  unfolding order_to times polygon_ids ids_to leaf_of
   times-under zero =
       sym (ap (λ (b : Bool). bit (ltb i n && (leaf_at t i && b))) (le-ltb (cell_at t i).poly 0 (omega arith)) ∙ none (ltb i n) (leaf_at t i))
     where
@@ -78,14 +82,15 @@ module _ (t : List ℤ) (n i : ℕ) where
       none true false = refl
       none false y = refl
   times-under (suc p) =
-      times-append i (order_to t n p) (ids_to (leaf_of t p) n)
+      ap (times i) (order-suc t n p)
+      ∙ times-append i (order_to t n p) (polygon_ids t n p)
       ∙ ap₂ ◌+◌ (times-under p) (times-ids (leaf_of t p) i n)
       ∙ sym (
       beside (ltb i n) (leaf_at t i && ltb (cell_at t i).poly p) (leaf_at t i && eqb (cell_at t i).poly p) (leaf_at t i && ltb (cell_at t i).poly (suc p))
       (beside (leaf_at t i) (ltb (cell_at t i).poly p) (eqb (cell_at t i).poly p) (ltb (cell_at t i).poly (suc p)) (one_more (cell_at t i).poly p)))
 
   -- the order by polygon has the same ids
-  pub times-order : ((j : ℕ) → j < n → (cell_at t j).poly < max_polygons) → times i (order_ids t n) ≡ times i (leaf_ids t n)
+  pub times-order : ((j : ℕ) → j < n → (cell_at t j).poly < max_polygons) → times i (order_ids t n) ≡ times i (ids_to (leaf_at t) n)
   unfolding order_ids
   times-order h = times-under max_polygons ∙ by (ltb i n) refl ∙ sym times-leaves
     where

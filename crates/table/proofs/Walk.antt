@@ -1,11 +1,12 @@
 -- The walk over the cells says yes exactly where every cell passes its test. A root is tested by itself. A child is what
 -- its parent's numbers say, so its test follows from the parent's; and where a cell's first child names it, its four
 -- stand there, since a four is only passed where its parent names it. Assumes nothing.
-use Rattle.std.proofs.Common.{ℕ, zero, suc, ◌+◌, ◌-◌, ◌^◌, ◌<◌, ◌≤◌, ◌≡◌, refl, sym, ap, subst, ◌∙◌, Bool, true, false, ◌&&◌, ◌||◌, List, ◌⊎◌, inl, inr, ⊎_elim, ◌≢◌, arith, add-zero, ltb, leb, eqb, ℤ, pos, negsuc, ltb-true, leb-true, eqb-true, lt-ltb, le-leb, eq-eqb, ne_eqb}
+use Rattle.std.proofs.Common.{ℕ, zero, suc, ◌+◌, ◌-◌, ◌^◌, ◌<◌, ◌≤◌, ◌≡◌, refl, sym, ap, subst, ◌∙◌, Bool, true, false, ◌&&◌, ◌||◌, List, ◌⊎◌, inl, inr, ⊎_elim, ◌≢◌, arith, add-zero, ltb, leb, eqb, ℤ, pos, negsuc, None, Some, ltb-true, leb-true, eqb-true, lt-ltb, le-leb, eq-eqb, ne_eqb}
 use mathlib.Core.Logic.{by_cases}
 use native.Mathlib.Decide.{dec_lt}
 use lib.Signed.{non_neg}
 use borrow.Author.Tests.{eqb-false}
+use Rattle.std.specs.List.{list_all, range_with_len}
 use Rattle.refusals.specs.Limits.{coordinate, max_slots, max_polygons}
 use Rattle.cell.specs.Boxes.{Quad, sw, se, nw, ne, num, quad_at}
 use Rattle.cell.specs.declared.Cell as Held
@@ -14,7 +15,7 @@ use Rattle.cell.specs.Ticks.{on, off, in_range}
 use Rattle.cell.proofs.Offsets.{off-on}
 use Rattle.table.specs.Slots.{counted, same_z, number, start, cell_at, in_slot}
 use Rattle.table.specs.Mesh.{table}
-use Rattle.table.specs.Formed.{Kid, all_to, side_ok, root_ok, born_ok, place_ok, kids_ok, cell_ok}
+use Rattle.table.specs.Formed.{Kid, side_ok, root_ok, born_ok, place_ok, kids_ok, cell_ok}
 use Rattle.table.specs.Walk.{kid_at, kids_at, led_at, root_at, four_at, past_at}
 use Rattle.table.proofs.All.{and_left, and_right, all_of}
 use Rattle.table.proofs.Numbers.{same_true, true_same}
@@ -348,7 +349,7 @@ module _ (t : List ℤ) (n M : ℕ) (small : n ≤ max_slots) (all : (i : ℕ) �
       child-own i l c (own b c.parent (omega arith) (omega arith)))
       (all i l).place
 
-  pub found-cells : all_to (cell_ok t n M) n ≡ true
+  pub found-cells : list_all (cell_ok t n M) (range_with_len 0 n) ≡ true
   found-cells =
       all_of (cell_ok t n M) n (λ i h.
       let w = own (suc i) i (omega arith) h in
@@ -451,17 +452,17 @@ module _ (t : List ℤ) (n M : ℕ) (small : n ≤ max_slots) (all : (i : ℕ) �
           led (i + 3) (omega arith),
         )
 
-  pub goes_on : (i : ℕ) → i < n → ((j : ℕ) → j < i → Found t n M i j) → past_at t n M (2 ^ (M + 1)) i ≢ 0
+  pub goes_on : (i : ℕ) → i < n → ((j : ℕ) → j < i → Found t n M i j) → past_at t n M (2 ^ (M + 1)) i ≢ None
   unfolding past_at
   goes_on i h walked z = by (eqb (cell_at t i).parent no_cell) refl
     where
       by : (x : Bool) → eqb (cell_at t i).parent no_cell ≡ x → ⊥
       by true d =
-          let e : i + 1 ≡ 0 = rw (d, root-here i h (eqb-true (cell_at t i).parent no_cell d)) at z in
-          omega arith
+          let e : Some (i + 1) ≡ None = rw (d, root-here i h (eqb-true (cell_at t i).parent no_cell d)) at z in
+          cc
       by false d =
-          let e : i + 4 ≡ 0 = rw (d, four-here i h (eqb-false (cell_at t i).parent no_cell d) walked) at z in
-          omega arith
+          let e : Some (i + 4) ≡ None = rw (d, four-here i h (eqb-false (cell_at t i).parent no_cell d) walked) at z in
+          cc
 
 -- ---- one step of the walk
 
@@ -555,15 +556,25 @@ module _ (t : List ℤ) (n M i : ℕ) (h : i < n) (walked : (j : ℕ) → j < i 
       each a b c d (suc (suc (suc zero))) g = d
       each a b c d (suc (suc (suc (suc k)))) g = absurd (omega arith)
 
-  pub past_next : (m : ℕ) → past_at t n M (2 ^ (M + 1)) i ≡ m → m ≢ 0 → Next t n M i m
+  pub past_next : (m : ℕ) → past_at t n M (2 ^ (M + 1)) i ≡ Some m → Next t n M i m
   unfolding past_at
-  past_next m e o = by (eqb p no_cell) refl (root_at t n (2 ^ (M + 1)) i) refl (four_at t n M i p) refl
+  past_next m e = by (eqb p no_cell) refl (root_at t n (2 ^ (M + 1)) i) refl (four_at t n M i p) refl
     where
       p : ℕ
       p = (cell_at t i).parent
 
       by : (x : Bool) → eqb p no_cell ≡ x → (y : Bool) → root_at t n (2 ^ (M + 1)) i ≡ y → (z : Bool) → four_at t n M i p ≡ z → Next t n M i m
-      by true d true r z f = subst (Next t n M i) (rw (d, r) at e) (root-next r (eqb-true p no_cell d))
-      by true d false r z f = absurd (o (sym (rw (d, r) at e)))
-      by false d y r true f = subst (Next t n M i) (rw (d, f) at e) (four-next f)
-      by false d y r false f = absurd (o (sym (rw (d, f) at e)))
+      by true d true r z f =
+          let s : Some (i + 1) ≡ Some m = rw (d, r) at e in
+          let w : i + 1 ≡ m = cc in
+          subst (Next t n M i) w (root-next r (eqb-true p no_cell d))
+      by true d false r z f =
+          let s : None ≡ Some m = rw (d, r) at e in
+          absurd (cc)
+      by false d y r true f =
+          let s : Some (i + 4) ≡ Some m = rw (d, f) at e in
+          let w : i + 4 ≡ m = cc in
+          subst (Next t n M i) w (four-next f)
+      by false d y r false f =
+          let s : None ≡ Some m = rw (d, f) at e in
+          absurd (cc)

@@ -8,8 +8,9 @@ use Rattle.cell.specs.declared.Cell as Held
 use Rattle.cell.specs.Cells.{no_cell, box_of, child_of}
 use Rattle.table.specs.Slots.{cell_at}
 use Rattle.table.specs.Mesh.{Cell, at, table, opt, opt_if, mesh_cell}
-use Rattle.table.specs.Formed.{Kid, Split, Born, Root, Formed, WellFormed, zero_at, rest_zero, side_ok, root_ok, born_ok, same_but, kid_ok, kids_ok, place_ok, well_formed}
-use Rattle.table.proofs.All.{and_left, and_right, and_both, all-at, all_of}
+use Rattle.table.specs.Formed.{Kid, Split, Born, Root, Formed, WellFormed, rest_zero, side_ok, root_ok, born_ok, same_but, kid_ok, kids_ok, place_ok, well_formed}
+use Rattle.table.proofs.All.{and_left, and_right, and_both}
+use Rattle.table.proofs.Zeros.{zeros, of-zeros}
 use Rattle.table.proofs.Shape.{of-shape, formed-shape}
 use Rattle.table.proofs.Facts.{CellFacts, formed-cell, formed-rest, parts-formed}
 use Rattle.table.proofs.Cells.{length-table, at_table}
@@ -301,13 +302,12 @@ module _ (t : List ℤ) (n : ℕ) where
   pub rest-facts : rest_zero t n ≡ true → (j : ℕ) → n * 8 ≤ j → j < length t → get_or t j (pos 0) ≡ pos 0
   unfolding rest_zero
   rest-facts e j l h =
-      let d : n * 8 + (j - n * 8) ≡ j = omega arith in
-      let z = all-at (λ k. zero_at t (n * 8 + k)) (length t - n * 8) e (j - n * 8) (omega arith) in
-      no-magnitude (get_or t j (pos 0)) (eqb-true (nat_abs (get_or t j (pos 0))) 0 (rw d at z))
+      let z = zeros t (n * 8) (length t - n * 8) e j l (omega arith) in
+      no-magnitude (get_or t j (pos 0)) (eqb-true (nat_abs (get_or t j (pos 0))) 0 z)
 
   pub facts-rest : ((j : ℕ) → n * 8 ≤ j → j < length t → get_or t j (pos 0) ≡ pos 0) → rest_zero t n ≡ true
   unfolding rest_zero
-  facts-rest f = all_of (λ k. zero_at t (n * 8 + k)) (length t - n * 8) (λ k h. ap (λ (z : ℤ). eqb (nat_abs z) 0) (f (n * 8 + k) (omega arith) (omega arith)))
+  facts-rest f = of-zeros t (n * 8) (length t - n * 8) (λ j l h. ap (λ (z : ℤ). eqb (nat_abs z) 0) (f j l (omega arith)))
 
 module _ (t : List ℤ) (n M : ℕ) where
   pub facts-cells : n ≤ max_slots → ((i : ℕ) → i < n → CellFacts t n M i) → Formed M (table t n)

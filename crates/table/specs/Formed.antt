@@ -1,7 +1,8 @@
 -- The rules' "Well-formed table", clause by clause; and the test whose answer the code gives, which holds exactly if
 -- the definition does (proofs/Wellformed.antt). How the code comes to that answer is in Walk.antt.
-use Rattle.std.specs.Prelude.{ℕ, zero, suc, ◌+◌, ◌*◌, ◌-◌, ◌/◌, ◌%◌, ◌^◌, ◌<◌, ◌≤◌, ◌≡◌, Bool, true, ◌&&◌, List, ℤ, pos}
+use Rattle.std.specs.Prelude.{ℕ, suc, ◌+◌, ◌*◌, ◌-◌, ◌/◌, ◌%◌, ◌^◌, ◌<◌, ◌≤◌, ◌≡◌, Bool, true, ◌&&◌, List, ℤ, pos}
 use Rattle.std.specs.Prelude.{nat_abs, length, None, Some, ◌==◌, if◌then◌else◌, nat_lt, nat_le, slice_index_or}
+use Rattle.std.specs.List.{list_all, range_with_len}
 use Rattle.refusals.specs.Limits.{widest_level, max_slots, max_polygons}
 use Rattle.cell.specs.Boxes.{Quad, num, quadrant, quad_at}
 use Rattle.cell.specs.declared.Cell as Held
@@ -66,15 +67,11 @@ pub record WellFormed (t : List ℤ) (n M : ℕ) : Type 0 where
 
 -- ---- the test
 
-abbrev pub all_to : (ℕ → Bool) → ℕ → Bool
-all_to f zero = true
-all_to f (suc n) = all_to f n && f n
-
 abbrev pub zero_at : List ℤ → ℕ → Bool
 zero_at t j = nat_abs (slice_index_or t j (pos 0)) == 0
 
 unfoldable pub rest_zero : List ℤ → ℕ → Bool
-rest_zero t n = all_to (λ j. zero_at t (n * 8 + j)) (length t - n * 8)
+rest_zero t n = list_all (zero_at t) (range_with_len (n * 8) (length t - n * 8))
 
 -- a side from a to b is a positive multiple of the step
 unfoldable pub side_ok : ℕ → ℕ → ℕ → Bool
@@ -110,8 +107,12 @@ cell_ok t n M i =
     in_slot t i && nat_le (cell_at t i).level M && nat_lt (cell_at t i).poly max_polygons
     && place_ok t n (2 ^ (M + 1)) i (cell_at t i) && kids_ok t n M i (cell_at t i)
 
+-- "length a multiple of 8 and slots in range"
+abbrev pub holds_whole_slots : ℕ → Bool
+holds_whole_slots size = size % 8 == 0 && nat_le (size / 8) max_slots
+
 unfoldable pub shape_ok : ℕ → ℕ → ℕ → Bool
-shape_ok size n M = nat_le M widest_level && size % 8 == 0 && nat_le (size / 8) max_slots && nat_le n (size / 8)
+shape_ok size n M = nat_le M widest_level && holds_whole_slots size && nat_le n (size / 8)
 
 unfoldable pub well_formed : List ℤ → ℕ → ℕ → Bool
-well_formed t n M = shape_ok (length t) n M && (rest_zero t n && all_to (cell_ok t n M) n)
+well_formed t n M = shape_ok (length t) n M && (rest_zero t n && list_all (cell_ok t n M) (range_with_len 0 n))

@@ -2,6 +2,7 @@
 -- room.
 use Rattle.std.specs.Prelude.{ℕ, zero, suc, Bool, true, false, List, [], ◌∷◌, ◌++◌, ℤ, length, Option, None, Some, ◌==◌}
 use Rattle.std.specs.Prelude.{slice_index_or, slice_set}
+pub use Rattle.std.specs.Prelude.{is_none}
 use Rattle.cell.specs.Boxes.{Box, Quad, sw, se, nw, ne, quadrant}
 use Rattle.cell.specs.declared.Cell as Held
 use Rattle.cell.specs.Cells.{no_cell, box_of}
@@ -36,10 +37,6 @@ brood i c = child i c sw ∷ child i c se ∷ child i c nw ∷ child i c ne ∷ 
 -- cell i split: its four children are appended, and it names the first
 unfoldable pub split : List Cell → ℕ → List Cell
 split t i = slice_set t i (with_kids (at t i) (length t)) ++ brood i (at t i)
-
-abbrev pub is_none : Option ℕ → Bool
-is_none None = true
-is_none (Some f) = false
 
 abbrev pub is_leaf : List Cell → ℕ → Bool
 is_leaf t i = is_none (at t i).kids

@@ -1,5 +1,5 @@
 -- Cells in the slots of a lent row, eight numbers to a slot: x0 y0 x1 y1 level parent first-child polygon.
-use Rattle.std.specs.Prelude.{ℕ, ◌+◌, ◌*◌, min, Bool, false, ◌&&◌, List, ℤ, pos, negsuc, ◌==◌, slice_index_or}
+use Rattle.std.specs.Prelude.{ℕ, ◌+◌, ◌*◌, ◌-◌, ◌^◌, min, Bool, false, ◌&&◌, List, ℤ, pos, negsuc, ◌==◌, slice_index_or}
 use Rattle.std.specs.Prelude.{slice_set}
 use Rattle.std.specs.Int.Signed.{non_neg}
 use Rattle.cell.specs.declared.Cell.{Cell}
@@ -11,7 +11,7 @@ counted (pos n) = n
 counted (negsuc n) = 0
 
 unfoldable pub kept : ℕ → ℤ
-kept n = pos (min n 9223372036854775807)
+kept n = pos (min n (2 ^ 63 - 1))
 
 -- two numbers of the row are the same
 abbrev pub same_z : ℤ → ℤ → Bool

@@ -1,8 +1,10 @@
 //! The rules' "Well-formed table", tested in one walk over the row. Cells are roots, or children in fours: a four is
 //! compared with its parent, whose numbers say what the children's are, and a cell's first child must name it back.
 ghost use Rattle.std.specs.Prelude.{◌≡◌, ◌+◌, ◌*◌, ◌/◌, ◌%◌, ◌^◌, ◌<◌, ◌≤◌, length};
+ghost use Rattle.std.specs.List.{list_all, range_with_len};
 ghost use Rattle.refusals.specs.Limits.{widest_level, max_slots};
-ghost use Rattle.table.specs.Formed.{all_to, zero_at, rest_zero, side_ok, root_ok, cell_ok, shape_ok, well_formed};
+ghost use Rattle.table.specs.Formed.{zero_at, rest_zero, side_ok, root_ok, cell_ok, holds_whole_slots, shape_ok};
+ghost use Rattle.table.specs.Formed.{well_formed};
 ghost use Rattle.table.specs.Walk.{Power, kid_at, kids_at, slot_or, led_at, root_at, four_at, past_at};
 
 use crate::Head;
@@ -11,13 +13,13 @@ use cell::ticks::ticks;
 use cell::{Cell, Quadrant};
 use refusals::limits;
 
-// 2^(m+1), which every side of a root is a multiple of.
+/// What every side of a root is a multiple of.
 #[tactic(auto, using(std::proofs::lemmas::Nat::pow_below))]
-fn step_of(m: u64) -> u64
-    requires { m ≤ widest_level }
-    ensures { result ≡ 2 ^ (m + 1) }
+pub fn root_unit(max_level: u64) -> u64
+    requires { max_level ≤ widest_level }
+    ensures { result ≡ 2 ^ (max_level + 1) }
 {
-    2 << m
+    2 << max_level
 }
 
 // The step is a power of two, so a side's remainder is its low bits, and no division is needed.
@@ -82,66 +84,71 @@ fn slot_or(f: u64, n: usize, i: usize) -> usize
     if f < n as u64 { f as usize } else { i }
 }
 
-// Whether cell i names no child, or one past it that names it as its parent. No branch: which cells are split can't be
-// foretold.
-#[tactic(auto, unfolding(crate::specs::Walk::led_at))]
-fn led(t: &[i64], n: usize, i: usize) -> bool
-    requires slots { n * 8 ≤ length t.now }
-    requires inside { i < n }
-    ensures { result ≡ led_at t.now n i }
-{
-    let f = first_at(t, i);
-    let g = slot_or(f, n, i);
-    (f == Cell::NO_CELL) | ((i < g) & is_at(t, g * 8 + 5, i as i64))
+// The walk over a row's first `count` slots.
+#[derive(Clone, Copy)]
+struct Walk<'a> {
+    row: &'a [i64],
+    count: usize,
+    max_level: u64,
+    // What every side of a root is a multiple of.
+    unit: u64,
+    ghost slots: { count * 8 ≤ length row.now },
+    ghost range: { max_level ≤ widest_level },
+    ghost power: { unit ≡ 2 ^ (max_level + 1) },
 }
 
-// Whether a root stands in slot i.
-#[tactic(auto, unfolding(crate::specs::Walk::root_at, crate::specs::Walk::led_at))]
-fn root_here(t: &[i64], n: usize, step: u64, i: usize) -> bool
-    requires slots { n * 8 ≤ length t.now }
-    requires inside { i < n }
-    requires power { Power step }
-    ensures { result ≡ root_at t.now n step i }
-{
-    if !in_slot(t, i) {
-        return false;
+impl Walk<'_> {
+    // Whether cell i names no child, or one past it that names it as its parent. No branch: which cells are split can't
+    // be foretold.
+    #[tactic(auto, unfolding(crate::specs::Walk::led_at))]
+    fn led(&self, i: usize) -> bool
+        requires { i < self.now.count }
+        ensures { result ≡ led_at self.now.row.now self.now.count i }
+    {
+        let f = first_at(self.row, i);
+        let g = slot_or(f, self.count, i);
+        (f == Cell::NO_CELL) | ((i < g) & is_at(self.row, g * 8 + 5, i as i64))
     }
-    let c = cell_at(t, i);
-    (c.poly < limits::POLYGONS as u64) & root_ok(step, c) && (c.is_leaf() || led(t, n, i))
-}
 
-// Whether the four children of cell p stand in the slots from i on.
-#[tactic(auto, unfolding(crate::specs::Walk::four_at))]
-fn four_here(t: &[i64], n: usize, m: u64, i: usize, p: u64) -> bool
-    requires slots { n * 8 ≤ length t.now }
-    requires inside { i < n }
-    requires range { m ≤ widest_level }
-    ensures { result ≡ four_at t.now n m i p }
-{
-    if n - i < 4 || i as u64 <= p {
-        return false;
+    // Whether a root stands in slot i.
+    #[tactic(auto, unfolding(crate::specs::Walk::root_at, crate::specs::Walk::led_at))]
+    fn root_here(&self, i: usize) -> bool
+        requires { i < self.now.count }
+        ensures { result ≡ root_at self.now.row.now self.now.count self.now.unit i }
+    {
+        if !in_slot(self.row, i) {
+            return false;
+        }
+        let c = cell_at(self.row, i);
+        (c.poly < limits::POLYGONS as u64) & root_ok(self.unit, c) && (c.is_leaf() || self.led(i))
     }
-    let q = p as usize;
-    is_at(t, q * 8 + 6, i as i64) & kids_ok(t, m, q, i)
-        && led(t, n, i) & led(t, n, i + 1) & led(t, n, i + 2) & led(t, n, i + 3)
-}
 
-// The slot past the root or the four children that stand from slot i on; 0 where neither does.
-#[tactic(auto, unfolding(crate::specs::Walk::past_at))]
-fn past(t: &[i64], n: usize, m: u64, step: u64, i: usize) -> usize
-    requires slots { n * 8 ≤ length t.now }
-    requires inside { i < n }
-    requires range { m ≤ widest_level }
-    requires power { Power step }
-    ensures { result ≡ past_at t.now n m step i }
-{
-    let p = parent_at(t, i);
-    if p == Cell::NO_CELL {
-        if root_here(t, n, step, i) { i + 1 } else { 0 }
-    } else if four_here(t, n, m, i, p) {
-        i + 4
-    } else {
-        0
+    // Whether the four children of cell p stand in the slots from i on.
+    #[tactic(auto, unfolding(crate::specs::Walk::four_at))]
+    fn four_here(&self, i: usize, p: u64) -> bool
+        requires { i < self.now.count }
+        ensures { result ≡ four_at self.now.row.now self.now.count self.now.max_level i p }
+    {
+        if self.count - i < 4 || i as u64 <= p {
+            return false;
+        }
+        let q = p as usize;
+        is_at(self.row, q * 8 + 6, i as i64) & kids_ok(self.row, self.max_level, q, i)
+            && self.led(i) & self.led(i + 1) & self.led(i + 2) & self.led(i + 3)
+    }
+
+    // The slot past the root or the four children that stand from slot i on; none where neither does.
+    #[tactic(auto, unfolding(crate::specs::Walk::past_at))]
+    fn past(&self, i: usize) -> Option<usize>
+        requires { i < self.now.count }
+        ensures { result ≡ past_at self.now.row.now self.now.count self.now.max_level self.now.unit i }
+    {
+        let p = parent_at(self.row, i);
+        if p == Cell::NO_CELL {
+            self.root_here(i).then_some(i + 1)
+        } else {
+            self.four_here(i, p).then_some(i + 4)
+        }
     }
 }
 
@@ -149,16 +156,20 @@ fn cells_ok(t: &[i64], n: usize, m: u64) -> bool
     requires slots { n * 8 ≤ length t.now }
     requires few { n ≤ max_slots }
     requires range { m ≤ widest_level }
-    ensures { result ≡ all_to (cell_ok t.now n m) n }
+    ensures { result ≡ list_all (cell_ok t.now n m) (range_with_len 0 n) }
 {
-    let step = step_of(m);
+    let walk = Walk {
+        row: t,
+        count: n,
+        max_level: m,
+        unit: root_unit(m),
+    };
     let mut i = 0;
     while i < n {
-        let e = past(t, n, m, step, i);
-        if e == 0 {
+        let Some(next) = walk.past(i) else {
             return false;
-        }
-        i = e;
+        };
+        i = next;
     }
     true
 }
@@ -166,7 +177,7 @@ fn cells_ok(t: &[i64], n: usize, m: u64) -> bool
 // Whether the eight numbers of slot j are zero.
 fn slot_zero(t: &[i64], j: usize) -> bool
     requires { j * 8 + 8 ≤ length t.now }
-    ensures { result ≡ all_to (λ k. zero_at t.now (j * 8 + k)) 8 }
+    ensures { result ≡ list_all (λ k. zero_at t.now (j * 8 + k)) (range_with_len 0 8) }
 {
     let b = j * 8;
     is_at(t, b, 0)
@@ -186,20 +197,21 @@ fn rest_zero(t: &[i64], n: usize) -> bool
     requires whole { length t.now % 8 ≡ 0 }
     ensures { result ≡ rest_zero t.now n }
 {
-    let slots = t.len() / 8;
-    for j in n..slots {
-        if !slot_zero(t, j) {
-            return false;
-        }
-    }
-    true
+    (n..t.len() / 8).all(|j| slot_zero(t, j))
+}
+
+/// Whether a row of this length is whole slots, and no more than a table may have.
+pub fn holds_whole_slots(size: usize) -> bool
+    ensures { result ≡ holds_whole_slots size }
+{
+    (size % 8 == 0) & (size / 8 <= limits::SLOTS)
 }
 
 #[tactic(auto, unfolding(crate::specs::Formed::shape_ok))]
 fn shape_ok(size: usize, n: usize, m: u64) -> bool
     ensures { result ≡ shape_ok size n m }
 {
-    (m <= Cell::WIDEST_LEVEL) & (size % 8 == 0) & (size / 8 <= limits::SLOTS) & (n <= size / 8)
+    (m <= Cell::WIDEST_LEVEL) & holds_whole_slots(size) & (n <= size / 8)
 }
 
 /// Whether the row holds a well-formed table: `laws::test_is_definition`. `Table::new` asks it once for all.

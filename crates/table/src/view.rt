@@ -3,7 +3,7 @@ ghost use Rattle.std.specs.Prelude.{◌≡◌, ◌/◌, ◌<◌, ◌≤◌, ◌�
 ghost use Rattle.std.specs.Iterator.{YieldsFirst, item_count};
 ghost use Rattle.refusals.specs.Limits.{widest_level, max_slots};
 ghost use Rattle.table.specs.Slots.{cell_at};
-ghost use Rattle.table.specs.Mesh.{at, is_leaf};
+ghost use Rattle.table.specs.Mesh.{at, is_leaf, opt};
 ghost use Rattle.table.specs.Formed.{WellFormed};
 ghost use Rattle.table.specs.Rows.{IsTable};
 
@@ -22,6 +22,13 @@ pub struct Table<'a> {
     ghost slots: { length row.now / 8 ≤ max_slots },
     ghost range: { head.max_level ≤ widest_level },
     ghost formed: { IsTable row.now head },
+}
+
+// The id that stands in a slot, or none.
+fn named(id: u64) -> Option<usize>
+    ensures { result ≡ opt id }
+{
+    (id != Cell::NO_CELL).then_some(id as usize)
 }
 
 impl<'a> Table<'a> {
@@ -58,29 +65,21 @@ impl<'a> Table<'a> {
     }
 
     /// The cell that was split into this one and three others; none at a root.
+    #[tactic(auto, using(crate::proofs::Cells::at_table))]
     pub fn parent(&self, id: usize) -> Option<usize>
         requires { id < self.now.head.count }
         ensures { result ≡ (at (cells self.now) id).parent }
     {
-        let parent = parent_at(self.row, id);
-        if parent == Cell::NO_CELL {
-            None
-        } else {
-            Some(parent as usize)
-        }
+        named(parent_at(self.row, id))
     }
 
     /// The first of the cell's four children; none at a leaf.
+    #[tactic(auto, using(crate::proofs::Cells::at_table))]
     pub fn kids(&self, id: usize) -> Option<usize>
         requires { id < self.now.head.count }
         ensures { result ≡ (at (cells self.now) id).kids }
     {
-        let first = first_at(self.row, id);
-        if first == Cell::NO_CELL {
-            None
-        } else {
-            Some(first as usize)
-        }
+        named(first_at(self.row, id))
     }
 
     pub fn is_leaf(&self, id: usize) -> bool
@@ -112,10 +111,8 @@ impl<'a> Table<'a> {
         requires { length (leaves self.now) ≤ length out.old }
         ensures { out.new ≡ written (leaves self.now) out.old }
     {
-        let mut at = 0;
-        for id in self.leaves() {
-            out[at] = id as u64;
-            at += 1;
+        for (place, id) in self.leaves().enumerate() {
+            out[place] = id as u64;
         }
     }
 
@@ -124,7 +121,7 @@ impl<'a> Table<'a> {
         requires { length (leaves self.now) ≤ length out.old }
         ensures { out.new ≡ written (order self.now) out.old }
     {
-        append_order(self.row, self.head.count, out);
+        append_order(self, out);
     }
 }
 

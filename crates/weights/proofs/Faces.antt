@@ -1,5 +1,6 @@
 -- Faces, distances and the formula of a weight.
-use Rattle.std.proofs.Common.{◌≡◌, refl, sym, ap, ◌∙◌, Bool, true, false, List, ℕ, zero, suc, ◌+◌, ◌^◌, ◌<◌, min, map, arith, le_of_lt, mul-one, zero-lt-suc, T, cond, length, Option}
+use Rattle.std.proofs.Common.{◌≡◌, refl, sym, ap, ◌∙◌, Bool, true, false, List, ℕ, zero, suc, ◌+◌, ◌^◌, ◌<◌, min, map, arith, le_of_lt, mul-one, zero-lt-suc, T, cond, length, Option, if◌then◌else◌}
+use Rattle.std.specs.Int.{abs_diff}
 use Rattle.std.proofs.lemmas.List.{length-map}
 use lib.Ieee.{Float, binary64, of_int, of_bits, mul, round}
 use lib.Ieee.Back.{round_whole}
@@ -9,7 +10,7 @@ use Rattle.refusals.specs.Limits.{coordinate}
 use Rattle.cell.proofs.Offsets.{off-le}
 use Rattle.net_rows.specs.Nodes.{in_mesh}
 use Rattle.net_rows.specs.declared.rows.Node.{Node}
-use Rattle.net.specs.Net.{Edge, NetCell, Way, nth, lesser_of, flat, apart, face, distance, num, halves, Half, ◌·◌, sheet_of, weight, weighed, Ends}
+use Rattle.net.specs.Net.{Edge, NetCell, Way, nth, lesser_of, flat, face, distance, num, halves, Half, ◌·◌, sheet_of, weight, weighed, Ends}
 use Rattle.net.proofs.All.{All, all_map}
 use Rattle.net.proofs.Faces.{Within, face-low, distance-low}
 use Rattle.weights.specs.declared.axes.Axis.TheVariants.{Column, Row}
@@ -56,7 +57,7 @@ module _ (nodes : List Node) (cs : List NetCell) (x : Extents) (X : Extended (ma
   face-is = go (flat (map in_mesh nodes) e)
     where
       go : (b : Bool) → face_of x (cond b Column Row) e.from e.to
-          ≡ elim b [ true ↦ lesser_of Way.up (map in_mesh nodes) cs e + lesser_of Way.down (map in_mesh nodes) cs e | false ↦ lesser_of Way.right (map in_mesh nodes) cs e + lesser_of Way.left (map in_mesh nodes) cs e ]
+          ≡ (if b then lesser_of Way.up (map in_mesh nodes) cs e + lesser_of Way.down (map in_mesh nodes) cs e else lesser_of Way.right (map in_mesh nodes) cs e + lesser_of Way.left (map in_mesh nodes) cs e)
       go true = λ t. min (X.up-is e.from from t) (X.up-is e.to to t) + min (X.down-is e.from from t) (X.down-is e.to to t)
       go false = λ t. min (X.right-is e.from from t) (X.right-is e.to to t) + min (X.left-is e.from from t) (X.left-is e.to to t)
 
@@ -65,9 +66,9 @@ module _ (nodes : List Node) (cs : List NetCell) (x : Extents) (X : Extended (ma
   distance_is = go (flat (map in_mesh nodes) e)
     where
       go : (b : Bool) → distance_of (map in_mesh nodes) (cond b Column Row) e.from e.to
-          ≡ elim b [ true ↦ apart (nth (map in_mesh nodes) e.from).x (nth (map in_mesh nodes) e.to).x | false ↦ apart (nth (map in_mesh nodes) e.from).y (nth (map in_mesh nodes) e.to).y ]
+          ≡ (if b then abs_diff (nth (map in_mesh nodes) e.from).x (nth (map in_mesh nodes) e.to).x else abs_diff (nth (map in_mesh nodes) e.from).y (nth (map in_mesh nodes) e.to).y)
       go true = refl
-      go false = λ t. apart (facing_at Row (map in_mesh nodes) e.from t).x (facing_at Row (map in_mesh nodes) e.to t).x
+      go false = λ t. abs_diff (facing_at Row (map in_mesh nodes) e.from t).x (facing_at Row (map in_mesh nodes) e.to t).x
 
   pub from-there : HasExtents x e.from
   from-there = X.there e.from from

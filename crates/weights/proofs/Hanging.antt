@@ -1,5 +1,5 @@
 -- The last node at a place, by a sorted row; and what cells ask for it.
-use Rattle.std.proofs.Common.{◌≡◌, ℕ, suc, ◌+◌, ◌-◌, ◌<◌, ◌≤◌, max, Bool, true, false, not, nat_eq, eqb, List, [], ◌∷◌, ◌++◌, length, get_or, set, drop, filter, slice_get, Option, None, Some, refl, sym, ap, ◌∙◌, subst, ⊎_elim, arith, length-drop, get_or-drop, ltb-true, lt-ltb, eqb-true, eq-eqb}
+use Rattle.std.proofs.Common.{◌≡◌, ℕ, suc, ◌+◌, ◌-◌, ◌<◌, ◌≤◌, max, Bool, true, false, not, nat_eq, eqb, List, [], ◌∷◌, ◌++◌, length, get_or, set, drop, filter, slice_get, Option, None, Some, refl, sym, ap, ◌∙◌, subst, ⊎_elim, arith, length-drop, get_or-drop, ltb-true, lt-ltb, eqb-true, eq-eqb, if◌then◌else◌}
 use Rattle.std.specs.List.{starts_with}
 use Rattle.std.specs.Ordering.{is_lt, nat_cmp}
 use Rattle.std.specs.Cmp.Lexicographic.{slice_cmp}
@@ -27,9 +27,6 @@ begins-all : (a b c i x y z : ℕ) → starts_with nat_eq (a ∷ b ∷ c ∷ i �
 begins-all a b c i x y z h = (grind (arith, nat_tests), grind (arith, nat_tests), grind (arith, nat_tests))
 
 module _ (ns : List MeshNode) (row : List (List ℕ)) (L : Lined ns row) (x y z : ℕ) where
-  abbrev key : List ℕ
-  key = x ∷ y ∷ z ∷ []
-
   abbrev test : List ℕ → Bool
   test e = starts_with nat_eq e (x ∷ y ∷ z ∷ [])
 
@@ -126,8 +123,8 @@ abbrev pub Raised : Way → List MeshNode → List NetCell → List ℕ → Type
 Raised w ns cs xs = (i : ℕ) → i < length ns → get_or xs i 0 ≡ max (gap w ns i) (hung w ns i cs)
 
 module _ (w : Way) (ns : List MeshNode) (cs : List NetCell) (c : NetCell) (xs : List ℕ) (room : length ns ≤ length xs) (R : Raised w ns cs xs) where
-  asked : (b : Bool) (i : ℕ) → is_last ns (hangs_at w ns c) i ≡ b → asks w ns i c ≡ elim b [ true ↦ size_of w (box_of ns c) | false ↦ 0 ]
-  asked b i e = ap {B = ℕ} (λ (t : Bool). elim t [ true ↦ size_of w (box_of ns c) | false ↦ 0 ]) e
+  asked : (b : Bool) (i : ℕ) → is_last ns (hangs_at w ns c) i ≡ b → asks w ns i c ≡ (if b then size_of w (box_of ns c) else 0)
+  asked b i e = ap {B = ℕ} (λ (t : Bool). if t then size_of w (box_of ns c) else 0) e
 
   most : (a b d e f g : ℕ) → a ≡ max b e → b ≡ max d f → g ≡ max f e → a ≡ max d g
   most a b d e f g p q r = omega arith

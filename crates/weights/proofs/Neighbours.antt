@@ -1,13 +1,13 @@
 -- In a row of the nodes' entries in order, neighbours in the row are neighbours on the line.
-use Rattle.std.proofs.Common.{◌≡◌, ℕ, ◌+◌, ◌-◌, ◌<◌, ◌≤◌, Bool, true, false, ◌&&◌, ◌||◌, ◌==◌, nat_lt, List, [], length, get_or, cond, refl, sym, ap, ap₂, ◌∙◌, subst, ⊎_elim, arith, All, Contains}
+use Rattle.std.proofs.Common.{◌≡◌, ℕ, ◌+◌, ◌-◌, ◌<◌, ◌≤◌, Bool, true, false, ◌&&◌, ◌||◌, ◌==◌, nat_lt, List, [], length, get_or, cond, refl, sym, ap, ap₂, ◌∙◌, subst, ⊎_elim, arith, All, Contains, unwrap_or}
 use Rattle.std.specs.List.{IsDistinct}
 use Rattle.std.proofs.lemmas.Bool.{cases_lt, ne_eqb, lt-ltb, ltb-true, and_parts, and_from, true≢false}
 use Rattle.std.proofs.lemmas.Bool.Decides.{nat_tests}
 use Rattle.std.proofs.lemmas.List.{get_or_default}
 use Rattle.std.proofs.lemmas.List.Elements.{All-from_get_or, Contains-get_or}
-use Rattle.std.proofs.lemmas.List.Sorted.{length_permutation, All-permutation, Contains-permutation}
+use Rattle.std.proofs.lemmas.List.Sorted.{All-permutation, Contains-permutation}
 use Rattle.std.proofs.lemmas.Map.Keys.{IsDistinct-from_apart, IsDistinct-IsPermutation, apart_from_distinct}
-use Rattle.net.specs.Net.{MeshNode, nth, after, or_zero, least, next_gap, prev_gap}
+use Rattle.net.specs.Net.{MeshNode, nth, after, least, next_gap, prev_gap}
 use Rattle.net.proofs.Gaps.{least-is, least_zero}
 use Rattle.weights.specs.Lines.{entry_of, entries, Lined, at, rise_of}
 use Rattle.weights.proofs.Entries.{length-entries, entry_at}
@@ -41,9 +41,6 @@ between_back x e f u w h = let a = u.layer in let b = u.line in let c = w.layer 
 module _ (ns : List MeshNode) (row : List (List ℕ)) (L : Lined ns row) where
   abbrev who : ℕ → ℕ
   who k = num (at row k) 3
-
-  pub row_length : length row ≡ length ns
-  row_length = length_permutation _ _ L.same ∙ length-entries ns
 
   abbrev IsEntry : List ℕ → Type 0
   IsEntry e = (num e 3 < length ns) × (e ≡ entry_of ns (num e 3))
@@ -105,13 +102,13 @@ module _ (ns : List MeshNode) (row : List (List ℕ)) (L : Lined ns row) where
         let s = spot q h in
         (s.place, s.inside, sym (tests s.place s.inside) ∙ rw s.is e, rw s.is at (gives s.place s.inside))
 
-    at_least : (m : ℕ) → m < length row → t m ≡ true → ((l : ℕ) → l < length row → t l ≡ true → v m ≤ v l) → or_zero (least p g ns 0) ≡ v m
+    at_least : (m : ℕ) → m < length row → t m ≡ true → ((l : ℕ) → l < length row → t l ≡ true → v m ≤ v l) → unwrap_or (least p g ns 0) 0 ≡ v m
     at_least m h e low =
         least-is p g ns (who m) (here m h).0 (tests m h ∙ e)
         (λ q lt pq. (let s = passing q lt pq in let d = gives m h in let f = low s.0 s.1 s.2 in let r = s.3 in omega arith))
         ∙ gives m h
 
-    none_at : ((l : ℕ) → l < length row → t l ≡ true → ⊥) → or_zero (least p g ns 0) ≡ 0
+    none_at : ((l : ℕ) → l < length row → t l ≡ true → ⊥) → unwrap_or (least p g ns 0) 0 ≡ 0
     none_at none = least_zero p g ns (λ q lt pq. (let s = passing q lt pq in none s.0 s.1 s.2))
 
   says-later : (k l : ℕ) → k < length row → l < length row → after (nth ns (who k)) (who k) (nth ns (who l)) (who l) ≡ later (at row k) (at row l)
@@ -145,18 +142,18 @@ module _ (ns : List MeshNode) (row : List (List ℕ)) (L : Lined ns row) where
   gives-rise : (k l : ℕ) → k < length row → l < length row → (nth ns (who l)).y - (nth ns (who k)).y ≡ rise k l
   gives-rise k l h g = ap₂ (λ (x y : ℕ). x - y) (says-along l g) (says-along k h)
 
-  next-says : (i : ℕ) → next_gap ns i ≡ or_zero (least (λ b j. after (nth ns i) i b j) (λ b. b.y - (nth ns i).y) ns 0)
+  next-says : (i : ℕ) → next_gap ns i ≡ unwrap_or (least (λ b j. after (nth ns i) i b j) (λ b. b.y - (nth ns i).y) ns 0) 0
   unfolding next_gap
   next-says i = refl
 
-  prev-says : (i : ℕ) → prev_gap ns i ≡ or_zero (least (λ b j. after b j (nth ns i) i) (λ b. (nth ns i).y - b.y) ns 0)
+  prev-says : (i : ℕ) → prev_gap ns i ≡ unwrap_or (least (λ b j. after b j (nth ns i) i) (λ b. (nth ns i).y - b.y) ns 0) 0
   unfolding prev_gap
   prev-says i = refl
 
   pub next_is : (k : ℕ) → k < length row → next_gap ns (who k) ≡ rise_of row k
   next_is k h = next-says (who k) ∙ go (joined k) refl
     where
-      go : (b : Bool) → joined k ≡ b → or_zero (least (λ b j. after (nth ns (who k)) (who k) b j) (λ b. b.y - (nth ns (who k)).y) ns 0) ≡ cond b (rise k (k + 1)) 0
+      go : (b : Bool) → joined k ≡ b → unwrap_or (least (λ b j. after (nth ns (who k)) (who k) b j) (λ b. b.y - (nth ns (who k)).y) ns 0) 0 ≡ cond b (rise k (k + 1)) 0
       go true e =
           let w = joined-parts k e in
           at_least (λ b j. after (nth ns (who k)) (who k) b j) (λ b. b.y - (nth ns (who k)).y) (λ l. later (at row k) (at row l)) (rise k)
@@ -178,7 +175,7 @@ module _ (ns : List MeshNode) (row : List (List ℕ)) (L : Lined ns row) where
   pub prev_is : (k : ℕ) → k + 1 < length row → prev_gap ns (who (k + 1)) ≡ rise_of row k
   prev_is k h = prev-says (who (k + 1)) ∙ go (joined k) refl
     where
-      go : (b : Bool) → joined k ≡ b → or_zero (least (λ b j. after b j (nth ns (who (k + 1))) (who (k + 1))) (λ b. (nth ns (who (k + 1))).y - b.y) ns 0) ≡ cond b (rise k (k + 1)) 0
+      go : (b : Bool) → joined k ≡ b → unwrap_or (least (λ b j. after b j (nth ns (who (k + 1))) (who (k + 1))) (λ b. (nth ns (who (k + 1))).y - b.y) ns 0) 0 ≡ cond b (rise k (k + 1)) 0
       go true e =
           let w = joined-parts k e in
           at_least (λ b j. after b j (nth ns (who (k + 1))) (who (k + 1))) (λ b. (nth ns (who (k + 1))).y - b.y) (λ l. later (at row l) (at row (k + 1))) (λ l. rise l (k + 1))

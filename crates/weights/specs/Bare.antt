@@ -1,7 +1,8 @@
 -- The nodes of a net along the lines of an axis, and what an edge has by the extents of its nodes. Definitions only.
 use Rattle.std.specs.Prelude.{List, ℕ, ◌+◌, ◌<◌, min, ◌==◌, if◌then◌else◌, map, length, slice_index}
+use Rattle.std.specs.Int.{abs_diff}
 use Rattle.net_rows.specs.Nodes.{in_mesh}
-use Rattle.net.specs.Net.{MeshNode, NetCell, nth, apart}
+use Rattle.net.specs.Net.{MeshNode, NetCell, nth}
 use Rattle.net.specs.Net.Way.{up, down, right, left}
 use Rattle.weights.specs.declared.lent.BareNet.{BareNet}
 use Rattle.weights.specs.declared.axes.Axis.{Axis}
@@ -41,4 +42,4 @@ face_of e Column a b = min (slice_index e.up.now a) (slice_index e.up.now b) + m
 face_of e Row a b = min (slice_index e.right.now a) (slice_index e.right.now b) + min (slice_index e.left.now a) (slice_index e.left.now b)
 
 abbrev pub distance_of : List MeshNode → Axis → ℕ → ℕ → ℕ
-distance_of ns axis a b = apart (nth (all_facing axis ns) a).x (nth (all_facing axis ns) b).x
+distance_of ns axis a b = abs_diff (nth (all_facing axis ns) a).x (nth (all_facing axis ns) b).x

@@ -85,8 +85,6 @@ pub fn last_at(row: &[Entry], layer: u16, line: u64, along: u64) -> Option<usize
     requires { IsSorted (slice_cmp nat_cmp) row.now }
     ensures { (ns : List MeshNode) → Lined ns row.now → LastIs ns (layer ∷ line ∷ along ∷ []) result }
 {
-    let Some(&[.., number]) = sorted::runs::last(row, &[layer as u64, line, along]) else {
-        return None;
-    };
+    let [.., number] = *sorted::runs::last(row, &[layer as u64, line, along])?;
     Some(number as usize)
 }

@@ -31,8 +31,8 @@ pub fn write_gaps(row: &[Entry], forth: &mut [u64], back: &mut [u64])
     ensures { (ns : List MeshNode) → Lined ns row.now → Gapped ns forth.new back.new }
 {
     let mut before = 0;
-    for k in 0..row.len() {
-        let [.., number] = row[k];
+    for (k, entry) in row.iter().enumerate() {
+        let [.., number] = *entry;
         let i = number as usize;
         let rise = rise_at(row, k);
         forth[i] = rise;
@@ -47,13 +47,11 @@ fn shares_place(row: &[Entry], k: usize) -> bool
     ensures { result ≡ shares_place row.now k }
 {
     let [layer, line, along, _] = row[k];
-    match row.get(k + 1) {
-        Some(&[l, m, n, _]) => (l, m, n) == (layer, line, along),
-        None => false,
-    }
+    row.get(k + 1)
+        .is_some_and(|&[l, m, n, _]| (l, m, n) == (layer, line, along))
 }
 
-/// The steps from each node.
+/// The steps from each node. By index: tried over the items from the back, and the invariant has no index then.
 pub fn write_steps(row: &[Entry], steps: &mut [Step])
     requires numbers { All (λ e. slice_index e 3 < length row.now) row.now }
     requires room { length row.now ≤ length steps.old }

@@ -48,8 +48,6 @@ pub fn first_cell(row: &[Entry], a: usize, b: usize) -> Option<usize>
 {
     let from = a as u64;
     let to = b as u64;
-    let Some(&[_, _, cell, _]) = sorted::runs::first(row, &[from.min(to), from.max(to)]) else {
-        return None;
-    };
+    let [_, _, cell, _] = *sorted::runs::first(row, &[from.min(to), from.max(to)])?;
     Some(cell as usize)
 }

@@ -23,12 +23,12 @@ back row head t u formed same e g =
 
 pub returns-in_err-passes-clause-undone : goal.returns-in_err-passes-clause-undone
 returns-in_err-passes-clause-undone c =
-    let e = back c.args.row.now c.args.head c.new-table.result c.passes.new.table c.requires.formed c.new-table.ensures.row
+    let e = back c.args.row.now c.args.head c.new-table.result c.passes.new.table c.requires c.new-table.ensures.row
     c.new-table.ensures.head c.passes.ensures.goes_on in
     search (rules, e)
 
 pub returns-clause-undone : goal.returns-clause-undone
 returns-clause-undone c =
-    let e = back c.args.row.now c.args.head c.new-table.result c.passes.new.table c.requires.formed c.new-table.ensures.row
+    let e = back c.args.row.now c.args.head c.new-table.result c.passes.new.table c.requires c.new-table.ensures.row
     c.new-table.ensures.head c.passes.ensures.goes_on in
     search (rules, e)

@@ -1,9 +1,10 @@
-use Rattle.std.proofs.Common.{sym, ap, ap₂, ◌∙◌, true≢false, arith, ◌≡◌, ◌≤◌, ◌/◌, ℕ, ℤ, List, length, le-leb}
+use Rattle.std.proofs.Common.{sym, ap, ap₂, ◌∙◌, true≢false, arith, ◌≡◌, ◌≤◌, ◌/◌, ℤ, List, length, le-leb}
 use borrow.Author.Tests.{lt-leb}
 use Rattle.table.specs.declared.Head.{Head}
 use Rattle.table.specs.Formed.{WellFormed}
 use Rattle.table.specs.Rows.{IsTable, cells_in}
 use Rattle.coarsest.specs.declared.Engine.{Engine}
+use Rattle.coarsest.specs.Passes.{difference}
 use Rattle.table.proofs.Cells.{length-table}
 use Rattle.table.proofs.Wellformed.{formed-facts, facts-formed}
 use Rattle.coarsest.proofs.Evened.{evened-grown}
@@ -49,24 +50,24 @@ pub returns-in-Err-clause-coarsest : goal.returns-in-Err-clause-coarsest
 returns-in-Err-clause-coarsest c =
     let w = formed-facts _ _ _ (sym c.well_formed-2.ensures ∙ c.if-not-well_formed.false) in
     rw c.in-Err.ensures.refusal
-    (ends-full c.args.engine c.args.difference c.args.head c.args.row.now _ w c.in-Err.ensures.full
+    (ends-full c.args.engine c.args.head c.args.row.now _ w c.in-Err.ensures.full
     (c.undo.ensures ∙ c.in-Err.ensures.undone))
 
 -- where there was room: the row has as many cells as the passes end in
-module _ (e : Engine) (k : ℕ) (head grown : Head) (old new : List ℤ) (formed : IsTable new grown)
-    (cells : cells_in new grown ≡ even_cells e k old head) where
-  as_many : length (even_cells e k old head) ≡ grown.count
+module _ (e : Engine) (head grown : Head) (old new : List ℤ) (formed : IsTable new grown)
+    (cells : cells_in new grown ≡ even_cells e old head) where
+  as_many : length (even_cells e old head) ≡ grown.count
   as_many = ap length (sym cells) ∙ length-table new grown.count
 
   room : length new ≡ length old → grown.count ≤ length old / 8
   room l = let w = formed-facts _ _ _ formed in omega (arith, w.count, ap (λ x. x / 8) l)
 
   grows : WellFormed old head.count head.max_level → head.count ≤ grown.count
-  grows w = omega (arith, evened-grown e k head.max_level (cells_in old head) w.cells, as_many, length-table old head.count)
+  grows w = omega (arith, evened-grown e (difference e) head.max_level (cells_in old head) w.cells, as_many, length-table old head.count)
 
 pub overflow_sub-result : goal.overflow_sub-result
 overflow_sub-result c =
-    grows c.args.engine c.args.difference c.args.head c.in-Ok.grown c.args.row.now c.even_out.new.row c.in-Ok.ensures.formed
+    grows c.args.engine c.args.head c.in-Ok.grown c.args.row.now c.even_out.new.row c.in-Ok.ensures.formed
     c.in-Ok.ensures.cells (formed-facts _ _ _ (sym c.well_formed-2.ensures ∙ c.if-not-well_formed.false))
 
 pub returns-in-Ok-clause-says : goal.returns-in-Ok-clause-says
@@ -76,8 +77,8 @@ returns-in-Ok-clause-says c =
     let g = c.in-Ok.ensures in
     sym (rw (
       yes,
-      as_many c.args.engine c.args.difference c.args.head c.in-Ok.grown c.args.row.now c.even_out.new.row g.formed g.cells,
-      le-leb _ _ (room c.args.engine c.args.difference c.args.head c.in-Ok.grown c.args.row.now c.even_out.new.row g.formed
+      as_many c.args.engine c.args.head c.in-Ok.grown c.args.row.now c.even_out.new.row g.formed g.cells,
+      le-leb _ _ (room c.args.engine c.args.head c.in-Ok.grown c.args.row.now c.even_out.new.row g.formed
           g.cells c.even_out.auto.row),
       ← g.max_level,
     ))
@@ -94,6 +95,6 @@ returns-in-Ok-clause-coarsest c =
     let w = formed-facts _ _ _ (sym c.well_formed-2.ensures ∙ c.if-not-well_formed.false) in
     let g = c.in-Ok.ensures in
     rw g.max_level
-    (ends-done c.args.engine c.args.difference c.args.head c.args.row.now _ w _ g.cells
-    (room c.args.engine c.args.difference c.args.head c.in-Ok.grown c.args.row.now c.even_out.new.row g.formed g.cells
+    (ends-done c.args.engine c.args.head c.args.row.now _ w _ g.cells
+    (room c.args.engine c.args.head c.in-Ok.grown c.args.row.now c.even_out.new.row g.formed g.cells
     c.even_out.auto.row))

@@ -6,6 +6,6 @@ use Rattle.build.proofs.outlines.adds_up.Goals as goal
 pub returns-then-left-n : goal.returns-then-left-n
 returns-then-left-n c =
     let cs = c.args.counts.now in
-    let i = c.loop-i.i in
+    let i = c.loop-count.count-index in
     sym (ne_eqb _ _ (λ (e : sum_to cs (length cs) ≡ c.args.total).
     omega (arith, sum_mono cs (i + 1) (length cs) (omega arith), sum_more cs i)))

@@ -3,5 +3,5 @@ use Rattle.std.proofs.Common.{◌+◌, ◌≡◌}
 use Rattle.build.specs.Board.{sum_to}
 use Rattle.build.proofs.outlines.adds_up.Given as goal
 
-abbrev pub invariant-loop-i : goal.invariant-loop-i
-invariant-loop-i l = record { whole : sum_to l.counts l.i + l.left ≡ l.total }
+abbrev pub invariant-loop-count : goal.invariant-loop-count
+invariant-loop-count l = record { whole : sum_to l.counts l.count-index + l.left ≡ l.total }

@@ -3,7 +3,8 @@ use Rattle.std.proofs.Common.{length, min, ◌+◌, ◌*◌, ◌≤◌, ◌≡�
 use Rattle.refusals.specs.Limits.{max_cap, max_slots}
 use Rattle.strips.specs.Coming.{coming}
 use Rattle.strips.specs.Strips.{strips_of}
-use Rattle.strips.specs.Walk.{AllSound}
+use Rattle.std.specs.List.{AllByRecursion}
+use Rattle.strips.specs.Walk.{Sound}
 use Rattle.build.specs.Grid.{all_even, roots_in}
 use Rattle.build.proofs.survey.tally_strips.Given as goal
 
@@ -13,7 +14,7 @@ invariant-loop-strip l =
     let all = strips_of l.ring.points.now in
     let rest = coming l.strip-iterator in
     record {
-      sound : AllSound rest;
+      sound : AllByRecursion Sound rest;
       even : all_even g.unit g.cap g.cell rest ≡ all_even g.unit g.cap g.cell all;
       counted : min (l.sum + length (roots_in 0 g.cap g.cell rest)) (l.slots + 1)
           ≡ min (l.before + length (roots_in 0 g.cap g.cell all)) (l.slots + 1);

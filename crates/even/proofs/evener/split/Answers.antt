@@ -1,5 +1,5 @@
-use Rattle.std.proofs.Common.{◌+◌, ◌/◌, ◌≤◌, length, true≢false, arith, refl, sym, ap, subst, ◌∙◌, List}
-use Rattle.table.specs.Mesh.{Cell, is_none}
+use Rattle.std.proofs.Common.{◌+◌, ◌/◌, ◌≤◌, length, true≢false, arith, refl, sym, ap, subst, ◌∙◌, List, is_none}
+use Rattle.table.specs.Mesh.{Cell}
 use Rattle.table.specs.TablesMut.{cells_mut}
 use Rattle.table.proofs.Meshes.{length-split}
 use Rattle.table.proofs.Tables.{leaf_read}

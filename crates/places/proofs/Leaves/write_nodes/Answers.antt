@@ -8,7 +8,7 @@ use Rattle.places.specs.Places.{leaves_in, places_in, corner_count, firsts}
 use Rattle.places.proofs.Places.{leaves-length, count_is}
 use Rattle.places.proofs.Firsts.{firsts-length}
 use Rattle.places.proofs.Numbers.{numbers-length, number_at, next-new, next-old, nodes_to, nodes-length, nodes-new, nodes-old, corners_new, written-more}
-use Rattle.places.proofs.Leaves.write_nodes.Goals.{then-numbers-i, else-numbers-i}
+use Rattle.places.proofs.Leaves.write_nodes.Goals.{then-number-count, else-number-count}
 use Rattle.places.proofs.Leaves.write_nodes.Goals as goal
 
 pub loop-i-preserved : goal.loop-i-preserved
@@ -26,9 +26,9 @@ loop-i-preserved c =
     let k = I.counted in
     let f = I.few in
     let r = c.requires.room in
-    elim c.if-numbers-i.branch [
-      | then-numbers-i w ↦
-          let new = next-new fs i (sym number ∙ w.if-numbers-i.true ∙ k) (omega arith) in
+    elim c.if-number-count.branch [
+      | then-number-count w ↦
+          let new = next-new fs i (sym number ∙ w.if-number-count.true ∙ k) (omega arith) in
           let n = w.count-is in
           record {
             counted = omega (arith, rank-new fs i new, ap (rank fs) (add-one i));
@@ -38,8 +38,8 @@ loop-i-preserved c =
                 ∙ written-more (nodes_to P i) c.args.nodes.now c.loop-i.count (in_ticks (nth P i)) (k ∙ sym (nodes-length P i)) (omega arith)
                 ∙ ap (λ l. written l c.args.nodes.now) (sym (ap (nodes_to P) (add-one i) ∙ nodes-new P i new));
           }
-      | else-numbers-i w ↦
-          let old = next-old fs i (λ e. w.if-numbers-i.false (number ∙ e ∙ sym k)) in
+      | else-number-count w ↦
+          let old = next-old fs i (λ e. w.if-number-count.false (number ∙ e ∙ sym k)) in
           let n = w.count-is in
           record {
             counted = omega (arith, rank-old fs i old, ap (rank fs) (add-one i));
@@ -55,5 +55,5 @@ returns c =
     let size = count_is b in
     let n = leaves-length b in
     let numbers = ap length c.requires.numbered ∙ numbers-length P (corner_count b) (omega arith) in
-    let e : c.loop-i.i ≡ 4 * length (leaves_in b) = let s = c.loop-i.auto.i-end in let t = c.loop-i-test.false in omega arith in
+    let e : c.loop-i.i ≡ 4 * length (leaves_in b) = let t = c.loop-i-test.false in omega arith in
     c.loop-i.invariant.nodes ∙ ap (λ l. written l c.args.nodes.now) (ap (nodes_to P) e ∙ ap (map in_ticks) (corners_new (leaves_in b)))

@@ -1,5 +1,7 @@
-use Rattle.std.proofs.Common.{◌≡◌, ◌∷◌, [], ◌++◌, length, map, sym, ap, ◌∙◌, is_ok, arith}
+use Rattle.std.proofs.Common.{◌≡◌, ◌≤◌, ℕ, ◌+◌, ◌∷◌, [], ◌++◌, length, map, sym, ap, ◌∙◌, is_ok, arith}
 use Rattle.std.proofs.lemmas.List.Edits.{sets}
+use Rattle.std.proofs.lemmas.List.{length-map}
+use Rattle.fields.specs.Codec.{times}
 use Rattle.fields.proofs.Laws.{many_length}
 use Rattle.fields.proofs.Loop.{goes_on, is_done}
 use Rattle.record.specs.declared.board.Version.TheVariants.{One}
@@ -7,7 +9,7 @@ use Rattle.record.specs.Board.{Point, Polygon, limits_of, point, polygon}
 use Rattle.record.specs.Rows.{polygon_row, sheet_of, point_row}
 use Rattle.record.specs.Walks.{HasPolygonRoom}
 use Rattle.record.proofs.Sheets.{no_nan}
-use Rattle.record.proofs.Storing.{stored_next, stored_ring, rings_next_long}
+use Rattle.record.proofs.Storing.{stored_next, stored_ring, stored_part, part_long, rings_next_long}
 use Rattle.record.proofs.Copying.{ok_and, list_known, polygons_long, polygon_turn, turn_room, layer_room, component_room, sheet_room, sheet_known, count_room, ring_known, polygon_known}
 use Rattle.record.proofs.copy.copy_polygons.Goals as goal
 
@@ -63,16 +65,8 @@ bounds-sheets-i c =
     let list = ok_and _ (HasPolygonRoom c.args.heads.now c.args.sheets.now c.args.points.now) c.requires in
     omega (arith, list.2.each_sheet, polygons_long c.args.reader.now list.1 (rw (← c.from-count.ensures) at c.known_u16.ensures), l.auto.sheets, c.loop-i-test.true)
 
-pub copy_ring-requires-clause-sound : goal.copy_ring-requires-clause-sound
-copy_ring-requires-clause-sound c =
-    let l = c.loop-i in
-    let list = ok_and _ _ c.requires in
-    let counted = rw (← c.from-count.ensures) at c.known_u16.ensures in
-    let turn = polygon_turn c.args.reader.now list.1 counted l.i l.invariant.0 l.reader l.invariant.1 c.loop-i-test.true in
-    ap is_ok (ring_known (limits_of One) l.reader turn.1 c.known_u16-layer.ensures c.known_u32-component.ensures c.known_u64-bits.ensures (rw (← c.from-in-loop-i-3.ensures) at c.known_u16-size.ensures))
-
-pub copy_ring-requires-clause-room : goal.copy_ring-requires-clause-room
-copy_ring-requires-clause-room c =
+pub slice_bounds-copy_ring-end : goal.slice_bounds-copy_ring-end
+slice_bounds-copy_ring-end c =
     let l = c.loop-i in
     let list = ok_and _ _ c.requires in
     let counted = rw (← c.from-count.ensures) at c.known_u16.ensures in
@@ -82,6 +76,19 @@ copy_ring-requires-clause-room c =
     let room = turn_room c.args.reader.now list.1 counted l.i l.invariant.0 l.reader l.invariant.1 c.loop-i-test.true in
     omega (arith, long, room, list.2.each_point, l.invariant.3, l.auto.points)
 
+pub copy_ring-requires : goal.copy_ring-requires
+copy_ring-requires c =
+    let l = c.loop-i in
+    let list = ok_and _ _ c.requires in
+    let counted = rw (← c.from-count.ensures) at c.known_u16.ensures in
+    let turn = polygon_turn c.args.reader.now list.1 counted l.i l.invariant.0 l.reader l.invariant.1 c.loop-i-test.true in
+    let ring = ring_known (limits_of One) l.reader turn.1 c.known_u16-layer.ensures c.known_u32-component.ensures c.known_u64-bits.ensures (rw (← c.from-in-loop-i-3.ensures) at c.known_u16-size.ensures) in
+    let long : length turn.0.0.points ≡ c.from-in-loop-i-3.result = many_length (λ (_ : Unit {0}). point) (λ (_ : Point). tt) tt c.from-in-loop-i-3.result _ ring in
+    let room = turn_room c.args.reader.now list.1 counted l.i l.invariant.0 l.reader l.invariant.1 c.loop-i-test.true in
+    let fits : l.first + c.from-in-loop-i-3.result ≤ length l.points = omega (arith, long, room, list.2.each_point, l.invariant.3, l.auto.points) in
+    let part = part_long l.points l.first c.from-in-loop-i-3.result fits in
+    ap is_ok (ap (λ (n : ℕ). times point n c.known_u16-size.new.self) part ∙ ring)
+
 pub loop-i-preserved : goal.loop-i-preserved
 loop-i-preserved c =
     let l = c.loop-i in
@@ -90,20 +97,26 @@ loop-i-preserved c =
     let turn = polygon_turn c.args.reader.now list.1 counted l.i l.invariant.0 l.reader l.invariant.1 c.loop-i-test.true in
     let front = l.invariant.0 in
     let so_far = l.invariant.2 in
+    let known = ring_known (limits_of One) l.reader turn.1 c.known_u16-layer.ensures c.known_u32-component.ensures c.known_u64-bits.ensures (rw (← c.from-in-loop-i-3.ensures) at c.known_u16-size.ensures) in
+    let known_long : length turn.0.0.points ≡ c.from-in-loop-i-3.result = many_length (λ (_ : Unit {0}). point) (λ (_ : Point). tt) tt c.from-in-loop-i-3.result _ known in
+    let room = turn_room c.args.reader.now list.1 counted l.i l.invariant.0 l.reader l.invariant.1 c.loop-i-test.true in
+    let fits : l.first + c.from-in-loop-i-3.result ≤ length l.points = omega (arith, known_long, room, list.2.each_point, l.invariant.3, l.auto.points) in
+    let part = part_long l.points l.first c.from-in-loop-i-3.result fits in
     let ring = c.copy_ring.ensures in
+    let ring_read = ap (λ (n : ℕ). times point n c.known_u16-size.new.self) (sym part) ∙ ring.1 in
     let p : Polygon = record { layer = c.known_u16-layer.result; component = c.known_u32-component.result; sheet = c.known_u64-bits.result; points = ring.0 } in
-    let read = polygon_known (limits_of One) l.reader turn.1 c.known_u16-layer.ensures c.known_u32-component.ensures c.known_u64-bits.ensures (rw (← c.from-in-loop-i-3.ensures) at c.known_u16-size.ensures) ring.1 in
-    let long : length ring.0 ≡ c.from-in-loop-i-3.result = many_length (λ (_ : Unit {0}). point) (λ (_ : Point). tt) tt c.from-in-loop-i-3.result _ ring.1 in
+    let read = polygon_known (limits_of One) l.reader turn.1 c.known_u16-layer.ensures c.known_u32-component.ensures c.known_u64-bits.ensures (rw (← c.from-in-loop-i-3.ensures) at c.known_u16-size.ensures) ring_read in
+    let long : length ring.0 ≡ c.from-in-loop-i-3.result = many_length (λ (_ : Unit {0}). point) (λ (_ : Point). tt) tt c.from-in-loop-i-3.result _ ring_read in
     let size : c.known_u16-size.result ≡ length ring.0 = sym (long ∙ c.from-in-loop-i-3.ensures) in (
       front ++ p ∷ [],
       goes_on (λ (_ : Unit {0}). polygon (limits_of One)) (λ (_ : Polygon). tt) tt c.from-count.result c.known_u16.new.self l.i l.invariant.0 tt l.reader l.invariant.1 p _ c.loop-i-test.true read,
       record {
         each_head = rw (c.from.ensures, c.from-in-loop-i.ensures, c.from-in-loop-i-2.ensures, size, so_far.each_head) (stored_next polygon_row _ 0 front p (omega (arith, l.invariant.1.long)));
         each_sheet = rw so_far.each_sheet (stored_next sheet_of _ 0 front p (omega (arith, l.invariant.1.long)));
-        each_point = ring.2 ∙ ap (λ row. sets row l.first (map point_row ring.0)) so_far.each_point ∙ stored_ring _ front p l.invariant.3;
+        each_point = stored_part l.points _ l.first c.from-in-loop-i-3.result (map point_row ring.0) (length-map ring.0 point_row ∙ long) fits ring.2 ∙ ap (λ row. sets row l.first (map point_row ring.0)) so_far.each_point ∙ stored_ring _ front p l.invariant.3;
       },
-      omega (arith, rings_next_long front p, l.invariant.3, c.from-first.ensures, size),
-      omega (arith, l.invariant.4, c.from-first.ensures),
+      omega (arith, rings_next_long front p, l.invariant.3, long),
+      omega (arith, l.invariant.4, c.from-in-loop-i-3.ensures),
     )
 
 pub returns : goal.returns

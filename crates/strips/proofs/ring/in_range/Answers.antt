@@ -1,19 +1,20 @@
-use Rattle.std.proofs.Common.{◌≡◌, length, refl, ◌∙◌, arith, leb, add-one}
-use mathlib.Core.Bool.{and_assoc}
-use Rattle.refusals.specs.Limits.{max_points}
-use Rattle.strips.specs.Rings.{point_in_range, ring_in_range}
-use Rattle.strips.proofs.Picking.{all_below, all-suc}
+use Rattle.std.proofs.Common.{rules, ℕ, List, [], ℤ, ◌≡◌, refl, ap, ◌∙◌, length, get_or}
+use Rattle.std.specs.List.{list_all, range_with_len}
+use Rattle.std.proofs.lemmas.List.Folds.{list_all-map}
+use Rattle.std.proofs.lemmas.List.FromFn.{fill_by_all}
+use Rattle.strips.specs.Rings.{ring_in_range, both_in_range, point_in_range}
 use Rattle.strips.proofs.ring.in_range.Goals as goal
 
-pub loop-i-preserved : goal.loop-i-preserved
-loop-i-preserved c =
-    let i = c.loop-i.i in
-    let ps = c.args.points.now in
-    rw (c.loop-i.invariant, c.point_in_range-ok.ensures, add-one i, all-suc)
-    (and_assoc (leb (length ps) max_points) (all_below (point_in_range ps) i) (point_in_range ps i))
+-- a test of each point is one of each number of a point
+by-number : (ps : List (List ℤ)) → list_all both_in_range ps ≡ list_all (point_in_range ps) (range_with_len 0 (length ps))
+by-number ps =
+    let at : ℕ → List ℤ = λ i. get_or ps i [] in
+    ap (list_all both_in_range) (fill_by_all at ps (length ps) [] refl (λ k h. refl)) ∙ list_all-map both_in_range at (range_with_len 0 (length ps))
 
-pub returns : goal.returns
+pub returns-then-points-le-RING_POINTS : goal.returns-then-points-le-RING_POINTS
 unfolding ring_in_range
-returns c =
-    let e : c.loop-i.i ≡ length c.args.points.now = omega arith in
-    c.loop-i.invariant ∙ rw e refl
+returns-then-points-le-RING_POINTS c = rw (c.each_in_range.ensures, by-number c.args.points.now) (search rules)
+
+pub returns-else-points-le-RING_POINTS : goal.returns-else-points-le-RING_POINTS
+unfolding ring_in_range
+returns-else-points-le-RING_POINTS c = search rules

@@ -2,7 +2,7 @@ use Rattle.std.proofs.Common.{ap, ◌∙◌, arith}
 use Rattle.bare_net.specs.Sides.{edge_at}
 use Rattle.bare_net.specs.Edges.{slot_count, part_at, edges_in}
 use Rattle.bare_net.proofs.Welding.{edged_none, edged_own, edged_other, edged_all, so_far_few}
-use Rattle.bare_net.proofs.sides.Sides.put_edges.Goals.{then-firsts-j, else-firsts-j}
+use Rattle.bare_net.proofs.sides.Sides.put_edges.Goals.{then-first-j, else-first-j}
 use Rattle.bare_net.proofs.sides.Sides.put_edges.Goals as goal
 
 pub loop-j-init : goal.loop-j-init
@@ -33,9 +33,9 @@ loop-j-preserved c =
     let long = r.a_first_each in
     let t = c.loop-j-test.true in
     let i = c.loop-j.invariant in
-    elim c.if-firsts-j.branch [
-      | then-firsts-j w ↦ rw (w.edges-is, w.count-is) (edged_own (part_at s) n _ long r.are_firsts _ r.room _ _ _ _ (omega arith) i w.if-firsts-j.true (w.edge.ensures ∙ ap (edge_at s) w.of.ensures))
-      | else-firsts-j w ↦ rw (w.edges-is, w.count-is) (edged_other (part_at s) n _ long r.are_firsts _ r.room _ _ _ (omega arith) i w.if-firsts-j.false)
+    elim c.if-first-j.branch [
+      | then-first-j w ↦ rw (w.edges-is, w.count-is) (edged_own (part_at s) n _ long r.are_firsts _ r.room _ _ _ _ (omega arith) i w.if-first-j.true (w.edge.ensures ∙ ap (edge_at s) w.of.ensures))
+      | else-first-j w ↦ rw (w.edges-is, w.count-is) (edged_other (part_at s) n _ long r.are_firsts _ r.room _ _ _ (omega arith) i w.if-first-j.false)
     ]
 
 pub returns : goal.returns

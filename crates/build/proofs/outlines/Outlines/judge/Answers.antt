@@ -1,5 +1,5 @@
 use Rattle.std.proofs.Common.{◌-◌, ◌≡◌, length, Err, arith, rules, refl, sym, ap, ◌∙◌}
-use Rattle.build.specs.Says.{fault}
+use Rattle.strips.specs.Said.{fault}
 use Rattle.build.proofs.Judging.{sum_none, judge-on, judge-end}
 use Rattle.build.proofs.outlines.Outlines.judge.Goals as goal
 
@@ -15,7 +15,7 @@ loop-p-preserved c =
     record {
       start = c.ring-ring.ensures.next;
       on = λ o. c.in_ok-judge_one.ensures _
-          ∙ judge-on a.sheets.now a.counts.now a.points.now _ s.p (length a.counts.now) o c.loop-p-test.true c.ring-ring.ensures.points
+          ∙ judge-on a.sheets.now a.counts.now a.points.now _ s.p (length a.counts.now) o (omega (arith, c.loop-p-test.true, c.requires.sheets_fit)) c.ring-ring.ensures.points
           ∙ s.invariant.on o;
     }
 
@@ -25,12 +25,12 @@ returns-in_err-judge_one c = λ o.
     let s = c.loop-p in
     let same : c.from_residual.result ≡ Err c.in_err-judge_one.field-0.0 = search rules in
     ap (λ x. fault x o) same ∙ c.in_err-judge_one.ensures _
-    ∙ judge-on a.sheets.now a.counts.now a.points.now _ s.p (length a.counts.now) o c.loop-p-test.true c.ring-ring.ensures.points
+    ∙ judge-on a.sheets.now a.counts.now a.points.now _ s.p (length a.counts.now) o (omega (arith, c.loop-p-test.true, c.requires.sheets_fit)) c.ring-ring.ensures.points
     ∙ s.invariant.on o
 
 pub returns : goal.returns
 returns c = λ o.
     let a = c.args.self.now in
     let s = c.loop-p in
-    sym (judge-end a.sheets.now a.counts.now a.points.now s.p (length a.counts.now) o c.loop-p-test.false)
+    sym (judge-end a.sheets.now a.counts.now a.points.now s.p (length a.counts.now) o (omega (arith, c.loop-p-test.false, c.requires.sheets_fit)))
     ∙ s.invariant.on o

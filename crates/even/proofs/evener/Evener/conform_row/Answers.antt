@@ -2,7 +2,7 @@ use Rattle.std.proofs.Common.{ℕ, ◌≡◌, ◌<◌, ◌≤◌, arith, true, f
 use Rattle.table.specs.Mesh.{Cell, at, is_leaf}
 use Rattle.table.specs.Tables.{cells}
 use Rattle.coarsest.specs.declared.Engine.TheVariants.{Conforming}
-use Rattle.coarsest.specs.Passes.{due, split_if}
+use Rattle.coarsest.specs.Passes.{due, split_if, difference}
 use Rattle.coarsest.specs.Sweep.{row}
 use Rattle.coarsest.proofs.Loops.{no-leaf}
 use Rattle.coarsest.proofs.Rows.{row-none, row-finest}
@@ -19,7 +19,7 @@ use Rattle.even.proofs.evener.Evener.conform_row.Goals as goal
 pub returns-then-not-is_leaf : goal.returns-then-not-is_leaf
 returns-then-not-is_leaf c =
     let s = c.args.table.now in
-    let k = c.args.self.now.difference in
+    let k = difference Conforming in
     on-makes _ _ _ _
     (on-as (sym (row-none Conforming k (cells_mut s) c.args.a c.args.stop
     (λ b h. no-leaf Conforming k (cells_mut s) c.args.a b
@@ -29,7 +29,7 @@ returns-then-not-is_leaf c =
 pub returns-then-cells-level : goal.returns-then-cells-level
 returns-then-cells-level c =
     let s = c.args.table.now in
-    let k = c.args.self.now.difference in
+    let k = difference Conforming in
     on-makes _ _ _ _
     (on-as (sym (row-finest k s.head.max_level (cells_mut s) c.args.a c.args.stop (formed_of s)
     (rw length-of c.requires.stop)
@@ -49,17 +49,17 @@ found k s g a stop r v ha hs e n f x d =
 pub returns-then-not-is_asked : goal.returns-then-not-is_asked
 returns-then-not-is_asked c =
     let s = c.args.table.now in
-    let k = c.args.self.now.difference in
+    let k = difference Conforming in
     on-makes _ _ _ _
     (on-as (sym (found k s c.new.result c.args.a c.args.stop c.is_asked.result false c.requires.own c.requires.stop
-    (c.new.ensures.cells ∙ c.view-cells.ensures.cells) (c.new.ensures.count ∙ ap (λ h. h.count) c.view-cells.ensures.head) c.new.ensures.cell c.is_asked.ensures c.if-not-is_asked.true))
+    (c.new.ensures.cells ∙ c.view-cells.ensures.cells) (c.new.ensures.count ∙ ap (λ h. h.count) c.view-cells.ensures.head) c.new.ensures.cell (rw c.difference-difference.ensures at c.is_asked.ensures) c.if-not-is_asked.true))
     (on-start s))
 
 pub returns : goal.returns
 returns c =
     let s = c.args.table.now in
-    let k = c.args.self.now.difference in
+    let k = difference Conforming in
     subst (λ (t : List Cell). Makes t s c.split.new.table c.split.result)
     (sym (found k s c.new.result c.args.a c.args.stop c.is_asked.result true c.requires.own c.requires.stop
-    (c.new.ensures.cells ∙ c.view-cells.ensures.cells) (c.new.ensures.count ∙ ap (λ h. h.count) c.view-cells.ensures.head) c.new.ensures.cell c.is_asked.ensures c.if-not-is_asked.false))
+    (c.new.ensures.cells ∙ c.view-cells.ensures.cells) (c.new.ensures.count ∙ ap (λ h. h.count) c.view-cells.ensures.head) c.new.ensures.cell (rw c.difference-difference.ensures at c.is_asked.ensures) c.if-not-is_asked.false))
     c.split.ensures

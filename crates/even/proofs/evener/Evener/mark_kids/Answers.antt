@@ -4,6 +4,7 @@ use Rattle.table.specs.Tables.{cells}
 use Rattle.table.specs.declared.view.Table.{Table}
 use Rattle.table.proofs.Cells.{length-table}
 use Rattle.table.proofs.Wellformed.{formed-facts}
+use Rattle.coarsest.specs.Passes.{difference}
 use Rattle.coarsest.proofs.Least.{level-most}
 use Rattle.search.specs.declared.around.Around.{Around}
 use Rattle.search.specs.declared.marks.Marks.{Marks}
@@ -51,9 +52,9 @@ returns-clause-met c y low high =
     let M = c.args.table.now.head.max_level in
     let e : c.level.result + 1 ≡ (at t c.args.parent).level + 1 = omega (arith, c.level.ensures) in
     let l = c.concerned-levels.result in
-    let m = kid-met s.engine s.difference M t (formed-facts _ _ _ c.args.table.now.formed).cells c.args.parent c.args.first l
+    let m = kid-met s.engine (difference s.engine) M t (formed-facts _ _ _ c.args.table.now.formed).cells c.args.parent c.args.first l
     c.requires.kids
-    (subst (λ (z : ℕ). (x : ℕ) → Reaches s.engine s.difference M z x → (l.low ≤ x) × (x ≤ l.high)) e
+    (subst (λ (z : ℕ). (x : ℕ) → Reaches s.engine (difference s.engine) M z x → (l.low ≤ x) × (x ≤ l.high)) e
     (λ x r. (c.concerned-levels.ensures.low x r, c.concerned-levels.ensures.high x r)))
     (length t) (omega arith) c.args.marks.now c.mark.new.marks c.mark_four.new.self
     (near c.new.result t c.args.parent l c.args.marks.now c.mark.new.marks c.new.ensures.cells c.new.ensures.cell

@@ -1,5 +1,6 @@
 use Rattle.std.proofs.Common.{◌+◌, ◌≡◌, sym, ap, ◌∙◌, arith}
 use Rattle.std.proofs.lemmas.Result.{err_from_is_err_and}
+use Rattle.coarsest.specs.Passes.{difference}
 use Rattle.coarsest.specs.Sweep.{rows}
 use Rattle.table.specs.TablesMut.{cells_mut}
 use Rattle.even.proofs.Going.{on-start, on-as, on-makes, length-of}
@@ -11,7 +12,7 @@ use Rattle.even.proofs.evener.Evener.pass.Goals as goal
 pub loop-a-init : goal.loop-a-init
 loop-a-init c =
     let e = c.args.self.now.engine in
-    let k = c.args.self.now.difference in
+    let k = difference c.args.self.now.engine in
     let s = c.args.table.now in
     let t = cells_mut s in
     let n = s.head.count in
@@ -32,7 +33,7 @@ returns-in_err-row c =
 pub loop-a-preserved : goal.loop-a-preserved
 loop-a-preserved c =
     let e = c.args.self.now.engine in
-    let k = c.args.self.now.difference in
+    let k = difference c.args.self.now.engine in
     let s = c.args.table.now in
     let t = cells_mut s in
     let n = s.head.count in
@@ -48,7 +49,7 @@ loop-a-preserved c =
 pub returns : goal.returns
 returns c =
     let e = c.args.self.now.engine in
-    let k = c.args.self.now.difference in
+    let k = difference c.args.self.now.engine in
     let s = c.args.table.now in
     let t = cells_mut s in
     let n = s.head.count in

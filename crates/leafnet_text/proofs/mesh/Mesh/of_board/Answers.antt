@@ -40,7 +40,7 @@ returns-in_err-splits c =
     let row : c.refine_all.new.row ≡ split_row g =
     r.ensures.row_after ∙ (λ i. refine_all_row (d.ensures.row_after i) (d.ensures.head i) (c.deref.ensures.value i)) in
     let head = split-is g r.refined split in
-    let even : refusal x.field-0.0 ≡ balance_says g = x.ensures.says ∙ (λ i. even_says Balancing 1 (row i) (head i)) in
+    let even : refusal x.field-0.0 ≡ balance_says g = x.ensures.says ∙ (λ i. even_says Balancing (row i) (head i)) in
     prints-refused c.from_residual-in_err-splits.result x.field-0.0 _ _ same
     (balance-refused g d.roots.count r.refined.count r.refined.max_level x.field-0.0 d.ensures.says split even)
 
@@ -56,5 +56,5 @@ returns c =
     r.ensures.row_after ∙ (λ i. refine_all_row (d.ensures.row_after i) (d.ensures.head i) (c.deref.ensures.value i)) in
     let head = split-is g r.refined split in
     grown-text g d.roots.count r.refined.count r.refined.max_level x.field-0.splits x.field-0.head c.balance.new.row
-    d.ensures.says split (x.ensures.says ∙ (λ i. even_says Balancing 1 (row i) (head i)))
-    (x.ensures.row_after ∙ (λ i. even_row Balancing 1 (row i) (head i)))
+    d.ensures.says split (x.ensures.says ∙ (λ i. even_says Balancing (row i) (head i)))
+    (x.ensures.row_after ∙ (λ i. even_row Balancing (row i) (head i)))

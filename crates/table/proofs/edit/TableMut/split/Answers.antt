@@ -1,5 +1,5 @@
-use Rattle.std.proofs.Common.{List, ℤ, ◌+◌, arith, ap, ◌∙◌}
-use Rattle.table.specs.Mesh.{table, is_none}
+use Rattle.std.proofs.Common.{List, ℤ, ◌+◌, arith, ap, ◌∙◌, is_none}
+use Rattle.table.specs.Mesh.{table}
 use Rattle.table.proofs.Splits.{refine-formed, split-table}
 use Rattle.table.proofs.Wellformed.{formed-facts}
 use Rattle.table.proofs.Tables.{level_read, leaf_read}

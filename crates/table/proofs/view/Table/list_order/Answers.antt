@@ -7,10 +7,7 @@ use Rattle.table.proofs.view.Table.list_order.Goals as goal
 pub append_order-requires : goal.append_order-requires
 append_order-requires c =
     let s = c.args.self.now in
-    record {
-      slots = omega (arith, s.within);
-      room = omega (arith, order_in-length s.row.now s.head s.formed, ap length (order_ids-in s.row.now s.head));
-    }
+    omega (arith, order_in-length s.row.now s.head s.formed, ap length (order_ids-in s.row.now s.head))
 
 pub returns : goal.returns
 returns c =
