@@ -4,16 +4,16 @@ use Rattle.std.proofs.lemmas.Bool.{cases_lt}
 use Rattle.std.proofs.lemmas.Bool.Decides.{nat_tests}
 use Rattle.std.proofs.lemmas.List.{length-map, map-append, take_all}
 use Rattle.std.proofs.lemmas.List.FromFn.{length-map-range_with_len, get_or-map-range_with_len}
-use Rattle.net_rows.specs.Written.{written}
+use Rattle.refusals.specs.Said.{written}
 use Rattle.net.specs.Net.{Edge, weld}
 use Rattle.net.specs.First.{Part, same_part, first_of, news}
-use Rattle.net.proofs.Find.{find-is}
+use Rattle.net.proofs.Positions.{position-is}
 use Rattle.net.proofs.Weld.{Keyed, welded, news-new, news-old, map_snoc, weld-nil}
 use Rattle.net.proofs.All.{weld-length}
 use Rattle.net.proofs.Keys.{bool-ext, pair_is_lem}
 use Rattle.sorted.specs.Firsts.{AreFirsts}
 use Rattle.bare_net.specs.Edges.{parts_from, key_of}
-use Rattle.places.proofs.Numbers.{written-more}
+use Rattle.net_rows.proofs.Written.{written_more}
 
 tests-yes : (a b c x y z : ℕ) → a ≡ x → b ≡ y → c ≡ z → ((a == x) && ((b == y) && (c == z))) ≡ true
 tests-yes a b c x y z p q r = grind (arith, nat_tests)
@@ -83,7 +83,7 @@ module _ (f : ℕ → Part) (n : ℕ) where
     first-own : (i : ℕ) → i < n → first_of firsts i ≡ first i
     first-own i h =
         let a = first-low i h in
-        find-is eqb firsts (first i) 0 (first i)
+        position-is eqb firsts (first i) 0 (first i)
         (eq-eqb _ _ (first-same (first i) i (omega arith) h (F i (omega arith)).equal))
         (λ j g. (let e = first-low j (omega arith) in ne_eqb _ _ (λ z. omega arith)))
         (omega arith)
@@ -141,7 +141,7 @@ module _ (f : ℕ → Part) (n : ℕ) (firsts : List ℕ) (long : length firsts 
       record {
         count-is = omega (arith, ap length w, length-append (so_far f n j) (f j ∷ []));
         row-is = ap (λ (z : List Edge). set z count e) E.row-is
-            ∙ (written-more (edges (so_far f n j)) old count e (c ∙ sym (length-map (so_far f n j) (λ (p : Part). p.edge))) (omega arith)
+            ∙ (written_more (edges (so_far f n j)) old count e (c ∙ sym (length-map (so_far f n j) (λ (p : Part). p.edge))) (omega arith)
             ∙ ap (λ (z : List Edge). written z old) (ap (λ (z : Edge). edges (so_far f n j) ++ (z ∷ [])) is ∙ (sym (map-append (λ (p : Part). p.edge) (so_far f n j) (f j ∷ [])) ∙ ap edges (sym w))));
       }
 

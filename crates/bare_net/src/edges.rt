@@ -1,6 +1,6 @@
 //! The rows of edges and cells.
 ghost use Rattle.std.specs.Prelude.{◌≡◌, ◌*◌, ◌<◌, ◌≤◌, [], length};
-ghost use Rattle.net_rows.specs.Written.{written};
+ghost use Rattle.refusals.specs.Said.{written};
 ghost use Rattle.sorted.specs.Firsts.{AreFirsts};
 ghost use Rattle.bare_net.specs.Edges.{slot_count, part_at, key_of, edges_in, cells_in};
 

@@ -5,7 +5,7 @@ ghost use Rattle.std.specs.Prelude.{◌≡◌, ◌*◌, ◌≤◌, map, length};
 ghost use Rattle.refusals.specs.Limits.{max_polygons};
 ghost use Rattle.table.specs.Tables.{cells as table_cells, leaves};
 ghost use Rattle.net_rows.specs.Nodes.{in_ticks};
-ghost use Rattle.net_rows.specs.Written.{written};
+ghost use Rattle.refusals.specs.Said.{written};
 ghost use Rattle.places.specs.Leaves.{AreKnown};
 ghost use Rattle.bare_net.specs.Nets.{bare_net, counted};
 

@@ -1,38 +1,33 @@
 -- A board that build accepts to cut is one that the steps can take. Assumes nothing.
 use lib.Ieee.{Float}
-use Rattle.std.proofs.Common.{ℕ, zero, suc, ◌+◌, ◌-◌, ◌*◌, ◌%◌, ◌^◌, ◌<◌, ◌≤◌, ◌≡◌, refl, sym, ap, ◌∙◌, true, ◌&&◌, List, [], ◌∷◌, ◌++◌, ⊎_elim, arith, eqb, ltb, leb, ℤ, pos, length, get_or, take, drop, replicate, take_at, take_all, eqb-true, leb-true}
+use Rattle.std.proofs.Common.{ℕ, zero, suc, ◌+◌, ◌-◌, ◌*◌, ◌%◌, ◌^◌, ◌<◌, ◌≤◌, ◌≡◌, refl, sym, ap, ◌∙◌, true, ◌&&◌, List, [], ◌∷◌, ◌++◌, ⊎_elim, append-nil, arith, zero-add, eqb, ltb, leb, ℤ, pos, length, get_or, sum, take, drop, replicate, take_at, take_all, eqb-true, leb-true}
 use lib.Ieee.{nan}
+use Rattle.std.specs.List.{range_with_len}
+use Rattle.std.proofs.lemmas.List.Sums.{AllPass-from_list_all}
+use Rattle.std.proofs.lemmas.List.FromFn.{length-range_with_len, get_or-range_with_len}
 use Rattle.cell.proofs.Offsets.{below?}
 use Rattle.cell.proofs.Contact.{and_left, and_right}
 use Rattle.refusals.specs.Limits.{widest_level, max_cap, max_cell, max_layers, max_points, max_polygons}
 use Rattle.refusals.specs.Said.{Said, accepted, refused}
 use Rattle.strips.specs.Rings.{ring_in_range, ring_slants}
 use Rattle.strips.specs.Strips.{strips_of}
-use Rattle.strips.proofs.Picking.{split}
+use Rattle.strips.proofs.Picking.{split, all_below}
 use Rattle.strips.proofs.Laying.{few-points}
 use Rattle.build.specs.Grid.{Root, all_even, listed_at, cell_or, flat, roots_in}
-use Rattle.build.specs.Board.{Board, sum_to, ring_at, polygons, unit, size_at, strips_at, roots_to, roots_of}
+use Rattle.build.specs.Board.{Board, ring_at, polygons, unit, size_at, strips_at, roots_to, roots_of}
 use Rattle.floats.specs.Fractions.{in_sheet}
 use Rattle.table.specs.Formed.{holds_whole_slots}
-use Rattle.build.specs.Says.{rows_shaped, layer_in, entry_ok, entries_ok, list_ok, numbers_ok, settings_ok, judge_from, even_from, room_for, filled}
+use Rattle.build.specs.Says.{rows_shaped, layer_in, entry_in_range, entry_ok, list_ok, numbers_ok, settings_ok, judge_from, even_from, room_for, filled}
 use Rattle.build.specs.Steps.{Fit, Tabled, placed, alone_says, alone_leaves}
+use Rattle.build.proofs.Judging.{sum_more}
 use Rattle.build.proofs.Placing.{length-flat}
 
 -- every entry of a list that is in order has a cell in range
-entry-cell : (l : List (List ℕ)) (n i : ℕ) → entries_ok l n ≡ true → i < n → get_or (get_or l i []) 1 0 ≤ max_cell
-unfolding entries_ok
-entry-cell l zero i e h = absurd (omega arith)
-entry-cell l (suc n) i e h =
-    let r = entry-cell l n i (and_left (entries_ok l n) (entry_ok l n) e) in
-    ⊎_elim
-    (λ (k : i < n). r k)
-    (λ (k : n ≤ i).
-    let q : i ≡ n = omega arith in
-    rw q
-    (leb-true _ _
-    (and_right (ltb (layer_in l n) (2 ^ 16)) _
-    (and_left (ltb (layer_in l n) (2 ^ 16) && leb (get_or (get_or l n []) 1 0) max_cell) _ (and_right (entries_ok l n) (entry_ok l n) e)))))
-    (below? i n)
+entry-cell : (l : List (List ℕ)) (n i : ℕ) → all_below (entry_ok l) n ≡ true → i < n → get_or (get_or l i []) 1 0 ≤ max_cell
+entry-cell l n i e h =
+    let ok = AllPass-from_list_all (entry_ok l) (range_with_len 0 n) e i 0 (omega (arith, length-range_with_len 0 n)) in
+    let here : entry_ok l i ≡ true = rw (get_or-range_with_len 0 n i 0 h, zero-add i) at ok in
+    leb-true _ _ (and_right (ltb (layer_in l i) (2 ^ 16)) _ (and_left (entry_in_range (get_or l i [])) _ here))
 
 listed-fits : (l : List (List ℕ)) (layer : ℕ) → ((i : ℕ) → i < length l → get_or (get_or l i []) 1 0 ≤ max_cell) → cell_or (listed_at l layer) 0 ≤ max_cell
 listed-fits [] layer h = omega arith
@@ -120,14 +115,14 @@ cleared t u b k e f n = roots-cleared t u (roots_of b) k e f n
 -- a board of one polygon
 module _ (b : Board) (f : Fit b) (one : length b.counts ≡ 1) where
   pub ring-alone : ring_at b.counts b.points 0 ≡ b.points
-  unfolding ring_at sum_to
+  unfolding ring_at
   ring-alone =
-      let s = rw one at f.sums in
-      take_all (get_or b.counts 0 0) b.points (omega arith)
+      let all = ap (λ (cs : List ℕ). sum cs) (take_all 1 b.counts (omega arith)) in
+      take_all (get_or b.counts 0 0) b.points (omega (arith, f.sums, all, sum_more b.counts 0))
 
   pub roots-alone : roots_of b ≡ roots_in 0 b.settings.cap (size_at b 0) (strips_of b.points)
   unfolding roots_to
-  roots-alone = rw (one, ring-alone) refl
+  roots-alone = rw (one, ring-alone) (append-nil _)
 
   pub says-alone : (slots : ℕ) → even_from b 0 (polygons b) (room_for slots (length (roots_of b))) ≡ alone_says (unit b) b.settings.cap (size_at b 0) (strips_of b.points) slots
   unfolding even_from
@@ -141,16 +136,16 @@ module _ (b : Board) (f : Fit b) (one : length b.counts ≡ 1) where
 module _ (b : Board) (components : List ℕ) (sheets : List Float) (size : ℕ) (shape : rows_shaped b.layers components sheets b.counts b.points size ≡ true) where
   rows_fit : (eqb (length b.layers) (length b.counts) && (eqb (length components) (length b.counts) && eqb (length sheets) (length b.counts))) ≡ true
   unfolding rows_shaped
-  rows_fit = and_right (holds_whole_slots size) _ (and_left _ (eqb (sum_to b.counts (length b.counts)) (length b.points)) shape)
+  rows_fit = and_right (holds_whole_slots size) _ (and_left _ (eqb (sum b.counts) (length b.points)) shape)
 
   pub room_fits : holds_whole_slots size ≡ true
   unfolding rows_shaped
-  room_fits = and_left (holds_whole_slots size) _ (and_left _ (eqb (sum_to b.counts (length b.counts)) (length b.points)) shape)
+  room_fits = and_left (holds_whole_slots size) _ (and_left _ (eqb (sum b.counts) (length b.points)) shape)
 
   pub sheets-fit : length sheets ≡ length b.counts
   sheets-fit = eqb-true _ _ (and_right (eqb (length components) (length b.counts)) _ (and_right (eqb (length b.layers) (length b.counts)) _ rows_fit))
 
-  pub points-fit : sum_to b.counts (length b.counts) ≡ length b.points
+  pub points-fit : sum b.counts ≡ length b.points
   unfolding rows_shaped
   points-fit = eqb-true _ _ (and_right (holds_whole_slots size && (eqb (length b.layers) (length b.counts) && (eqb (length components) (length b.counts) && eqb (length sheets) (length b.counts)))) _ shape)
 

@@ -2,7 +2,8 @@
 -- no child, coordinates in range, sides that are positive multiples of 2^(max_level+1) and a polygon of the board; the rest is zero.
 -- Assumes nothing.
 use lib.Ieee.{Float}
-use Rattle.std.proofs.Common.{ℕ, zero, suc, ◌+◌, ◌-◌, ◌*◌, ◌/◌, ◌<◌, ◌≤◌, ◌≡◌, refl, ap, ◌∙◌, true, List, [], ◌∷◌, ◌++◌, ⊎_elim, arith, ltb, ℤ, pos, length, get_or, take, drop, replicate, get_or-append-add, ltb-false}
+use Rattle.std.proofs.Common.{ℕ, zero, suc, ◌+◌, ◌-◌, ◌*◌, ◌/◌, ◌<◌, ◌≤◌, ◌≡◌, refl, ap, ◌∙◌, true, List, [], ◌∷◌, ◌++◌, ⊎_elim, arith, add-one, ltb, ℤ, pos, length, get_or, take, drop, replicate, All, get_or-append-add, ltb-false}
+use Rattle.std.proofs.lemmas.List.Elements.{All-append}
 use lib.ListN.{get_or-replicate, length-replicate, get_or-eq_default}
 use Rattle.cell.proofs.Offsets.{below?}
 use Rattle.cell.proofs.Contact.{and_left, and_right}
@@ -13,70 +14,51 @@ use Rattle.strips.specs.declared.walk.Strip.{Strip}
 use Rattle.strips.proofs.Bounds.{strips-sound, sound-first, sound-rest}
 use Rattle.strips.proofs.Picking.{split}
 use Rattle.build.specs.declared.grid.Cut.{Cut}
-use Rattle.build.specs.Grid.{Root, boxed, row_of, cell_of, row_to, grid_to, roots_in, cut_of, even_strip, all_even, flat}
+use Rattle.build.specs.Grid.{Root, row_of, row_to, grid_to, roots_in, cut_of, even_strip, all_even, flat}
 use Rattle.build.specs.Board.{Board, polygons, unit, size_at, strips_at, roots_at, roots_to, roots_of}
 use Rattle.build.specs.Says.{rows_shaped, settings_ok, judge_from, even_from, room_for, build_says, filled, build_leaves}
 use Rattle.build.specs.Steps.{Sizes, Cuts, Fit, Tabled}
 use Rattle.build.proofs.Cutting.{cuts}
-use Rattle.build.proofs.Placing.{length-flat}
-use Rattle.build.proofs.Boards.{sizes}
+use Rattle.build.proofs.Placing.{row_at, length-row, no-grid, grid-more, length-flat}
+use Rattle.build.proofs.Boards.{sizes, roots-more, no-roots}
 use Rattle.build.proofs.Fitting.{refused-accepted, sound-passes, even-at, even-passes, tabled, room_fits, fit}
 use Rattle.build.proofs.Tiling.{RootOk, cell-ok}
 
--- each root of a list
-Each : (Root → Type 0) → List Root → Type 0
-Each P [] = Unit
-Each P (r ∷ rs) = P r × Each P rs
-
-each_append : (P : Root → Type 0) (a b : List Root) → Each P a → Each P b → Each P (a ++ b)
-unfolding Each
-each_append P [] b p q = q
-each_append P (r ∷ a) b p q = (p.0, each_append P a b p.1 q)
-
-each_at : (P : Root → Type 0) (rs : List Root) (d : Root) (i : ℕ) → Each P rs → i < length rs → P (get_or rs i d)
-unfolding Each
-each_at P [] d i e h = absurd (omega arith)
-each_at P (r ∷ rs) d zero e h = e.0
-each_at P (r ∷ rs) d (suc i) e h = each_at P rs d i e.1 (omega arith)
-
 module _ (u n poly : ℕ) (below : poly < n) where
   module _ (s : Strip) (g : Cut) (sound : Sound s) (c : Cuts g) (even : even_strip u g s ≡ true) where
-    row_ok : (i j : ℕ) → i ≤ g.nx → j < g.ny → Each (RootOk u n) (row_to poly (row_of s g j) g.nx i)
-    unfolding row_to Each
-    row_ok zero j h k = tt
-    row_ok (suc i) j h k =
-        each_append (RootOk u n) (row_to poly (row_of s g j) g.nx i) (boxed poly (cell_of (row_of s g j) g.nx i) ∷ [])
-        (row_ok i j (omega arith) k) (cell-ok u n poly s g below sound c even i j (omega arith) k, tt)
+    row_ok : (j : ℕ) → j < g.ny → All (RootOk u n) (row_to poly (row_of s g j) g.nx g.nx)
+    row_ok j h k d l =
+        let inside : k < g.nx = omega (arith, length-row poly (row_of s g j) g.nx g.nx) in
+        rw (row_at poly (row_of s g j) g.nx g.nx k d inside) (cell-ok u n poly s g below sound c even k j inside h)
 
-    grid-ok : (j : ℕ) → j ≤ g.ny → Each (RootOk u n) (grid_to poly s g j)
-    unfolding grid_to Each
-    grid-ok zero h = tt
+    grid-ok : (j : ℕ) → j ≤ g.ny → All (RootOk u n) (grid_to poly s g j)
+    grid-ok zero h = rw (no-grid poly s g) (λ k d l. absurd (omega arith))
     grid-ok (suc j) h =
-        each_append (RootOk u n) (grid_to poly s g j) (row_to poly (row_of s g j) g.nx g.nx)
-        (grid-ok j (omega arith)) (row_ok g.nx j (omega arith) (omega arith))
+        rw (← add-one j, grid-more poly s g j)
+        (All-append (RootOk u n) (grid_to poly s g j) (row_to poly (row_of s g j) g.nx g.nx) (grid-ok j (omega arith)) (row_ok j (omega arith)))
 
-  roots-ok : (cap c : ℕ) → Sizes cap c → (ss : List Strip) → AllByRecursion Sound ss → all_even u cap c ss ≡ true → Each (RootOk u n) (roots_in poly cap c ss)
-  unfolding roots_in all_even Each
-  roots-ok cap c z [] a e = tt
+  roots-ok : (cap c : ℕ) → Sizes cap c → (ss : List Strip) → AllByRecursion Sound ss → all_even u cap c ss ≡ true → All (RootOk u n) (roots_in poly cap c ss)
+  unfolding roots_in all_even
+  roots-ok cap c z [] a e = λ k d l. absurd (omega arith)
   roots-ok cap c z (s ∷ ss) a e =
-      each_append (RootOk u n) (grid_to poly s (cut_of cap c s) (cut_of cap c s).ny) (roots_in poly cap c ss)
+      All-append (RootOk u n) (grid_to poly s (cut_of cap c s) (cut_of cap c s).ny) (roots_in poly cap c ss)
       (grid-ok s (cut_of cap c s) (sound-first s ss a) (cuts cap c s z) (and_left (even_strip u (cut_of cap c s) s) (all_even u cap c ss) e) (cut_of cap c s).ny (omega arith))
       (roots-ok cap c z ss (sound-rest s ss a) (and_right (even_strip u (cut_of cap c s) s) (all_even u cap c ss) e))
 
 board-ok : (b : Board) → Fit b → ((p : ℕ) → p < polygons b → all_even (unit b) b.settings.cap (size_at b p) (strips_at b p) ≡ true)
-    → (p : ℕ) → p ≤ polygons b → Each (RootOk (unit b) (polygons b)) (roots_to b p)
-unfolding roots_to Each
-board-ok b f e zero h = tt
+    → (p : ℕ) → p ≤ polygons b → All (RootOk (unit b) (polygons b)) (roots_to b p)
+board-ok b f e zero h = rw (no-roots b) (λ k d l. absurd (omega arith))
 board-ok b f e (suc p) h =
-    each_append (RootOk (unit b) (polygons b)) (roots_to b p) (roots_at b p)
+    rw (← add-one p, roots-more b p)
+    (All-append (RootOk (unit b) (polygons b)) (roots_to b p) (roots_at b p)
     (board-ok b f e p (omega arith))
-    (roots-ok (unit b) (polygons b) p (omega arith) b.settings.cap (size_at b p) (sizes b f p) (strips_at b p) (strips-sound _) (e p (omega arith)))
+    (roots-ok (unit b) (polygons b) p (omega arith) b.settings.cap (size_at b p) (sizes b f p) (strips_at b p) (strips-sound _) (e p (omega arith))))
 
 -- a slot's eight numbers
 abbrev pub slot : List ℤ → ℕ → List ℤ
 slot t i = take 8 (drop (i * 8) t)
 
-flat-slot : (rs : List Root) (rest : List ℤ) (i : ℕ) (d : Root) → i < length rs → slot (flat rs ++ rest) i ≡ flat (get_or rs i d ∷ [])
+pub flat-slot : (rs : List Root) (rest : List ℤ) (i : ℕ) (d : Root) → i < length rs → slot (flat rs ++ rest) i ≡ flat (get_or rs i d ∷ [])
 unfolding flat
 flat-slot [] rest i d h = absurd (omega arith)
 flat-slot (r ∷ rs) rest zero d h = refl
@@ -98,13 +80,13 @@ pub record RootsOnly (b : Board) (t : List ℤ) (n : ℕ) : Type 0 where
   pub ok : (i : ℕ) → i < n → RootOk (unit b) (polygons b) (root i)
   pub rest : (j : ℕ) → n * 8 ≤ j → get_or t j (pos 0) ≡ pos 0
 
-filled-roots : (b : Board) (size : ℕ) → Each (RootOk (unit b) (polygons b)) (roots_of b) → RootsOnly b (filled b size) (length (roots_of b))
+filled-roots : (b : Board) (size : ℕ) → All (RootOk (unit b) (polygons b)) (roots_of b) → RootsOnly b (filled b size) (length (roots_of b))
 unfolding filled
 filled-roots b size e =
     record {
       root = λ i. get_or (roots_of b) i (record { x0 = 0; y0 = 0; x1 = 0; y1 = 0; poly = 0 });
       held = λ i h. flat-slot (roots_of b) _ i _ h;
-      ok = λ i h. each_at (RootOk (unit b) (polygons b)) (roots_of b) _ i e h;
+      ok = λ i h. e i _ h;
       rest = λ j h.
           let f = length-flat (roots_of b) in
           let q : j ≡ length (flat (roots_of b)) + (j - length (roots_of b) * 8) = omega arith in

@@ -1,8 +1,11 @@
 -- The layer list as the code judges it: each entry, and each beside the next. Assumes nothing.
-use Rattle.std.proofs.Common.{ℕ, zero, suc, ◌+◌, ◌-◌, ◌<◌, ◌≤◌, ◌≡◌, refl, sym, ap, ◌∙◌, Bool, true, false, ◌&&◌, List, [], ◌∷◌, ⊎_elim, arith, cond, eqb, ltb, length, get_or, ne_eqb}
-use Rattle.std.specs.List.{list_all, AllAdjacentBelow, IsAllAdjacentAnswer}
-use Rattle.cell.proofs.Offsets.{below?}
-use Rattle.build.specs.Says.{layer_in, entry_in_range, entry_ok, entries_ok}
+use Rattle.std.proofs.Common.{ℕ, zero, suc, ◌+◌, ◌-◌, ◌<◌, ◌≤◌, ◌≡◌, refl, sym, ap, ◌∙◌, Bool, true, false, ◌&&◌, List, [], ◌∷◌, arith, zero-add, cond, eqb, ltb, length, get_or, ne_eqb}
+use Rattle.std.specs.List.{list_all, range_with_len, AllAdjacentBelow, IsAllAdjacentAnswer}
+use Rattle.std.proofs.lemmas.List.Sums.{AllPass-from_list_all}
+use Rattle.std.proofs.lemmas.List.Folds.{list_all_at}
+use Rattle.std.proofs.lemmas.List.FromFn.{length-range_with_len, get_or-range_with_len}
+use Rattle.strips.proofs.Picking.{all_below, all-suc}
+use Rattle.build.specs.Says.{layer_in, entry_in_range, entry_ok}
 
 abbrev pub rising : List ℕ → List ℕ → Bool
 rising x y = ltb (get_or x 0 0) (get_or y 0 0)
@@ -13,16 +16,6 @@ both_true p q = rw (p, q) refl
 and_false : (a : Bool) → (a && false) ≡ false
 and_false true = refl
 and_false false = refl
-
--- a test that a list passes, its first and the others
-first_of : (a b : Bool) → (a && b) ≡ true → (a ≡ true) × (b ≡ true)
-first_of true b e = (refl, e)
-first_of false b e = absurd cc
-
-all_at : (l : List (List ℕ)) (i : ℕ) → list_all entry_in_range l ≡ true → i < length l → entry_in_range (get_or l i []) ≡ true
-all_at [] i e h = absurd (omega arith)
-all_at (x ∷ l) zero e h = (first_of (entry_in_range x) (list_all entry_in_range l) e).0
-all_at (x ∷ l) (suc i) e h = all_at l i (first_of (entry_in_range x) (list_all entry_in_range l) e).1 (omega arith)
 
 -- an entry that is out of range
 record IsOut (l : List (List ℕ)) (i : ℕ) : Type 0 where
@@ -40,27 +33,21 @@ one_out (x ∷ l) e = one_of x l (entry_in_range x) refl (λ f. one_out l f) e
 module _ (l : List (List ℕ)) where
   -- the entry of a list in order
   entry-in : list_all entry_in_range l ≡ true → AllAdjacentBelow (λ x y. true ≡ rising x y) l (length l) → (i : ℕ) → i < length l → entry_ok l i ≡ true
-  entry-in a s zero h = both_true (all_at l zero a h) refl
+  entry-in a s zero h = both_true (AllPass-from_list_all entry_in_range l a zero [] h) refl
   entry-in a s (suc i) h =
       let last : suc i - 1 ≡ i = omega arith in
       let next : i + 1 ≡ suc i = omega arith in
       let up = rw next at (s i [] (omega arith)) in
       let some : eqb (suc i) 0 ≡ false = ne_eqb (suc i) 0 (λ z. omega arith) in
-      both_true (all_at l (suc i) a h) (rw (some, last) (sym up))
+      both_true (AllPass-from_list_all entry_in_range l a (suc i) [] h) (rw (some, last) (sym up))
 
-  all-in : list_all entry_in_range l ≡ true → AllAdjacentBelow (λ x y. true ≡ rising x y) l (length l) → (n : ℕ) → n ≤ length l → entries_ok l n ≡ true
-  unfolding entries_ok
+  all-in : list_all entry_in_range l ≡ true → AllAdjacentBelow (λ x y. true ≡ rising x y) l (length l) → (n : ℕ) → n ≤ length l → all_below (entry_ok l) n ≡ true
   all-in a s zero h = refl
-  all-in a s (suc n) h = both_true (all-in a s n (omega arith)) (entry-in a s n (omega arith))
+  all-in a s (suc n) h = all-suc (entry_ok l) n ∙ both_true (all-in a s n (omega arith)) (entry-in a s n (omega arith))
 
-  one-out : (n i : ℕ) → i < n → entry_ok l i ≡ false → entries_ok l n ≡ false
-  unfolding entries_ok
-  one-out zero i h e = absurd (omega arith)
-  one-out (suc n) i h e =
-      ⊎_elim
-      (λ (k : i < n). ap (λ b. b && entry_ok l n) (one-out n i k e))
-      (λ (k : n ≤ i). let q : i ≡ n = omega arith in ap (λ b. entries_ok l n && b) (ap (entry_ok l) (sym q) ∙ e) ∙ and_false (entries_ok l n))
-      (below? i n)
+  one-out : (n i : ℕ) → i < n → entry_ok l i ≡ false → all_below (entry_ok l) n ≡ false
+  one-out n i h e =
+      list_all_at (entry_ok l) (range_with_len 0 n) i 0 (omega (arith, length-range_with_len 0 n)) (ap (entry_ok l) (get_or-range_with_len 0 n i 0 h ∙ zero-add i) ∙ e)
 
   flat : (k : ℕ) → false ≡ rising (get_or l k []) (get_or l (k + 1) []) → entry_ok l (k + 1) ≡ false
   flat k e =
@@ -68,7 +55,7 @@ module _ (l : List (List ℕ)) where
       let some : eqb (k + 1) 0 ≡ false = ne_eqb (k + 1) 0 (λ z. omega arith) in
       rw (some, last, ← e) (and_false (entry_in_range (get_or l (k + 1) [])))
 
-  pub list-judged : (a s : Bool) → a ≡ list_all entry_in_range l → IsAllAdjacentAnswer (λ x y b. b ≡ rising x y) l s → (a && s) ≡ entries_ok l (length l)
+  pub list-judged : (a s : Bool) → a ≡ list_all entry_in_range l → IsAllAdjacentAnswer (λ x y b. b ≡ rising x y) l s → (a && s) ≡ all_below (entry_ok l) (length l)
   list-judged true true e f = sym (all-in (sym e) f (length l) (omega arith))
   list-judged true false e f = sym (one-out (length l) (f.0 + 1) f.1 (flat f.0 (f.2 [])))
   list-judged false s e f =

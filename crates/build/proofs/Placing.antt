@@ -1,6 +1,9 @@
 -- Roots placed in the table: their numbers one behind the other, and what is placed later behind what was placed before.
 -- Assumes nothing.
-use Rattle.std.proofs.Common.{ℕ, zero, suc, ◌+◌, ◌*◌, ◌<◌, ◌≤◌, ◌≡◌, refl, sym, ap, ◌∙◌, List, [], ◌∷◌, ◌++◌, append_assoc, arith, min, add-one, suc-mul, zero-mul, ⊎_elim, ℤ, pos, length, take, drop, length-append, take-append-drop, take_at, drop_at, length-take-le, drop-drop}
+use Rattle.std.proofs.Common.{ℕ, zero, suc, ◌+◌, ◌*◌, ◌<◌, ◌≤◌, ◌≡◌, refl, sym, ap, ◌∙◌, List, [], ◌∷◌, ◌++◌, append_assoc, append-nil, arith, min, add-one, suc-mul, zero-mul, ⊎_elim, ℤ, pos, length, take, drop, get_or, length-append, take-append-drop, take_at, drop_at, length-take-le, drop-drop}
+use Rattle.std.specs.List.{range_with_len, flat_map}
+use Rattle.std.proofs.lemmas.Grind.{flat_map-append}
+use Rattle.std.proofs.lemmas.List.FromFn.{length-map-range_with_len, get_or-map-range_with_len, map-range_with_len_more}
 use Rattle.cell.proofs.Offsets.{below?}
 use lib.Seq.{sets-eq}
 use Rattle.refusals.specs.Limits.{max_polygons}
@@ -8,9 +11,16 @@ use Rattle.cell.specs.Cells.{no_cell, root_of}
 use Rattle.cell.specs.Ticks.{on}
 use Rattle.table.specs.Slots.{stored, kept, put_cell}
 use Rattle.strips.specs.declared.walk.Strip.{Strip}
+use Rattle.strips.proofs.Picking.{range-more}
 use Rattle.build.specs.declared.grid.Cut.{Cut}
-use Rattle.build.specs.Grid.{Root, boxed, row_of, cell_of, row_to, grid_to, roots_in, flat, cut_of}
+use Rattle.build.specs.Grid.{Root, boxed, row_of, cell_of, row_to, grid_to, roots_in, numbers_of, flat, cut_of}
 use Rattle.build.specs.Steps.{placed}
+
+-- the items of one number more
+pub flat_map_more : {A : Type 0} (f : ℕ → List A) (n : ℕ) → flat_map f (range_with_len 0 (n + 1)) ≡ flat_map f (range_with_len 0 n) ++ f n
+flat_map_more {A} f n =
+    ap (flat_map f) (range-more n) ∙ flat_map-append f (range_with_len 0 n) (n ∷ [])
+    ∙ ap (λ (l : List A). flat_map f (range_with_len 0 n) ++ l) (append-nil (f n))
 
 pub length-flat : (rs : List Root) → length (flat rs) ≡ length rs * 8
 unfolding flat
@@ -19,8 +29,7 @@ length-flat (r ∷ rs) = omega (arith, length-flat rs)
 
 pub flat_append : (a b : List Root) → flat (a ++ b) ≡ flat a ++ flat b
 unfolding flat
-flat_append [] b = refl
-flat_append (r ∷ a) b = let e = flat_append a b in rw e refl
+flat_append a b = flat_map-append numbers_of a b
 
 pub placed-none : (t : List ℤ) (k : ℕ) → placed t k [] ≡ t
 unfolding placed flat
@@ -69,12 +78,15 @@ root_placed t k s poly few h =
 
 pub row_more : (poly : ℕ) (r : Strip) (n i : ℕ) → row_to poly r n (i + 1) ≡ row_to poly r n i ++ (boxed poly (cell_of r n i) ∷ [])
 unfolding row_to
-row_more poly r n i = ap (row_to poly r n) (add-one i)
+row_more poly r n i = map-range_with_len_more (λ (k : ℕ). boxed poly (cell_of r n k)) 0 i i (omega arith)
 
 pub length-row : (poly : ℕ) (r : Strip) (n i : ℕ) → length (row_to poly r n i) ≡ i
 unfolding row_to
-length-row poly r n zero = refl
-length-row poly r n (suc i) = length-append (row_to poly r n i) (boxed poly (cell_of r n i) ∷ []) ∙ omega (arith, length-row poly r n i)
+length-row poly r n i = length-map-range_with_len (λ (k : ℕ). boxed poly (cell_of r n k)) 0 i
+
+pub row_at : (poly : ℕ) (r : Strip) (n i m : ℕ) (d : Root) → m < i → get_or (row_to poly r n i) m d ≡ boxed poly (cell_of r n m)
+unfolding row_to
+row_at poly r n i m d h = get_or-map-range_with_len (λ (k : ℕ). boxed poly (cell_of r n k)) 0 i m m d h (omega arith)
 
 pub row-none : (t : List ℤ) (k poly : ℕ) (r : Strip) (n : ℕ) → t ≡ placed t k (row_to poly r n 0)
 unfolding row_to
@@ -82,7 +94,11 @@ row-none t k poly r n = sym (placed-none t k)
 
 pub grid-more : (poly : ℕ) (s : Strip) (g : Cut) (j : ℕ) → grid_to poly s g (j + 1) ≡ grid_to poly s g j ++ row_to poly (row_of s g j) g.nx g.nx
 unfolding grid_to
-grid-more poly s g j = ap (grid_to poly s g) (add-one j)
+grid-more poly s g j = flat_map_more (λ (k : ℕ). row_to poly (row_of s g k) g.nx g.nx) j
+
+pub no-grid : (poly : ℕ) (s : Strip) (g : Cut) → grid_to poly s g 0 ≡ []
+unfolding grid_to
+no-grid poly s g = refl
 
 pub length-grid-more : (poly : ℕ) (s : Strip) (g : Cut) (j : ℕ) → length (grid_to poly s g (j + 1)) ≡ length (grid_to poly s g j) + g.nx
 length-grid-more poly s g j =

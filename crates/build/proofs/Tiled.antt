@@ -1,5 +1,5 @@
 -- The roots of a strip tile it. Assumes nothing.
-use Rattle.std.proofs.Common.{ℕ, zero, suc, ◌+◌, ◌-◌, ◌*◌, ◌/◌, ◌<◌, ◌≤◌, ◌≡◌, refl, true, List, [], ◌∷◌, ◌++◌, ⊎_elim, arith, length, length-append, get_or, All, AllPairs, Float}
+use Rattle.std.proofs.Common.{ℕ, zero, suc, ◌+◌, ◌-◌, ◌*◌, ◌/◌, ◌<◌, ◌≤◌, ◌≡◌, refl, true, List, [], ◌∷◌, ◌++◌, ⊎_elim, arith, add-one, mul-le-mul_left, length, length-append, get_or, All, AllPairs, Float}
 use Rattle.std.proofs.lemmas.List.{get_or_append_left, get_or-append_right}
 use Rattle.std.proofs.lemmas.List.Elements.{All-append}
 use Rattle.cell.proofs.Offsets.{below?}
@@ -9,11 +9,12 @@ use Rattle.strips.specs.Walk.{Sound}
 use Rattle.strips.specs.declared.walk.Strip.{Strip}
 use Rattle.strips.proofs.Bounds.{strips-sound, sound-first, sound-rest}
 use Rattle.build.specs.declared.grid.Cut.{Cut}
-use Rattle.build.specs.Grid.{Root, width, height, boxed, row_of, cell_of, row_to, grid_to, cut_of, even_strip, all_even}
+use Rattle.build.specs.Grid.{Root, width, height, row_of, row_to, grid_to, cut_of, even_strip, all_even}
 use Rattle.build.specs.Board.{Board, polygons, unit, size_at, strips_at}
 use Rattle.build.specs.Steps.{Sizes, Cuts}
 use Rattle.build.specs.Laws.{Accepts, IsWithin, Overlap, IsTiledBy, strip_roots}
 use Rattle.build.proofs.Cutting.{cuts, pieces}
+use Rattle.build.proofs.Placing.{row_at, length-row, no-grid, grid-more}
 use Rattle.build.proofs.Boards.{sizes}
 use Rattle.build.proofs.Formed.{passed-size}
 use Rattle.build.proofs.Tiling.{step, strip-area}
@@ -57,34 +58,17 @@ wider s t r a b c d w =
 
 module _ (poly : ℕ) (r : Strip) (n : ℕ) where
   row-within : (i : ℕ) → All (IsWithin (upto r (r.x0 + width r / n * i) r.y1)) (row_to poly r n i)
-  unfolding row_to
-  row-within zero k d h = absurd (omega arith)
-  row-within (suc i) k d h =
-      let e = step (width r / n) i in
-      let before = row-within i in
-      let within =
-      All-append (IsWithin (upto r (r.x0 + width r / n * (i + 1)) r.y1)) (row_to poly r n i) (boxed poly (cell_of r n i) ∷ [])
-      (λ m x g. wider _ _ _ (omega arith) (omega arith) (omega arith) (omega arith) (before m x g))
-      (λ m x g. last m x g e) in
-      rw (← native.Mathlib.Numerals.add-one i) (within k d h)
-    where
-      last : (k : ℕ) (d : Root) → k < 1 → width r / n * (i + 1) ≡ width r / n * i + width r / n → IsWithin (upto r (r.x0 + width r / n * (i + 1)) r.y1) (get_or (boxed poly (cell_of r n i) ∷ []) k d)
-      last zero d h e = record { left = omega arith; right = omega arith; bottom = omega arith; top = omega arith }
-      last (suc k) d h e = absurd (omega arith)
+  row-within i k d h =
+      let inside : k + 1 ≤ i = omega (arith, length-row poly r n i) in
+      let next = mul-le-mul_left (width r / n) inside in
+      rw (row_at poly r n i k d (omega arith)) (record { left = omega arith; right = omega arith; bottom = omega arith; top = omega arith })
 
   row-apart : (i : ℕ) → AllPairs Apart (row_to poly r n i)
-  unfolding row_to
-  row-apart zero a b d h k = absurd (omega arith)
-  row-apart (suc i) a b d h k =
-      let before = row-within i in
-      pairs-append (row_to poly r n i) (boxed poly (cell_of r n i) ∷ []) (row-apart i)
-      (λ p q x g m. absurd (omega arith))
-      (λ p q x g m. last p q x g m (before p x g))
-      a b d h k
-    where
-      last : (a b : ℕ) (d : Root) → a < length (row_to poly r n i) → b < 1 → IsWithin (upto r (r.x0 + width r / n * i) r.y1) (get_or (row_to poly r n i) a d) → Apart (get_or (row_to poly r n i) a d) (get_or (boxed poly (cell_of r n i) ∷ []) b d)
-      last a zero d h k w o = omega (arith, w.right, o.right)
-      last a (suc b) d h k w o = omega arith
+  row-apart i a b d h k =
+      let before : a + 1 ≤ b = omega arith in
+      let next = mul-le-mul_left (width r / n) before in
+      let long = length-row poly r n i in
+      rw (row_at poly r n i a d (omega arith), row_at poly r n i b d (omega arith)) (λ o. omega (arith, o.right))
 
 module _ (poly : ℕ) (s : Strip) (g : Cut) where
   -- row j lies within the strip and above the rows before it
@@ -95,26 +79,24 @@ module _ (poly : ℕ) (s : Strip) (g : Cut) where
       wider _ _ _ (omega arith) (omega arith) (omega arith) (omega arith) (row-within poly (row_of s g j) g.nx g.nx k d h)
 
   grid-within : s.x0 ≤ s.x1 → (j : ℕ) → All (IsWithin (upto s s.x1 (s.y0 + height s / g.ny * j))) (grid_to poly s g j)
-  unfolding grid_to
-  grid-within l zero k d h = absurd (omega arith)
-  grid-within l (suc j) k d h =
+  grid-within l zero = rw (no-grid poly s g) (λ k d h. absurd (omega arith))
+  grid-within l (suc j) =
       let e = step (height s / g.ny) j in
       let before = grid-within l j in
       let within =
       All-append (IsWithin (upto s s.x1 (s.y0 + height s / g.ny * (j + 1)))) (grid_to poly s g j) (row_to poly (row_of s g j) g.nx g.nx)
       (λ m x q. wider _ _ _ (omega arith) (omega arith) (omega arith) (omega arith) (before m x q))
       (λ m x q. wider _ _ _ (omega arith) (omega arith) (omega arith) (omega arith) (row-in-strip j l m x q)) in
-      rw (← native.Mathlib.Numerals.add-one j) (within k d h)
+      rw (← add-one j, grid-more poly s g j) within
 
   grid-apart : s.x0 ≤ s.x1 → (j : ℕ) → AllPairs Apart (grid_to poly s g j)
-  unfolding grid_to
-  grid-apart l zero a b d h k = absurd (omega arith)
-  grid-apart l (suc j) a b d h k =
+  grid-apart l zero = rw (no-grid poly s g) (λ a b d h k. absurd (omega arith))
+  grid-apart l (suc j) =
       let before = grid-within l j in
-      pairs-append (grid_to poly s g j) (row_to poly (row_of s g j) g.nx g.nx) (grid-apart l j)
+      rw (← add-one j, grid-more poly s g j)
+      (pairs-append (grid_to poly s g j) (row_to poly (row_of s g j) g.nx g.nx) (grid-apart l j)
       (row-apart poly (row_of s g j) g.nx g.nx)
-      (λ p q x m n. λ o. omega (arith, (before p x m).top, (row-in-strip j l q x n).bottom, o.top))
-      a b d h k
+      (λ p q x m n. λ o. omega (arith, (before p x m).top, (row-in-strip j l q x n).bottom, o.top)))
 
 -- ---- all strips of an accepted board
 

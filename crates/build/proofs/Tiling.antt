@@ -1,6 +1,7 @@
 -- A strip's cells tile it: together they have its area, and no two overlap. Each is a root: in range, with positive sides that are
 -- multiples of the unit. Assumes nothing.
-use Rattle.std.proofs.Common.{ℕ, zero, suc, ◌+◌, ◌-◌, ◌*◌, ◌/◌, ◌%◌, ◌<◌, ◌≤◌, ◌≡◌, sym, ap, ◌∙◌, true, List, [], ◌∷◌, ◌++◌, arith, mul_comm, mul_assoc, mul-add, add-mul, mul-one, zero-mul, mul-zero, div-add-mod', mul-div_cancel, add-zero, mul-suc, eqb-true}
+use Rattle.std.proofs.Common.{ℕ, zero, suc, ◌+◌, ◌-◌, ◌*◌, ◌/◌, ◌%◌, ◌<◌, ◌≤◌, ◌≡◌, sym, ap, ◌∙◌, true, List, [], ◌∷◌, ◌++◌, arith, add-one, mul_comm, mul_assoc, mul-add, add-mul, mul-one, zero-mul, mul-zero, div-add-mod', mul-div_cancel, add-zero, zero-add, mul-suc, eqb-true}
+use Rattle.std.proofs.lemmas.List.Sums.{sum_by-append}
 use Rattle.cell.proofs.Contact.{and_left, and_right}
 use Rattle.refusals.specs.Limits.{coordinate}
 use Rattle.strips.specs.Walk.{Sound}
@@ -10,6 +11,7 @@ use Rattle.build.specs.Grid.{Root, width, height, boxed, row_of, cell_of, row_to
 use Rattle.build.specs.Steps.{Cuts}
 use Rattle.build.specs.Laws.{area_of}
 use Rattle.build.proofs.Cutting.{pieces}
+use Rattle.build.proofs.Placing.{row_more, grid-more}
 
 -- a length w that n pieces of whole units make up: each piece is a positive number of units, and the pieces are all of w
 module _ (w n u : ℕ) (some : 0 < w) (cut : 1 ≤ n) (e : w % (n * u) ≡ 0) where
@@ -75,8 +77,7 @@ module _ (u n poly : ℕ) (s : Strip) (g : Cut) (below : poly < n) (sound : Soun
 
 area-append : (a b : List Root) → area_of (a ++ b) ≡ area_of a + area_of b
 unfolding area_of
-area-append [] b = omega arith
-area-append (r ∷ a) b = omega (arith, area-append a b)
+area-append a b = sum_by-append (λ (r : Root). (r.x1 - r.x0) * (r.y1 - r.y0)) a b
 
 row-area : (poly : ℕ) (r : Strip) (n i : ℕ) → area_of (row_to poly r n i) ≡ width r / n * i * height r
 unfolding row_to area_of
@@ -85,10 +86,11 @@ row-area poly r n (suc i) =
     let d = width r / n in
     let w : r.x0 + d * (i + 1) - (r.x0 + d * i) ≡ d = omega (arith, step d i) in
     let q : d * suc i ≡ d * i + d = mul-suc d i in
-    area-append (row_to poly r n i) (boxed poly (cell_of r n i) ∷ [])
-    ∙ ap (λ (x : ℕ). area_of (row_to poly r n i) + (x * height r + 0)) w
-    ∙ ap (λ (x : ℕ). x + (d * height r + 0)) (row-area poly r n i)
-    ∙ ap (λ (x : ℕ). d * i * height r + x) (add-zero (d * height r))
+    ap area_of (ap (row_to poly r n) (sym (add-one i)) ∙ row_more poly r n i)
+    ∙ area-append (row_to poly r n i) (boxed poly (cell_of r n i) ∷ [])
+    ∙ ap (λ (x : ℕ). area_of (row_to poly r n i) + (0 + x * height r)) w
+    ∙ ap (λ (x : ℕ). x + (0 + d * height r)) (row-area poly r n i)
+    ∙ ap (λ (x : ℕ). d * i * height r + x) (zero-add (d * height r))
     ∙ sym (add-mul (d * i) d (height r)) ∙ ap (λ (x : ℕ). x * height r) (sym q)
 
 module _ (poly : ℕ) (s : Strip) (g : Cut) (all : width s / g.nx * g.nx ≡ width s) where
@@ -98,7 +100,8 @@ module _ (poly : ℕ) (s : Strip) (g : Cut) (all : width s / g.nx * g.nx ≡ wid
   grid-area (suc j) =
       let d = height s / g.ny in
       let t : s.y0 + d * (j + 1) - (s.y0 + d * j) ≡ d = omega (arith, step d j) in
-      area-append (grid_to poly s g j) (row_to poly (row_of s g j) g.nx g.nx)
+      ap area_of (ap (grid_to poly s g) (sym (add-one j)) ∙ grid-more poly s g j)
+      ∙ area-append (grid_to poly s g j) (row_to poly (row_of s g j) g.nx g.nx)
       ∙ ap (λ (x : ℕ). x + area_of (row_to poly (row_of s g j) g.nx g.nx)) (grid-area j)
       ∙ ap (λ (x : ℕ). width s * (d * j) + x) (row-area poly (row_of s g j) g.nx g.nx ∙ ap (λ (x : ℕ). x * height (row_of s g j)) all ∙ ap (λ (x : ℕ). width s * x) t)
       ∙ sym (mul-add (width s) (d * j) d) ∙ ap (λ (x : ℕ). width s * x) (sym (mul-suc d j))

@@ -1,5 +1,6 @@
 -- A board as build is given it, and its polygons' rings and roots.
-use Rattle.std.specs.Prelude.{ℕ, zero, suc, ◌+◌, ◌^◌, List, [], ◌++◌, ℤ, length, take, drop, slice_index}
+use Rattle.std.specs.Prelude.{ℕ, ◌+◌, ◌^◌, List, ℤ, length, sum, take, drop, slice_index}
+use Rattle.std.specs.List.{flat_map, range_with_len}
 use Rattle.strips.specs.Strips.{strips_of}
 use Rattle.strips.specs.declared.walk.Strip.{Strip}
 use Rattle.build.specs.declared.Settings.{Settings}
@@ -24,13 +25,9 @@ board s list layers counts points =
 abbrev pub board_of : Settings → List (List ℕ) → Outlines → Board
 board_of s list o = board s list o.layers.now o.counts.now o.points.now
 
-unfoldable pub sum_to : List ℕ → ℕ → ℕ
-sum_to cs zero = 0
-sum_to cs (suc p) = sum_to cs p + slice_index cs p
-
 -- the points of polygon p: the rings stand one behind the other
 unfoldable pub ring_at : List ℕ → List (List ℤ) → ℕ → List (List ℤ)
-ring_at cs ps p = take (slice_index cs p) (drop (sum_to cs p) ps)
+ring_at cs ps p = take (slice_index cs p) (drop (sum (take p cs)) ps)
 
 abbrev pub polygons : Board → ℕ
 polygons b = length b.counts
@@ -50,8 +47,7 @@ roots_at b p = roots_in p b.settings.cap (size_at b p) (strips_at b p)
 
 -- the roots of the first n polygons: "polygons in order"
 unfoldable pub roots_to : Board → ℕ → List Root
-roots_to b zero = []
-roots_to b (suc p) = roots_to b p ++ roots_at b p
+roots_to b n = flat_map (roots_at b) (range_with_len 0 n)
 
 abbrev pub roots_of : Board → List Root
 roots_of b = roots_to b (polygons b)

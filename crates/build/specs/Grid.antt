@@ -1,9 +1,9 @@
 -- The rules' "Rings to roots", from a strip to its cells.
-use Rattle.std.specs.Prelude.{ℕ, zero, suc, ◌+◌, ◌-◌, ◌*◌, ◌/◌, ◌%◌, min, max, Bool, ◌&&◌, List, [], ◌∷◌, ◌++◌}
+use Rattle.std.specs.Prelude.{ℕ, ◌+◌, ◌-◌, ◌*◌, ◌/◌, ◌%◌, min, max, Bool, ◌&&◌, List, [], ◌∷◌, map}
 use Rattle.std.specs.Prelude.{ℤ, pos, Option, None, Some, find, ◌==◌, if◌then◌else◌, slice_index}
 use Rattle.std.specs.Int.{div_ceil}
 use Rattle.std.specs.Option.{option_map}
-use Rattle.std.specs.List.{flat_map, list_all}
+use Rattle.std.specs.List.{flat_map, list_all, range_with_len}
 use Rattle.cell.specs.Ticks.{on}
 use Rattle.cell.specs.Cells.{no_cell}
 use Rattle.strips.specs.declared.walk.Strip.{Strip}
@@ -44,12 +44,10 @@ cell_of r n i = record { x0 = r.x0 + width r / n * i; y0 = r.y0; x1 = r.x0 + wid
 
 -- the first cells of a row and the first rows of a strip: "row by row from the bottom, left to right"
 unfoldable pub row_to : ℕ → Strip → ℕ → ℕ → List Root
-row_to poly r n zero = []
-row_to poly r n (suc i) = row_to poly r n i ++ (boxed poly (cell_of r n i) ∷ [])
+row_to poly r n cells = map (λ i. boxed poly (cell_of r n i)) (range_with_len 0 cells)
 
 unfoldable pub grid_to : ℕ → Strip → Cut → ℕ → List Root
-grid_to poly s g zero = []
-grid_to poly s g (suc j) = grid_to poly s g j ++ row_to poly (row_of s g j) g.nx g.nx
+grid_to poly s g rows = flat_map (λ j. row_to poly (row_of s g j) g.nx g.nx) (range_with_len 0 rows)
 
 -- the roots of strips, one after another
 unfoldable pub roots_in : ℕ → ℕ → ℕ → List Strip → List Root
@@ -65,11 +63,13 @@ even_strip u g s = evenly u g.nx (width s) && evenly u g.ny (height s)
 unfoldable pub all_even : ℕ → ℕ → ℕ → List Strip → Bool
 all_even u cap c ss = list_all (λ s. even_strip u (cut_of cap c s) s) ss
 
--- the table's eight numbers of each root: a leaf of level 0 with no parent
+-- the table's eight numbers of a root: a leaf of level 0 with no parent
+abbrev pub numbers_of : Root → List ℤ
+numbers_of r = on r.x0 ∷ on r.y0 ∷ on r.x1 ∷ on r.y1 ∷ pos 0 ∷ pos no_cell ∷ pos no_cell ∷ pos r.poly ∷ []
+
+-- and of roots, one behind the other
 unfoldable pub flat : List Root → List ℤ
-flat [] = []
-flat (r ∷ rs) =
-    on r.x0 ∷ on r.y0 ∷ on r.x1 ∷ on r.y1 ∷ pos 0 ∷ pos no_cell ∷ pos no_cell ∷ pos r.poly ∷ flat rs
+flat rs = flat_map numbers_of rs
 
 -- the cell that the layer list gives a layer, if it has the layer
 abbrev pub listed_at : List (List ℕ) → ℕ → Option ℕ

@@ -1,6 +1,6 @@
 -- Laws of build. Each is the contract of a function of src/laws.rt.
-use Rattle.std.specs.Prelude.{ℕ, ◌+◌, ◌-◌, ◌*◌, ◌<◌, ◌≤◌, ◌≡◌, true, List, [], ◌∷◌, length, None, Result, ℤ, Float, All}
-use Rattle.std.specs.Prelude.{AllPairs}
+use Rattle.std.specs.Prelude.{ℕ, ◌-◌, ◌*◌, ◌<◌, ◌≤◌, ◌≡◌, true, List, [], ◌∷◌, length, None, Result, ℤ, Float, All}
+use Rattle.std.specs.Prelude.{AllPairs, sum_by}
 use Rattle.refusals.specs.declared.Refusal.{Refusal}
 use Rattle.refusals.specs.Said.{accepted}
 use Rattle.table.specs.Mesh.{at, table}
@@ -37,8 +37,7 @@ strip_roots polygon cap cell s = grid_to polygon s (cut_of cap cell s) (cut_of c
 
 -- the area of all roots of a list
 unfoldable pub area_of : List Root → ℕ
-area_of [] = 0
-area_of (r ∷ rs) = (r.x1 - r.x0) * (r.y1 - r.y0) + area_of rs
+area_of rs = sum_by (λ r. (r.x1 - r.x0) * (r.y1 - r.y0)) rs
 
 -- no part of the root lies outside the strip
 pub record IsWithin (s : Strip) (r : Root) : Type 0 where

@@ -1,7 +1,8 @@
 -- What build says of a board and a room, in the rules' order, and what it leaves in the table.
 use Rattle.std.specs.Prelude.{ℕ, zero, suc, ◌-◌, ◌*◌, ◌/◌, ◌^◌, Bool, true, ◌&&◌, List, [], ◌∷◌, ◌++◌, ℤ, pos}
-use Rattle.std.specs.Prelude.{Float, length, replicate, Result, ◌==◌, if◌then◌else◌, nat_lt, nat_le}
+use Rattle.std.specs.Prelude.{Float, length, sum, replicate, Result, ◌==◌, if◌then◌else◌, nat_lt, nat_le}
 use Rattle.std.specs.Prelude.{slice_index_or, slice_index}
+use Rattle.std.specs.List.{list_all, range_with_len}
 use Rattle.std.specs.Float.{nan}
 use Rattle.refusals.specs.Limits.{widest_level, max_cap, max_cell, max_layers, max_polygons}
 use Rattle.refusals.specs.declared.Refusal.{Refusal}
@@ -11,7 +12,7 @@ use Rattle.table.specs.Formed.{holds_whole_slots}
 use Rattle.strips.specs.Said.{judged}
 use Rattle.build.specs.declared.Settings.{Settings}
 use Rattle.build.specs.Grid.{all_even, flat}
-use Rattle.build.specs.Board.{Board, sum_to, ring_at, polygons, unit, size_at, strips_at, roots_of}
+use Rattle.build.specs.Board.{Board, ring_at, polygons, unit, size_at, strips_at, roots_of}
 
 abbrev pub built_said : Result ℕ Refusal → Said
 built_said = said (λ n. n ∷ [])
@@ -21,7 +22,7 @@ unfoldable pub rows_shaped : List ℕ → List ℕ → List Float → List ℕ �
 rows_shaped layers components sheets counts points size =
     holds_whole_slots size
     && (length layers == length counts && (length components == length counts && length sheets == length counts))
-    && sum_to counts (length counts) == length points
+    && sum counts == length points
 
 -- 3: settings. Each layer of the list has 16 bits and is above the one before
 abbrev pub layer_in : List (List ℕ) → ℕ → ℕ
@@ -35,12 +36,8 @@ entry_ok l i =
     entry_in_range (slice_index_or l i [])
     && (if i == 0 then true else nat_lt (layer_in l (i - 1)) (layer_in l i))
 
-unfoldable pub entries_ok : List (List ℕ) → ℕ → Bool
-entries_ok l zero = true
-entries_ok l (suc i) = entries_ok l i && entry_ok l i
-
 unfoldable pub list_ok : List (List ℕ) → Bool
-list_ok l = nat_le (length l) max_layers && entries_ok l (length l)
+list_ok l = nat_le (length l) max_layers && list_all (entry_ok l) (range_with_len 0 (length l))
 
 abbrev pub numbers_ok : Settings → ℕ → Bool
 numbers_ok s n =

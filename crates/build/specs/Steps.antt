@@ -1,10 +1,10 @@
 -- What the steps of the code promise one another. Internal.
 use Rattle.std.specs.Prelude.{ℕ, ◌+◌, ◌-◌, ◌*◌, ◌/◌, ◌%◌, ◌<◌, ◌≤◌, min, ◌≡◌, true, false, List, ◌++◌, ℤ, pos}
-use Rattle.std.specs.Prelude.{length, take, drop, replicate, Option, Some, None, Result, Ok, Err, if◌then◌else◌, nat_lt}
+use Rattle.std.specs.Prelude.{length, sum, take, drop, replicate, Option, Some, None, Result, Ok, Err, if◌then◌else◌, nat_lt}
 use Rattle.refusals.specs.Limits.{widest_level, max_cap, max_cell, max_points, max_polygons, max_slots}
 use Rattle.strips.specs.declared.walk.Strip.{Strip}
 use Rattle.build.specs.declared.grid.Cut.{Cut}
-use Rattle.build.specs.Board.{Board, sum_to, ring_at, polygons, roots_of}
+use Rattle.build.specs.Board.{Board, ring_at, polygons, roots_of}
 use Rattle.build.specs.Says.{even_from, room_for}
 use Rattle.refusals.specs.declared.Refusal.{Refusal}
 use Rattle.refusals.specs.Said.{Said, refused, refusal}
@@ -59,7 +59,7 @@ pub record Fit (b : Board) : Type 0 where
   pub target_fits : b.settings.target ≤ max_cell
   pub cells : (layer : ℕ) → cell_or (listed_at b.list layer) 0 ≤ max_cell
   pub rows : length b.layers ≡ length b.counts
-  pub sums : sum_to b.counts (length b.counts) ≡ length b.points
+  pub sums : sum b.counts ≡ length b.points
   pub few : (p : ℕ) → p < length b.counts → length (ring_at b.counts b.points p) ≤ max_points
   pub polys : length b.counts ≤ max_polygons
 

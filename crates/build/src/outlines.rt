@@ -1,8 +1,8 @@
 //! Polygons as one value of lent rows, and what is judged of them before anything is cut.
-ghost use Rattle.std.specs.Prelude.{◌≡◌, ◌==◌, ◌+◌, ◌<◌, ◌^◌, length};
+ghost use Rattle.std.specs.Prelude.{◌≡◌, ◌==◌, ◌+◌, ◌<◌, ◌^◌, length, sum, take};
 ghost use Rattle.refusals.specs.Said.{Said};
 ghost use Rattle.strips.specs.Said.{fault};
-ghost use Rattle.build.specs.Board.{ring_at, sum_to};
+ghost use Rattle.build.specs.Board.{ring_at};
 ghost use Rattle.build.specs.Says.{judge_one, judge_from, rows_shaped};
 
 use refusals::Refusal;
@@ -22,9 +22,9 @@ pub struct Outlines<'a> {
 
 // Whether the point counts add up to a number. A record's stand in its polygons' entries (`add_up` of record): one
 // function for both would ask how an item gives its count, and be longer than the two.
-#[tactic(auto, using(crate::proofs::Judging::sum_none, crate::proofs::Judging::sum_more))]
+#[tactic(auto, using(crate::proofs::Judging::sum_more))]
 fn adds_up(counts: &[u64], total: usize) -> bool
-    ensures { result ≡ (sum_to counts.now (length counts.now) == total) }
+    ensures { result ≡ (sum counts.now == total) }
 {
     let mut left = total;
     for count in counts {
@@ -68,10 +68,10 @@ impl<'a> Outlines<'a> {
     #[tactic(auto, using(crate::proofs::Judging::ring_ends))]
     pub fn ring(&self, polygon: usize, first: usize) -> &'a [[i64; 2]]
         requires inside { polygon < length self.now.counts.now }
-        requires points_fit { sum_to self.now.counts.now (length self.now.counts.now) ≡ length self.now.points.now }
-        requires starts_here { first ≡ sum_to self.now.counts.now polygon }
+        requires points_fit { sum self.now.counts.now ≡ length self.now.points.now }
+        requires starts_here { first ≡ sum (take polygon self.now.counts.now) }
         ensures points { result.now ≡ ring_at self.now.counts.now self.now.points.now polygon }
-        ensures next { first + length result.now ≡ sum_to self.now.counts.now (polygon + 1) }
+        ensures next { first + length result.now ≡ sum (take (polygon + 1) self.now.counts.now) }
         ensures next_fits { first + length result.now < 2 ^ 63 }
     {
         let points = self.points;
@@ -82,7 +82,7 @@ impl<'a> Outlines<'a> {
     /// Sheet resistance and ring of each polygon: the refusal of the lowest polygon that has one.
     pub fn judge(&self) -> Result<(), Refusal>
         requires sheets_fit { length self.now.sheets.now ≡ length self.now.counts.now }
-        requires points_fit { sum_to self.now.counts.now (length self.now.counts.now) ≡ length self.now.points.now }
+        requires points_fit { sum self.now.counts.now ≡ length self.now.points.now }
         ensures { (o : Said) → fault result o
             ≡ judge_from self.now.sheets.now self.now.counts.now self.now.points.now 0 (length self.now.counts.now) o }
     {

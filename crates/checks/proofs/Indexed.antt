@@ -14,14 +14,14 @@ use Rattle.sorted.proofs.Ends.{none_passes, found_passes, last_greatest}
 use Rattle.cell.specs.Ticks.{on}
 use Rattle.net_rows.specs.declared.rows.Node.{Node}
 use Rattle.net_rows.specs.declared.rows.Edge.{Edge}
-use Rattle.net_rows.specs.Nets.{no_node, nth_node}
+use Rattle.net_rows.specs.Nets.{no_node, nth_node, pair_of}
 use Rattle.net_rows.specs.Facts.{IsSoundNode}
 use Rattle.checks.specs.declared.asked.Place.{Place}
 use Rattle.checks.specs.declared.asked.Class.{Class}
 use Rattle.checks.specs.declared.asked.Class.TheVariants.{Any, Of}
 use Rattle.checks.specs.Nodes.{here, node_at, joins, joined}
 use Rattle.checks.specs.Sides.{Near}
-use Rattle.checks.specs.Entries.{key_of, place_entry, place_entries, pair_of, no_edge, pair_entry, pair_entries, IsInOrder, IsPlaced, IsPaired}
+use Rattle.checks.specs.Entries.{key_of, place_entry, place_entries, no_edge, pair_entry, pair_entries, IsInOrder, IsPlaced, IsPaired}
 use Rattle.checks.proofs.Lasts.{last-is, last-not}
 use Rattle.checks.proofs.Spots.{stands-here}
 

@@ -1,5 +1,5 @@
 -- Nodes and edges as entries of rows in order.
-use Rattle.std.specs.Prelude.{ℕ, min, max, List, [], ◌∷◌, map, length, slice_index_or, IsPermutation, IsSorted}
+use Rattle.std.specs.Prelude.{ℕ, List, [], ◌∷◌, map, length, slice_index_or, IsPermutation, IsSorted}
 use Rattle.std.specs.List.{range_with_len}
 use Rattle.std.specs.Ordering.{nat_cmp}
 use Rattle.std.specs.Float.{nan}
@@ -8,7 +8,7 @@ use Rattle.net_rows.specs.declared.rows.Node.{Node}
 use Rattle.net_rows.specs.declared.rows.MeshNode.{MeshNode}
 use Rattle.net_rows.specs.declared.rows.Edge.{Edge}
 use Rattle.net_rows.specs.Nodes.{in_mesh}
-use Rattle.net_rows.specs.Nets.{nth_node}
+use Rattle.net_rows.specs.Nets.{nth_node, pair_of}
 use Rattle.checks.specs.declared.asked.Place.{Place}
 use Rattle.checks.specs.declared.asked.Class.{Class}
 use Rattle.checks.specs.declared.asked.Class.TheVariants.{Any, Of}
@@ -31,10 +31,6 @@ place_entry class nodes n =
 
 abbrev pub place_entries : Class → List Node → List (List ℕ)
 place_entries class nodes = map (place_entry class nodes) (range_with_len 0 (length nodes))
-
--- two nodes, the lesser first
-abbrev pub pair_of : ℕ → ℕ → List ℕ
-pair_of a b = min a b ∷ max a b ∷ []
 
 -- what stands past the last edge
 abbrev pub no_edge : Edge

@@ -3,7 +3,8 @@ ghost use Rattle.std.specs.Prelude.{◌≡◌, ◌<◌, length, Contains, IsTrue
 ghost use Rattle.std.specs.Ordering.{nat_cmp};
 ghost use Rattle.std.specs.Cmp.Lexicographic.{slice_cmp};
 ghost use Rattle.checks.specs.Scopes.{class_of};
-ghost use Rattle.checks.specs.Entries.{place_entry, pair_of, pair_entry, IsPlaced, IsPaired};
+ghost use Rattle.checks.specs.Entries.{place_entry, pair_entry, IsPlaced, IsPaired};
+ghost use Rattle.net_rows.specs.Nets.{pair_of};
 
 use crate::asked::{Class, Place, Scope};
 use crate::lookup::Lookup;

@@ -3,9 +3,10 @@
 use mathlib.Core.Bool.{false≢true}
 use Rattle.std.proofs.Common.{◌≡◌, refl, sym, ap, subst, ◌∙◌, true, false, not, true≢false, ◌≢◌, ◌⊎◌, inl, inr, Option, None, Some, List, [], ◌∷◌, ℕ, zero, suc, ◌+◌, ◌<◌, arith, length, is_none}
 use native.Mathlib.Decide.{ℕ_discrete}
+use Rattle.std.specs.Bool.{then_some}
 use Rattle.cell.specs.Boxes.{Box, Quad, num, quadrant}
 use Rattle.table.specs.Mesh.{Cell, at, split}
-use Rattle.coarsest.specs.Names.{Route, place, Stands, roots_of, root_if, id_if, plus, kid_of, find, split_in, splitting, ◌⊆◌}
+use Rattle.coarsest.specs.Names.{Route, place, Stands, roots_of, plus, kid_of, find, split_in, splitting, ◌⊆◌}
 use Rattle.table.specs.Formed.{Formed}
 use Rattle.table.proofs.Meshes.{not_some, some_is, num-below, kids-in, root_in, View, old, self, new, out, view, kept, kids-kept}
 
@@ -37,25 +38,25 @@ pub find-root : (t : List Cell) (r i : ℕ) → find t r [] ≡ Some i → (i �
 unfolding find
 find-root t r i e = go (at t r).parent refl e
   where
-    go : (o : Option ℕ) → (at t r).parent ≡ o → id_if o r ≡ Some i → (i ≡ r) × ((at t r).parent ≡ None)
+    go : (o : Option ℕ) → (at t r).parent ≡ o → then_some (is_none o) r ≡ Some i → (i ≡ r) × ((at t r).parent ≡ None)
     go None d h = (some_is (Some i) i r refl (sym h), d)
     go (Some j) d h = not_some None i refl h
 
 pub root-find : (t : List Cell) (r : ℕ) → (at t r).parent ≡ None → find t r [] ≡ Some r
 unfolding find
-root-find t r e = ap (λ (o : Option ℕ). id_if o r) e
+root-find t r e = ap (λ (o : Option ℕ). then_some (is_none o) r) e
 
 pub is-root : (t : List Cell) (r : ℕ) (A : Box) → roots_of t r ≡ Some A → ((at t r).parent ≡ None) × ((at t r).box ≡ A)
 unfolding roots_of
 is-root t r A e = go (at t r).parent refl e
   where
-    go : (o : Option ℕ) → (at t r).parent ≡ o → root_if o (at t r).box ≡ Some A → ((at t r).parent ≡ None) × ((at t r).box ≡ A)
+    go : (o : Option ℕ) → (at t r).parent ≡ o → then_some (is_none o) (at t r).box ≡ Some A → ((at t r).parent ≡ None) × ((at t r).box ≡ A)
     go None d h = (d, cc)
     go (Some j) d h = let z : ◌≡◌ {A = ℕ} 0 1 = cc in absurd (omega arith)
 
 pub root_is : (t : List Cell) (r : ℕ) → (at t r).parent ≡ None → roots_of t r ≡ Some (at t r).box
 unfolding roots_of
-root_is t r e = ap (λ (o : Option ℕ). root_if o (at t r).box) e
+root_is t r e = ap (λ (o : Option ℕ). then_some (is_none o) (at t r).box) e
 
 -- the splitting of a table, by ids
 pub split_at : (t : List Cell) (r : ℕ) (p : Route) (i f : ℕ) → find t r p ≡ Some i → (at t i).kids ≡ Some f → splitting t r p ≡ true

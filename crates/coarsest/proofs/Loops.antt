@@ -7,7 +7,7 @@ use Rattle.coarsest.specs.declared.Engine.TheVariants.{Balancing, Conforming}
 use Rattle.coarsest.specs.Passes.{is_due, due, split_if, step}
 use Rattle.coarsest.specs.Sweep.{row, rows}
 use Rattle.table.proofs.Meshes.{at_self}
-use Rattle.coarsest.proofs.Sweep.{row-suc, row-grown, rows_grown, grown-least}
+use Rattle.coarsest.proofs.Sweep.{row-next, rows-next, row-suc, row-grown, rows_grown, grown-least}
 
 -- the cell of the pair that is split
 abbrev pub coarser : Engine → ℕ → ℕ → ℕ
@@ -16,14 +16,14 @@ coarser Conforming a b = a
 
 -- one pair
 pub row-due : (e : Engine) (k : ℕ) (t : List Cell) (a b : ℕ) → is_due e k (row e k t a b) a b ≡ true → row e k t a (suc b) ≡ split (row e k t a b) (coarser e a b)
-unfolding row step
-row-due Balancing k t a b d = ap (λ (x : Bool). split_if x (row Balancing k t a b) b) d
-row-due Conforming k t a b d = ap (λ (x : Bool). split_if x (row Conforming k t a b) a) d
+unfolding step
+row-due Balancing k t a b d = row-next Balancing k t a b ∙ ap (λ (x : Bool). split_if x (row Balancing k t a b) b) d
+row-due Conforming k t a b d = row-next Conforming k t a b ∙ ap (λ (x : Bool). split_if x (row Conforming k t a b) a) d
 
 pub row-skip : (e : Engine) (k : ℕ) (t : List Cell) (a b : ℕ) → is_due e k (row e k t a b) a b ≡ false → row e k t a (suc b) ≡ row e k t a b
-unfolding row step
-row-skip Balancing k t a b d = ap (λ (x : Bool). split_if x (row Balancing k t a b) b) d
-row-skip Conforming k t a b d = ap (λ (x : Bool). split_if x (row Conforming k t a b) a) d
+unfolding step
+row-skip Balancing k t a b d = row-next Balancing k t a b ∙ ap (λ (x : Bool). split_if x (row Balancing k t a b) b) d
+row-skip Conforming k t a b d = row-next Conforming k t a b ∙ ap (λ (x : Bool). split_if x (row Conforming k t a b) a) d
 
 -- nothing is due for an a or a b that is no leaf: a's row is done once a is split
 and-false : (x y z : Bool) → y ≡ false → (x && (y && z)) ≡ false
@@ -61,11 +61,10 @@ row-most e k n t a b (suc d) ha h l =
     rw add-suc (omega arith)
 
 rows-suc : (e : Engine) (k n : ℕ) (t : List Cell) (a : ℕ) → a < n → n ≤ length t → length (rows e k n t a) ≤ length (rows e k n t (suc a))
-unfolding rows
 rows-suc e k n t a h l =
     let u = rows e k n t a in
     let g = grown-least t u (rows_grown e k n t a (omega arith) l) in
-    grown-least u (row e k u a n) (row-grown e k n u a n h (omega arith) (omega arith))
+    rw (rows-next e k n t a) (grown-least u (row e k u a n) (row-grown e k n u a n h (omega arith) (omega arith)))
 
 pub rows-most : (e : Engine) (k n : ℕ) (t : List Cell) (a d : ℕ) → a + d ≤ n → n ≤ length t → length (rows e k n t a) ≤ length (rows e k n t (a + d))
 rows-most e k n t a zero h l = rw add-zero (omega arith)

@@ -6,15 +6,16 @@ use Rattle.table.specs.Mesh.{Cell, at}
 use Rattle.table.specs.Formed.{Formed}
 use Rattle.coarsest.specs.declared.Engine.{Engine}
 use Rattle.coarsest.specs.declared.Engine.TheVariants.{Balancing, Conforming}
-use Rattle.coarsest.specs.Passes.{is_due, due, split_if, step}
+use Rattle.coarsest.specs.Passes.{is_due, due, split_if, step, with_each}
 use Rattle.coarsest.specs.Sweep.{row}
 use Rattle.coarsest.proofs.Least.{due-of, level-most}
+use Rattle.coarsest.proofs.Sweep.{row-next}
 use Rattle.coarsest.proofs.Loops.{row-skip, no-leaf, split-no-leaf}
 
 -- ---- rows with nothing due
 
 pub row-none : (e : Engine) (k : ℕ) (t : List Cell) (a n : ℕ) → ((b : ℕ) → b < n → is_due e k t a b ≡ false) → row e k t a n ≡ t
-unfolding row
+unfolding row with_each
 row-none e k t a zero h = refl
 row-none e k t a (suc n) h =
     let r = row-none e k t a n (λ b l. h b (omega arith)) in
@@ -44,7 +45,7 @@ any_last f a (suc n) j e = ap (λ (b : Bool). f a || b) (any_last f (a + 1) n j 
 
 pub conform-row : (k : ℕ) (t : List Cell) (a : ℕ) → a < length t → (n : ℕ)
     → row Conforming k t a n ≡ split_if (list_any (λ b. due k t b a) (range_with_len 0 n)) t a
-unfolding row step
+unfolding row with_each step
 conform-row k t a ha zero = refl
 conform-row k t a ha (suc n) =
     go (list_any (λ b. due k t b a) (range_with_len 0 n)) (conform-row k t a ha n)
@@ -53,4 +54,4 @@ conform-row k t a ha (suc n) =
     go : (d : Bool) → row Conforming k t a n ≡ split_if d t a → row Conforming k t a (suc n) ≡ split_if (d || due k t n a) t a
     go true r =
         row-skip Conforming k t a n (no-leaf Conforming k (row Conforming k t a n) a n (rw r (split-no-leaf t a ha))) ∙ r
-    go false r = ap (λ (u : List Cell). split_if (due k u n a) u a) r
+    go false r = row-next Conforming k t a n ∙ ap (λ (u : List Cell). split_if (due k u n a) u a) r

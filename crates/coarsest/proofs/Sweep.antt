@@ -1,15 +1,32 @@
 -- The rows of a sweep: what one split keeps, they keep; and rows that make no split leave nothing due. Assumes nothing.
-use Rattle.std.proofs.Common.{◌≡◌, refl, ap, subst, Bool, true, false, ◌⊎◌, inl, inr, ⊎_elim, List, ℕ, zero, suc, ◌<◌, ◌≤◌, arith, length}
+use Rattle.std.proofs.Common.{◌≡◌, refl, sym, ap, subst, ◌∙◌, Bool, true, false, ◌⊎◌, inl, inr, ⊎_elim, List, ℕ, zero, suc, ◌<◌, ◌≤◌, arith, length}
 use mathlib.Core.Logic.{by_cases}
+use Rattle.std.specs.List.{fold, range_with_len}
+use Rattle.std.proofs.lemmas.List.Sums.{fold_push}
 use native.Mathlib.Decide.{ℕ_discrete}
 use Rattle.table.specs.Mesh.{Cell, split}
 use Rattle.coarsest.specs.declared.Engine.{Engine}
 use Rattle.coarsest.specs.declared.Engine.TheVariants.{Balancing, Conforming}
-use Rattle.coarsest.specs.Passes.{is_due, due, split_if, step}
+use Rattle.coarsest.specs.Passes.{is_due, due, split_if, step, with_each}
 use Rattle.coarsest.specs.Sweep.{row, rows}
+use Rattle.table.proofs.Ids.{range-last}
 use Rattle.table.proofs.Meshes.{length-split}
 
--- what one split keeps
+-- ---- one pair more, and one row more
+
+fold-range : {B : Type 0} (f : B → ℕ → B) (t : B) (n : ℕ) → fold f t (range_with_len 0 (suc n)) ≡ f (fold f t (range_with_len 0 n)) n
+fold-range f t n = ap (fold f t) (range-last n) ∙ fold_push f t (range_with_len 0 n) n
+
+pub row-next : (e : Engine) (k : ℕ) (t : List Cell) (a b : ℕ) → row e k t a (suc b) ≡ step e k (row e k t a b) a b
+unfolding row with_each
+row-next e k t a b = fold-range (λ u c. step e k u a c) t b
+
+pub rows-next : (e : Engine) (k n : ℕ) (t : List Cell) (a : ℕ) → rows e k n t (suc a) ≡ row e k (rows e k n t a) a n
+unfolding rows
+rows-next e k n t a = fold-range (λ u i. row e k u i n) t a
+
+-- ---- what one split keeps
+
 abbrev pub Keeps : ℕ → (List Cell → Type 0) → Type 0
 Keeps k P = (t : List Cell) (f c : ℕ) → f < length t → c < length t → P t → due k t f c ≡ true → P (split t c)
 
@@ -32,17 +49,17 @@ module _ (e : Engine) (k n : ℕ) (P : List Cell → Type 0) (keep : Keeps k P) 
   long-keeps t f c hf hc p d = (keep t f c hf hc p.0 d, (let l = length-split t c in let h = p.1 in omega arith))
 
   row-long : (t : List Cell) (a b : ℕ) → a < n → b ≤ n → Long t → Long (row e k t a b)
-  unfolding row Long
+  unfolding row with_each Long
   row-long t a zero ha hb p = p
   row-long t a (suc b) ha hb p =
       let q = row-long t a b ha (omega arith) p in
       let l = q.1 in
-      step_keeps e k Long long-keeps (row e k t a b) a b (omega arith) (omega arith) q
+      subst Long (sym (row-next e k t a b)) (step_keeps e k Long long-keeps (row e k t a b) a b (omega arith) (omega arith) q)
 
   rows_long : (t : List Cell) (a : ℕ) → a ≤ n → Long t → Long (rows e k n t a)
   unfolding rows
   rows_long t zero ha p = p
-  rows_long t (suc a) ha p = row-long (rows e k n t a) a n ha (omega arith) (rows_long t a (omega arith) p)
+  rows_long t (suc a) ha p = subst Long (sym (rows-next e k n t a)) (row-long (rows e k n t a) a n ha (omega arith) (rows_long t a (omega arith) p))
 
   pub row_keeps : (t : List Cell) (a b : ℕ) → a < n → b ≤ n → n ≤ length t → P t → P (row e k t a b)
   unfolding Long
@@ -87,17 +104,16 @@ module _ (e : Engine) (k n : ℕ) where
 
   -- one pair more of a row
   pub row-suc : (t : List Cell) (a b : ℕ) → a < n → b < n → n ≤ length t → length (row e k t a b) ≤ length (row e k t a (suc b))
-  unfolding row
   row-suc t a b ha hb h =
       let g = grown-least t (row e k t a b) (row-grown t a b ha (omega arith) h) in
       let u = row e k t a b in
-      grown-least u (step e k u a b) (step_keeps e k (Grown u) (grown-keeps k u) u a b (omega arith) (omega arith) (inl refl))
+      rw (row-next e k t a b) (grown-least u (step e k u a b) (step_keeps e k (Grown u) (grown-keeps k u) u a b (omega arith) (omega arith) (inl refl)))
 
   row-calm-last : (t : List Cell) (a b : ℕ) → a < n → b < n → n ≤ length t → length (row e k t a (suc b)) ≡ length t
       → (length (row e k t a b) ≡ length t) × (is_due e k t a b ≡ false)
-  unfolding row
   row-calm-last t a b ha hb h l =
       let u = row e k t a b in
+      let r = ap length (row-next e k t a b) in
       let g = row-grown t a b ha (omega arith) h in
       let m = grown-least t u g in
       let s = row-suc t a b ha hb h in
@@ -112,9 +128,9 @@ module _ (e : Engine) (k n : ℕ) where
 
   rows-calm-last : (t : List Cell) (a : ℕ) → a < n → n ≤ length t → length (rows e k n t (suc a)) ≡ length t
       → (length (rows e k n t a) ≡ length t) × ((j : ℕ) → j < n → is_due e k t a j ≡ false)
-  unfolding rows
   rows-calm-last t a ha h l =
       let u = rows e k n t a in
+      let r = ap length (rows-next e k n t a) in
       let g = rows_grown t a (omega arith) h in
       let m = grown-least t u g in
       let s = grown-least u (row e k u a n) (row-grown u a n ha (omega arith) (omega arith)) in

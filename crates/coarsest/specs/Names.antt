@@ -2,7 +2,9 @@
 -- that keeps a table's splits, goes no deeper than max_level, and has no two leaves that share an edge and differ by
 -- more than k levels. Nothing here knows of the passes.
 use Rattle.std.specs.Prelude.{ℕ, ◌+◌, ◌≤◌, ◌<◌, ◌≡◌, Bool, true, false, not, List, [], ◌∷◌, length, Option, None, Some}
-use Rattle.std.specs.Prelude.{is_none}
+use Rattle.std.specs.Prelude.{is_none, option_map, option_and_then}
+use Rattle.std.specs.Bool.{then_some}
+use Rattle.std.specs.Option.{option_map_or}
 use Rattle.cell.specs.Boxes.{Box, Quad, num, quadrant, shares_edge}
 use Rattle.table.specs.Mesh.{Cell, at}
 use Rattle.table.specs.Formed.{Formed}
@@ -68,32 +70,21 @@ pub record HasCells (R : Roots) (S : Splitting) (n : ℕ) : Type 0 where
 
 -- ---- of a table: its roots, the id of a name, and its splitting
 
-abbrev pub root_if : Option ℕ → Box → Option Box
-root_if None B = Some B
-root_if (Some j) B = None
-
 unfoldable pub roots_of : List Cell → Roots
-roots_of t r = root_if (at t r).parent (at t r).box
-
-abbrev pub id_if : Option ℕ → ℕ → Option ℕ
-id_if None r = Some r
-id_if (Some j) r = None
+roots_of t r = then_some (is_none (at t r).parent) (at t r).box
 
 abbrev pub plus : Option ℕ → Quad → Option ℕ
-plus None q = None
-plus (Some f) q = Some (f + num q)
+plus kids q = option_map (λ f. f + num q) kids
 
 abbrev pub kid_of : List Cell → Option ℕ → Quad → Option ℕ
-kid_of t None q = None
-kid_of t (Some i) q = plus (at t i).kids q
+kid_of t cell q = option_and_then (λ i. plus (at t i).kids q) cell
 
 unfoldable pub find : List Cell → ℕ → Route → Option ℕ
-find t r [] = id_if (at t r).parent r
+find t r [] = then_some (is_none (at t r).parent) r
 find t r (q ∷ p) = kid_of t (find t r p) q
 
 abbrev pub split_in : List Cell → Option ℕ → Bool
-split_in t None = false
-split_in t (Some i) = not (is_none (at t i).kids)
+split_in t cell = option_map_or (λ i. not (is_none (at t i).kids)) cell false
 
 unfoldable pub splitting : List Cell → Splitting
 splitting t r p = split_in t (find t r p)

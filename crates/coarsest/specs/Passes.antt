@@ -3,8 +3,8 @@
 -- still a leaf, each other b still a leaf, if a's level exceeds b's by two or more and they share an edge, b is split.
 -- Conform: if a is coarser than b and they share an edge, a is split and the next a is taken. Both end after a pass
 -- without a split."
-use Rattle.std.specs.Prelude.{ℕ, zero, suc, ◌+◌, ◌*◌, ◌-◌, Bool, true, false, ◌&&◌, List, [], ◌∷◌, length, ◌==◌, nat_lt}
-use Rattle.std.specs.Prelude.{filter, is_none, if◌then◌else◌}
+use Rattle.std.specs.Prelude.{ℕ, zero, suc, ◌+◌, ◌*◌, ◌-◌, Bool, ◌&&◌, List, length, ◌==◌, nat_lt}
+use Rattle.std.specs.Prelude.{filter, fold, sum_by, is_none, if◌then◌else◌}
 use Rattle.std.specs.List.{range_with_len}
 use Rattle.cell.specs.Boxes.{shares_edge}
 use Rattle.table.specs.Mesh.{Cell, at, split, is_leaf}
@@ -20,8 +20,7 @@ unfoldable pub due : ℕ → List Cell → ℕ → ℕ → Bool
 due k t f c = due_cells k (at t f) (at t c)
 
 abbrev pub split_if : Bool → List Cell → ℕ → List Cell
-split_if true t c = split t c
-split_if false t c = t
+split_if d t c = if d then split t c else t
 
 -- one pair (a, b): balance splits b, conform a, and nothing is done unless both are still leaves. Once a is split no
 -- pair of a is due, so that conform takes the next a
@@ -34,22 +33,17 @@ abbrev pub is_due : Engine → ℕ → List Cell → ℕ → ℕ → Bool
 is_due Balancing k t a b = due k t a b
 is_due Conforming k t a b = due k t b a
 
--- a with each b of a list, in order; and each a of a list with each of the bs
+-- a with each b of a list, in order
 unfoldable pub with_each : Engine → ℕ → List Cell → ℕ → List ℕ → List Cell
-with_each e k t a [] = t
-with_each e k t a (b ∷ bs) = with_each e k (step e k t a b) a bs
-
-unfoldable pub each_with : Engine → ℕ → List Cell → List ℕ → List ℕ → List Cell
-each_with e k t [] bs = t
-each_with e k t (a ∷ rest) bs = each_with e k (with_each e k t a bs) rest bs
+with_each e k t a bs = fold (λ u b. step e k u a b) t bs
 
 -- the leaves in id order
 abbrev pub leaves_of : List Cell → List ℕ
 leaves_of t = filter (is_leaf t) (range_with_len 0 (length t))
 
--- "over the leaves of the pass's start in id order"
+-- "over the leaves of the pass's start in id order: for each a .., each other b .."
 unfoldable pub pass : Engine → ℕ → List Cell → List Cell
-pass e k t = each_with e k t (leaves_of t) (leaves_of t)
+pass e k t = fold (λ u a. with_each e k u a (leaves_of t)) t (leaves_of t)
 
 -- passes until one makes no split, or n of them were made
 unfoldable pub run : Engine → ℕ → ℕ → List Cell → List Cell
@@ -62,15 +56,13 @@ splits_below zero = 0
 splits_below (suc n) = suc (4 * splits_below n)
 
 abbrev pub left_if : Bool → ℕ → ℕ
-left_if true n = splits_below n
-left_if false n = 0
+left_if leaf n = if leaf then splits_below n else 0
 
 abbrev pub left_of : ℕ → Cell → ℕ
 left_of M c = left_if (is_none c.kids) (M - c.level)
 
 abbrev pub splits_left : ℕ → List Cell → ℕ
-splits_left M [] = 0
-splits_left M (c ∷ cs) = left_of M c + splits_left M cs
+splits_left M cs = sum_by (left_of M) cs
 
 -- what the passes end in. There are never more passes with a split than splits left: proofs/Evened.antt shows that the
 -- last pass made no split, and that no larger bound ends otherwise

@@ -1,10 +1,13 @@
 -- A well-formed row is the row of its cells: each number of a cell in its slot is exact, and behind the cells are zeros. Assumes nothing.
-use Rattle.std.proofs.Common.{ℕ, zero, suc, ◌+◌, ◌*◌, ◌-◌, ◌<◌, ◌≤◌, ◌≡◌, refl, sym, ap, ◌∙◌, Bool, true, false, List, [], ◌∷◌, ◌++◌, append-nil, append_assoc, arith, add-zero, eqb, ℤ, pos, length, get_or, take, drop, replicate, length-drop, take-append-drop, ext_get_or, drop-cons, length-take-le, get_or-drop, take-add, eqb-true}
+use Rattle.std.proofs.Common.{ℕ, zero, suc, ◌+◌, ◌*◌, ◌-◌, ◌<◌, ◌≤◌, ◌≡◌, refl, sym, ap, ◌∙◌, Bool, true, false, List, [], ◌∷◌, ◌++◌, append-nil, arith, add-zero, add-one, eqb, ℤ, pos, length, get_or, take, drop, replicate, length-drop, take-append-drop, ext_get_or, drop-cons, length-take-le, get_or-drop, take-add, eqb-true, None, Some}
+use Rattle.std.specs.Prelude.{if◌then◌else◌}
 use lib.ListN.{length-replicate, get_or-replicate}
+use Rattle.std.proofs.lemmas.Grind.{flat_map-append}
 use Rattle.cell.specs.Cells.{no_cell}
 use Rattle.table.specs.Slots.{cell_at}
-use Rattle.table.specs.Mesh.{Cell, opt, opt_if, mesh_cell, table}
+use Rattle.table.specs.Mesh.{Cell, opt, mesh_cell, table}
 use Rattle.table.specs.Formed.{WellFormed}
+use Rattle.table.proofs.Cells.{table_more}
 use Rattle.table.proofs.Exact.{Exact, exact}
 use Rattle.even.specs.Rows.{marked, numbers_of, flat, row_of}
 
@@ -13,7 +16,7 @@ use Rattle.even.specs.Rows.{marked, numbers_of, flat, row_of}
 pub marked-opt : (v : ℕ) → marked (opt v) ≡ pos v
 marked-opt v = by (eqb v no_cell) refl
   where
-    by : (b : Bool) → eqb v no_cell ≡ b → marked (opt_if b v) ≡ pos v
+    by : (b : Bool) → eqb v no_cell ≡ b → marked (if b then None else Some v) ≡ pos v
     by true e = ap pos (sym (eqb-true v no_cell e))
     by false e = refl
 
@@ -47,8 +50,7 @@ module _ (t : List ℤ) (i : ℕ) (w : Exact t i) where
 
 flat_append : (a b : List Cell) → flat (a ++ b) ≡ flat a ++ flat b
 unfolding flat
-flat_append [] b = refl
-flat_append (c ∷ cs) b = ap (λ (r : List ℤ). numbers_of c ++ r) (flat_append cs b) ∙ sym (append_assoc (numbers_of c) (flat cs) (flat b))
+flat_append = flat_map-append numbers_of
 
 flat-one : (c : Cell) → flat (c ∷ []) ≡ numbers_of c
 unfolding flat
@@ -59,12 +61,14 @@ module _ (t : List ℤ) (n M : ℕ) (w : WellFormed t n M) where
   room = let c = w.count in omega arith
 
   flat-front : (k : ℕ) → k ≤ n → flat (table t k) ≡ take (k * 8) t
-  unfolding table flat
-  flat-front zero h = refl
+  unfolding flat
+  flat-front zero h = unfold table in refl
   flat-front (suc k) h =
       let r = room in
       let e : k * 8 + 8 ≡ suc k * 8 = omega arith in
-      flat_append (table t k) (mesh_cell (cell_at t k) ∷ [])
+      ap (λ (j : ℕ). flat (table t j)) (sym (add-one k))
+      ∙ ap flat (table_more t k)
+      ∙ flat_append (table t k) (mesh_cell (cell_at t k) ∷ [])
       ∙ ap (λ (r : List ℤ). r ++ flat (mesh_cell (cell_at t k) ∷ [])) (flat-front k (omega arith))
       ∙ ap (λ (r : List ℤ). take (k * 8) t ++ r)
       (flat-one (mesh_cell (cell_at t k)) ∙ numbers-are t k (exact t k (w.held k (omega arith))) (omega arith))

@@ -7,6 +7,7 @@ use Rattle.coarsest.specs.declared.Engine.{Engine}
 use Rattle.coarsest.specs.declared.Engine.TheVariants.{Balancing, Conforming}
 use Rattle.coarsest.specs.Passes.{due, split_if, pass}
 use Rattle.coarsest.specs.Sweep.{row, rows, sweep}
+use Rattle.coarsest.proofs.Sweep.{rows-next}
 use Rattle.coarsest.proofs.Loops.{row-skip, row-due, row-most, rows-most}
 use Rattle.coarsest.proofs.Passes.{sweep-pass}
 use Rattle.coarsest.proofs.Rows.{conform-row}
@@ -77,8 +78,7 @@ module _ (e : Engine) (k : ℕ) (T : List Cell) where
 
   -- a's row of pairs after the rows before it
   pub rows_next : (u : List Cell) (n a : ℕ) → u ≡ rows e k n T a → row e k u a n ≡ rows e k n T (a + 1)
-  unfolding rows
-  rows_next u n a c = ap (λ (x : List Cell). row e k x a n) c ∙ sym (ap (rows e k n T) (add-one a))
+  rows_next u n a c = ap (λ (x : List Cell). row e k x a n) c ∙ sym (rows-next e k n T a) ∙ sym (ap (rows e k n T) (add-one a))
 
   -- the pass ends in no fewer cells
   pub rows-room : (u : List Cell) (n a : ℕ) → length T ≡ n → a < n → u ≡ rows e k n T a → length (row e k u a n) ≤ length (pass e k T)

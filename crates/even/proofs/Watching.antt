@@ -13,7 +13,7 @@ use Rattle.coarsest.specs.declared.Engine.TheVariants.{Balancing, Conforming}
 use Rattle.coarsest.specs.Passes.{is_due}
 use Rattle.coarsest.specs.Sweep.{rows}
 use Rattle.coarsest.proofs.Least.{due-of, level-most}
-use Rattle.coarsest.proofs.Sweep.{rows-keeps}
+use Rattle.coarsest.proofs.Sweep.{rows-next, rows-keeps}
 use Rattle.coarsest.proofs.Rows.{row-none}
 use Rattle.coarsest.proofs.Settled.{Calm, calm-keeps}
 use Rattle.search.specs.declared.marks.Marks.{Marks}
@@ -33,13 +33,12 @@ module _ (e : Engine) (k n : ℕ) (marks : Marks) (T : List Cell) (long : n ≤ 
 
   -- from a on, d rows without a mark
   pub rows_on : (a d : ℕ) → a + d ≤ n → Unmarked marks a (a + d) → rows e k n T (a + d) ≡ rows e k n T a
-  unfolding rows
   rows_on a zero h u = ap (rows e k n T) (add-zero a)
   rows_on a (suc d) h u =
       let i : a + d < n = omega arith in
       let c = rows-keeps e k n (Calm e k n (a + d) n) (calm-keeps e k n (a + d) n i (omega arith)) T (a + d) (omega arith) long
       (calm (a + d) i (u (a + d) (omega arith) (omega arith))) in
-      ap (rows e k n T) (add-suc a d) ∙ row-none e k (rows e k n T (a + d)) (a + d) n c.calm ∙ rows_on a d (omega arith) (λ j g l. u j g (omega arith))
+      ap (rows e k n T) (add-suc a d) ∙ rows-next e k n T (a + d) ∙ row-none e k (rows e k n T (a + d)) (a + d) n c.calm ∙ rows_on a d (omega arith) (λ j g l. u j g (omega arith))
 
   pub rows-to : (a r : ℕ) → a ≤ r → r ≤ n → Unmarked marks a r → rows e k n T r ≡ rows e k n T a
   rows-to a r l h u =

@@ -1,5 +1,5 @@
 -- The row that holds a list of cells: eight numbers a cell, and zeros behind them.
-use Rattle.std.specs.Prelude.{ℕ, ◌-◌, List, [], ◌∷◌, ◌++◌, ℤ, pos, length, replicate, Option, None, Some}
+use Rattle.std.specs.Prelude.{ℕ, ◌-◌, List, [], ◌∷◌, ◌++◌, ℤ, pos, length, replicate, Option, unwrap_or}
 use Rattle.std.specs.List.{flat_map}
 use Rattle.cell.specs.Cells.{no_cell}
 use Rattle.cell.specs.Ticks.{on}
@@ -7,8 +7,7 @@ use Rattle.table.specs.Mesh.{Cell}
 
 -- NO_CELL where there is none
 abbrev pub marked : Option ℕ → ℤ
-marked None = pos no_cell
-marked (Some i) = pos i
+marked o = pos (unwrap_or o no_cell)
 
 -- x0 y0 x1 y1 level parent first-child polygon
 abbrev pub numbers_of : Cell → List ℤ

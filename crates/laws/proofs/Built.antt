@@ -1,6 +1,6 @@
 -- Of a polygon of one strip build leaves roots that are one grid, and balance then leaves no node of it hanging. Assumes nothing.
 use lib.Ieee.{Float}
-use Rattle.std.proofs.Common.{ℕ, zero, suc, ◌+◌, ◌*◌, ◌-◌, ◌/◌, ◌%◌, ◌<◌, ◌≤◌, ◌≡◌, refl, sym, ap, subst, ◌∙◌, true, List, [], ◌∷◌, ◌++◌, append-nil, arith, div-lt_iff_lt-mul, mod-lt, ℤ, pos, length, get_or, drop, replicate, get_or-take, get_or-drop, div-add-mod'}
+use Rattle.std.proofs.Common.{ℕ, ◌+◌, ◌*◌, ◌-◌, ◌/◌, ◌%◌, ◌<◌, ◌≤◌, ◌≡◌, sym, ap, subst, ◌∙◌, true, List, [], ◌∷◌, ◌++◌, append-nil, arith, div-lt_iff_lt-mul, mod-lt, ℤ, pos, length, get_or, drop, replicate, get_or-take, get_or-drop, div-add-mod'}
 use Rattle.refusals.specs.Limits.{coordinate}
 use Rattle.refusals.specs.Said.{accepted}
 use Rattle.cell.specs.Boxes.{Box}
@@ -24,7 +24,7 @@ use Rattle.build.proofs.Cutting.{cuts}
 use Rattle.build.proofs.Placing.{length-grid}
 use Rattle.build.proofs.Boards.{sizes}
 use Rattle.build.proofs.Tiling.{RootOk, cell-ok}
-use Rattle.build.proofs.Formed.{slot, passed}
+use Rattle.build.proofs.Formed.{flat-slot, passed}
 use Rattle.build.proofs.Wellformed.{built-formed}
 use Rattle.laws.specs.Strip.{RootOf, OneStrip, Grid, grid_box}
 use Rattle.laws.proofs.Evens.{splits-formed, splits-strip}
@@ -51,14 +51,6 @@ run-strip t k from n g f =
 
 -- ---- a root's eight numbers, and its box
 
-flat-slot : (rs : List Root) (rest : List ℤ) (i : ℕ) → i < length rs → slot (flat rs ++ rest) i ≡ flat (get_or rs i no_root ∷ [])
-unfolding flat
-flat-slot [] rest i h = absurd (omega arith)
-flat-slot (r ∷ rs) rest zero h = refl
-flat-slot (r ∷ rs) rest (suc i) h =
-    let e : suc i * 8 ≡ suc (suc (suc (suc (suc (suc (suc (suc (i * 8)))))))) = omega arith in
-    rw e (flat-slot rs rest i (omega arith))
-
 abbrev box_from : Root → Box
 box_from r = record { x0 = r.x0; y0 = r.y0; x1 = r.x1; y1 = r.y1 }
 
@@ -75,7 +67,7 @@ module _ (rs : List Root) (rest : List ℤ) (i : ℕ) (h : i < length rs) where
   numbers : (k : ℕ) → k < 8 → number row i k ≡ get_or (flat (get_or rs i no_root ∷ [])) k (pos 0)
   numbers k l =
       sym (get_or-take 8 (drop (i * 8) row) k (pos 0) l ∙ get_or-drop (i * 8) row k (pos 0))
-      ∙ ap (λ (s : List ℤ). get_or s k (pos 0)) (flat-slot rs rest i h)
+      ∙ ap (λ (s : List ℤ). get_or s k (pos 0)) (flat-slot rs rest i no_root h)
 
   abbrev root : Root
   root = get_or rs i no_root

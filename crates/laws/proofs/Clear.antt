@@ -1,5 +1,5 @@
 -- No edge of a leaf is a fault where the nodes at the middles of its sides are halved. Assumes nothing.
-use Rattle.std.proofs.Common.{◌≡◌, refl, true, ◌&&◌, List, [], ◌∷◌, map, ℕ, suc, ◌<◌, ◌≤◌, arith, eqb, length, get_or, slice_get, lt-ltb, Option, None, Some}
+use Rattle.std.proofs.Common.{◌≡◌, refl, true, ◌&&◌, List, [], ◌∷◌, map, ℕ, suc, ◌<◌, ◌≤◌, arith, eqb, length, get_or, slice_get, Option, None, Some}
 use Rattle.std.specs.List.{filter_map}
 use mathlib.Core.Bool.{or_comm}
 use Rattle.cell.specs.declared.Cell.{Cell}
@@ -11,9 +11,9 @@ use Rattle.checks.specs.declared.asked.Place.{Place}
 use Rattle.checks.specs.declared.asked.Hanging.{Hanging}
 use Rattle.checks.specs.Nodes.{joined, last_at}
 use Rattle.checks.specs.Checks.{fault, side_fault, leaf_fault}
-use Rattle.net.specs.Net.{find, Poly, MeshNode, Edge, same_node, same_pair, nth, number, node_at, sw_of, ne_of, nw_of, join, One}
+use Rattle.net.specs.Net.{Poly, MeshNode, Edge, same_node, same_pair, nth, number, node_at, sw_of, ne_of, nw_of, join, One}
 use Rattle.net.specs.Hang.{Joined, Halved, HalvedSides}
-use Rattle.net.proofs.Find.{find-same}
+use Rattle.net.proofs.Positions.{has-yes, position-same}
 use Rattle.net.proofs.All.{In}
 use Rattle.net_rows.specs.Nodes.{in_ticks}
 use Rattle.laws.proofs.Places.{top, Tells, found, joined_of}
@@ -25,7 +25,7 @@ joined_back ns es a b h g =
     let l = h g in
     let x = join ns a b g in
     let y = join ns b a g in
-    let e = find-same same_pair same_pair es es x x y x refl
+    let e = position-same same_pair same_pair es es x x y x refl
     (λ i p. or_comm (eqb (get_or es i x).from (number ns a) && eqb (get_or es i x).to (number ns b)) (eqb (get_or es i x).from (number ns b) && eqb (get_or es i x).to (number ns a))) in
     omega arith
 
@@ -44,7 +44,7 @@ module _ (ns so : List MeshNode) (es : List Edge) (p : Poly) (w : Class) (tells 
 
   halves : (a m b : MeshNode) → Halved so es a m b → In same_node so m → (joined es (number so a) (number so m) ≡ true) × (joined es (number so m) (number so b) ≡ true)
   halves a m b h i =
-      let s = h (lt-ltb (find same_node so m) (length so) i) in
+      let s = h (has-yes same_node so m i) in
       (joined_of es (join so a m One) (s.0 One), joined_of es (join so m b One) (s.1 One))
 
   edge-clear : (ax ay bx by mx my : ℕ) → ax ≤ top → ay ≤ top → bx ≤ top → by ≤ top → mx ≤ top → my ≤ top → Halved so es (node_at p ax ay) (node_at p mx my) (node_at p bx by)

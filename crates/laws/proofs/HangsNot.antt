@@ -1,14 +1,14 @@
 -- No node hangs: in a balanced table, every node of a polygon of one strip that lies on a leaf's edge is an end of that edge or its
 -- middle, and at the middle both halves are edges of the net. Assumes nothing.
-use Rattle.std.proofs.Common.{◌≡◌, refl, sym, ap, subst, ◌∙◌, None, Some, List, [], ◌∷◌, ◌++◌, ℕ, suc, ◌<◌, arith, take, drop, length, lt-ltb}
+use Rattle.std.proofs.Common.{◌≡◌, refl, sym, ap, subst, ◌∙◌, None, Some, List, [], ◌∷◌, ◌++◌, ℕ, suc, ◌<◌, arith, take, drop, length}
 use Rattle.cell.specs.Boxes.{Box, mid}
 use Rattle.table.specs.Mesh.{Cell, at}
 use Rattle.table.specs.Formed.{Formed}
-use Rattle.net.specs.Net.{find, Poly, MeshNode, Net, Piece, same_node, leaves_of, pieces, node_at, corners_at, corners_of, nodes_from, bare, weigh, network}
+use Rattle.net.specs.Net.{Poly, MeshNode, Net, Piece, same_node, leaves_of, pieces, node_at, corners_at, corners_of, nodes_from, bare, weigh, network}
 use Rattle.net.specs.Hang.{so_far, Joined, Halved, HalvedSides}
 use Rattle.std.proofs.lemmas.Bool.Decides.{nat_tests}
 use Rattle.std.specs.List.{slice_get}
-use Rattle.net.proofs.Find.{find-left}
+use Rattle.net.proofs.Positions.{has-yes, position-left}
 use Rattle.net.proofs.Leaves.{leaves_of-cons, piece_of, pieces-at}
 use Rattle.laws.proofs.Pieces.{nodes-append}
 use Rattle.net.proofs.All.{All, In, all-by, all_both, all-each-by, all_cons}
@@ -60,7 +60,7 @@ module _ (t : List Cell) (ps : List Poly) (k : ℕ) (p : Poly) (there : slice_ge
   nodes-on = let r = nodes-more so qs in (r.0, ap (nodes_from []) (pieces-at t ps k p there) ∙ nodes-append [] pre q qs ∙ r.1)
 
   joined-on : (a b : MeshNode) → There a → There b → Joined so n.edges a b → EdgeOf n a b
-  joined-on a b ia ib h g = rw (nodes-on.1, find-left same_node so nodes-on.0 a ia, find-left same_node so nodes-on.0 b ib) (h g)
+  joined-on a b ia ib h g = rw (nodes-on.1, position-left same_node so nodes-on.0 a ia, position-left same_node so nodes-on.0 b ib) (h g)
 
   -- along a line of nodes c
   hold : (c : ℕ → MeshNode) (a b x : ℕ) → There (c a) → There (c b) → There (c x) → Halved so n.edges (c a) (c (mid a b)) (c b) → EndOrMiddle a b x
@@ -69,7 +69,7 @@ module _ (t : List Cell) (ps : List Poly) (k : ℕ) (p : Poly) (there : slice_ge
   hold c a b x ia ib ix h (end (upper e)) = last (ap c e)
   hold c a b x ia ib ix h (middle e) =
       let im : There (c (mid a b)) = subst (λ (z : ℕ). There (c z)) e ix in
-      let j = h (lt-ltb (find same_node so (c (mid a b))) (length so) im) in
+      let j = h (has-yes same_node so (c (mid a b)) im) in
       halved (ap c e) (joined-on (c a) (c (mid a b)) ia im j.0) (joined-on (c (mid a b)) (c b) im ib j.1)
 
   hangs-not : (r : Box) (x y : ℕ) → All There (corners_at p r) → There (node_at p x y) → HalvedSides so n.edges p r → OnSides EndOrMiddle r x y

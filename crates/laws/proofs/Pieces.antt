@@ -10,7 +10,7 @@ use Rattle.table.specs.Mesh.{Cell, at, past, is_none, table}
 use Rattle.table.proofs.Cells.{length-table, at_table}
 use Rattle.net.specs.Net.{weld, Poly, MeshNode, Piece, same_node, leaves_of, pieces, node_at, corners_at, corners_of, nodes_from, number, bare, weigh, network}
 use Rattle.net.specs.Hang.{so_far}
-use Rattle.net.proofs.Find.{find-nil, find-no, find-left, find-right}
+use Rattle.net.proofs.Positions.{position-nil, position-no, position-left, position-right}
 use Rattle.net.proofs.Weld.{welding}
 use Rattle.net.proofs.All.{All, all-by, all-each, all-each-by, In, weld-more}
 use Rattle.net.proofs.Pieces.{all_corners, nodes-weld}
@@ -70,7 +70,7 @@ weld-without : (x : MeshNode) (l xs : List MeshNode) → All (λ (a : MeshNode).
 unfolding All
 weld-without x l [] p h = grind (arith, welding)
 weld-without x l (a ∷ xs) p h =
-    grind (arith, welding, weld-without x l xs p.1, weld-without x (l ++ (a ∷ [])) xs p.1, find-right same_node l (a ∷ []) x, find-no same_node a [] x p.0, find-nil same_node x, length-append l (a ∷ []))
+    grind (arith, welding, weld-without x l xs p.1, weld-without x (l ++ (a ∷ [])) xs p.1, position-right same_node l (a ∷ []) x, position-no same_node a [] x p.0, position-nil same_node x, length-append l (a ∷ []))
 
 -- the nodes go on from those so far
 pub nodes-append : (n : List MeshNode) (pre : List Piece) (q : Piece) (qs : List Piece) → nodes_from n (pre ++ (q ∷ qs)) ≡ nodes_from (weld same_node (nodes_from n pre) (corners_of q)) qs
@@ -87,7 +87,7 @@ kept pre q qs h x y i =
     let all-nodes = nodes-append [] pre q qs ∙ nodes-weld (so_far pre q) qs in
     let before = weld-without m (so_far pre q) (all_corners qs) (others q.poly x y qs h) (subst (λ (z : List MeshNode). In same_node z m) all-nodes i) in
     let more = weld-more same_node (so_far pre q) (all_corners qs) in
-    (before, ap (λ (z : List MeshNode). number z m) (all-nodes ∙ more.1) ∙ find-left same_node (so_far pre q) more.0 m before)
+    (before, ap (λ (z : List MeshNode). number z m) (all-nodes ∙ more.1) ∙ position-left same_node (so_far pre q) more.0 m before)
 
 -- the polygons behind the polygon k differ from it
 pub behind : (cs : List Cell) (ps : List Poly) (j k : ℕ) → AllApart ps → k < length ps → All (λ (q : Piece). Apart (poly_at ps k) q.poly) (pieces cs (drop (suc k) ps) j)

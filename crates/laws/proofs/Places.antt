@@ -13,8 +13,8 @@ use Rattle.checks.specs.declared.asked.Class.{Class}
 use Rattle.checks.specs.declared.asked.Class.TheVariants.{Any, Of}
 use Rattle.checks.specs.Nodes.{is_of, here, last_below, joins, joined, last_at}
 use Rattle.checks.proofs.Lasts.{last_more}
-use Rattle.net.specs.Net.{find, Poly, MeshNode, Edge, same_node, same_pair, nth, nowhere, number, node_at}
-use Rattle.net.proofs.Find.{find-hit}
+use Rattle.net.specs.Net.{position_of, Poly, MeshNode, Edge, same_node, same_pair, nth, nowhere, number, node_at}
+use Rattle.net.proofs.Positions.{position-hit}
 use Rattle.net.proofs.Keys.{bool-ext}
 use Rattle.net.proofs.All.{All, all-at}
 use Rattle.net.proofs.Sound.{node-is}
@@ -74,6 +74,6 @@ module _ (ns : List MeshNode) (low : All (Within top) ns) (p : Poly) where
       grind (arith, nat_tests, o.0, o.1, there Any x y i xs ys h e)
 
 -- an edge of the net joins its ends
-pub joined_of : (es : List Edge) (x : Edge) → find same_pair es x < length es → joined es x.from x.to ≡ true
+pub joined_of : (es : List Edge) (x : Edge) → position_of same_pair es x < length es → joined es x.from x.to ≡ true
 unfolding joins
-joined_of es x h = list_any_at (joins x.from x.to) es (find same_pair es x) x h (find-hit same_pair es x x h)
+joined_of es x h = list_any_at (joins x.from x.to) es (position_of same_pair es x) x h (position-hit same_pair es x x h)

@@ -2,9 +2,10 @@
 use lib.Dec.{eqb-suc-zero}
 use lib.Ieee.{Float, nan}
 use lib.Ieee.Bits.{is_true}
-use Rattle.std.proofs.Common.{◌≡◌, refl, sym, ap, subst, ◌∙◌, ℕ, zero, suc, ◌+◌, ◌-◌, ◌/◌, ◌^◌, ltb, ◌<◌, ◌≤◌, arith, Bool, true, false, cond, eqb, leb, eq-eqb, leb-true, le-leb, ◌&&◌, List, [], ◌∷◌, ◌++◌, map, length, length-append, get_or, take, drop, take_at, Option, Some, None, ℤ, pos}
+use Rattle.std.proofs.Common.{◌≡◌, refl, sym, ap, subst, ◌∙◌, ℕ, zero, suc, ◌+◌, ◌-◌, ◌/◌, ◌^◌, ltb, ◌<◌, ◌≤◌, arith, Bool, true, false, cond, eqb, leb, eq-eqb, leb-true, le-leb, ◌&&◌, List, [], ◌∷◌, ◌++◌, map, length, length-append, get_or, sum, take, drop, take_at, Option, Some, None, ℤ, pos}
 use Rattle.std.proofs.lemmas.List.{length-map, get_or-map, map-append}
 use Rattle.std.proofs.Math.Seq.{drop-append-add}
+use Rattle.std.proofs.lemmas.List.Sums.{sum_by-cons}
 use Rattle.std.specs.Int.{w16, w32, w64}
 use Rattle.refusals.specs.Limits.{widest_level, max_cap, max_cell, max_layers, max_points, max_polygons}
 use Rattle.refusals.specs.Said.{Said, refused}
@@ -19,10 +20,10 @@ use Rattle.record.proofs.Rounds.{board_fits, record_found}
 use Rattle.floats.specs.Fractions.{in_sheet}
 use Rattle.strips.specs.Rings.{point_in_range, ring_in_range, ring_slants}
 use Rattle.strips.proofs.Picking.{all_below, all-suc}
-use Rattle.build.specs.Board.{Board, sum_to, ring_at, polygons, unit, size_at, strips_at, roots_of}
+use Rattle.build.specs.Board.{Board, ring_at, polygons, unit, size_at, strips_at, roots_of}
 use Rattle.build.specs.Grid.{all_even}
 use Rattle.table.specs.Formed.{holds_whole_slots}
-use Rattle.build.specs.Says.{rows_shaped, entry_ok, entries_ok, list_ok, settings_ok, judge_from, even_from, build_says}
+use Rattle.build.specs.Says.{rows_shaped, entry_ok, list_ok, settings_ok, judge_from, even_from, build_says}
 use Rattle.laws.proofs.Sheets.{bits-in_sheet}
 use Rattle.laws.specs.Records.{given, build_says_of, is_taken, BuildTakesRecords}
 
@@ -81,10 +82,9 @@ module _ (es : List Entry) (e : all_fit (entry (limits_of One)) (λ x. Some x.la
       let last : suc i - 1 ≡ i = omega arith in
       rw (row_is (suc i) h, eqb-suc-zero i, last, row_is i (omega arith), f.layer, f.cell) f.above
 
-  entries-ok : (n : ℕ) → n ≤ length es → entries_ok (map entry_row es) n ≡ true
-  unfolding entries_ok
+  entries-ok : (n : ℕ) → n ≤ length es → all_below (entry_ok (map entry_row es)) n ≡ true
   entries-ok zero h = refl
-  entries-ok (suc n) h = both (entries-ok n (omega arith)) (entry-ok n (omega arith))
+  entries-ok (suc n) h = all-suc (entry_ok (map entry_row es)) n ∙ both (entries-ok n (omega arith)) (entry-ok n (omega arith))
 
 -- ---- a polygon's points and sheet
 module _ (ps : List Point) (e : all_fit (λ (_ : Unit {0}). point) (λ _. tt) tt ps ≡ true) where
@@ -117,25 +117,19 @@ counts_in = map points_in
 abbrev points_row : List Polygon → List (List ℤ)
 points_row ps = map point_row (rings ps)
 
-sum_cons : (c : ℕ) (cs : List ℕ) (p : ℕ) → sum_to (c ∷ cs) (suc p) ≡ c + sum_to cs p
-unfolding sum_to
-sum_cons c cs zero = omega arith
-sum_cons c cs (suc p) = omega (arith, sum_cons c cs p)
-
-counts-add : (ps : List Polygon) → sum_to (counts_in ps) (length (counts_in ps)) ≡ length (points_row ps)
-unfolding sum_to
+counts-add : (ps : List Polygon) → sum (counts_in ps) ≡ length (points_row ps)
 counts-add [] = refl
 counts-add (x ∷ ps) =
-    omega (arith, sum_cons (points_in x) (counts_in ps) (length (counts_in ps)), counts-add ps, length-map (rings ps) point_row, length-map (x.points ++ rings ps) point_row, length-append x.points (rings ps))
+    omega (arith, sum_by-cons (λ (c : ℕ). c) (points_in x) (counts_in ps), counts-add ps, length-map (rings ps) point_row, length-map (x.points ++ rings ps) point_row, length-append x.points (rings ps))
 
 ring_is : (ps : List Polygon) (p : ℕ) → p < length ps → ring_at (counts_in ps) (points_row ps) p ≡ map point_row (get_or ps p no_polygon).points
-unfolding ring_at sum_to
+unfolding ring_at
 ring_is [] p h = absurd (omega arith)
 ring_is (x ∷ ps) zero h = rw (map-append point_row x.points (rings ps)) (take_at (map point_row x.points) (points_row ps) (points_in x) (length-map x.points point_row))
 ring_is (x ∷ ps) (suc p) h =
     let own = map point_row x.points in
-    let start : sum_to (counts_in (x ∷ ps)) (suc p) ≡ length own + sum_to (counts_in ps) p = omega (arith, sum_cons (points_in x) (counts_in ps) p, length-map x.points point_row) in
-    let rest : drop (sum_to (counts_in (x ∷ ps)) (suc p)) (points_row (x ∷ ps)) ≡ drop (sum_to (counts_in ps) p) (points_row ps) = rw (map-append point_row x.points (rings ps), start) (drop-append-add own (points_row ps) (sum_to (counts_in ps) p)) in
+    let start : sum (take (suc p) (counts_in (x ∷ ps))) ≡ length own + sum (take p (counts_in ps)) = omega (arith, sum_by-cons (λ (c : ℕ). c) (points_in x) (take p (counts_in ps)), length-map x.points point_row) in
+    let rest : drop (sum (take (suc p) (counts_in (x ∷ ps)))) (points_row (x ∷ ps)) ≡ drop (sum (take p (counts_in ps))) (points_row ps) = rw (map-append point_row x.points (rings ps), start) (drop-append-add own (points_row ps) (sum (take p (counts_in ps)))) in
     ap (take (get_or (counts_in ps) p 0)) rest ∙ ring_is ps p (omega arith)
 
 -- ---- what build says, polygon by polygon

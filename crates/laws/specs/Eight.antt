@@ -1,10 +1,11 @@
 -- The rules' "Boundary cases": what the definitions come to, and what the document says. proofs/Eight.antt holds the
 -- two lists together. Rows, rings and rectangles are in the caller's ticks. P7's strips are as the code holds them,
 -- 2^36 more.
-use Rattle.std.specs.Prelude.{ℕ, ◌≡◌, ◌+◌, ◌*◌, ◌-◌, Bool, true, false, ◌&&◌, List, [], ◌∷◌, ◌++◌, map, ℤ, pos}
+use lib.Pointwise.{pointwise}
+use Rattle.std.specs.Prelude.{ℕ, ◌≡◌, ◌+◌, ◌*◌, ◌-◌, Bool, List, [], ◌∷◌, ◌++◌, map, ℤ, pos}
 use Rattle.std.specs.Prelude.{Float, replicate, not, filter, count_by, length}
-use Rattle.std.specs.List.{range_with_len}
-use Rattle.std.specs.Int.Signed.{le_z}
+use Rattle.std.specs.List.{range_with_len, flat_map}
+use Rattle.std.specs.Ordering.{int_eq}
 use Rattle.std.specs.Float.{binary64}
 use Rattle.std.specs.Float.Ieee.{to_bits}
 use Rattle.refusals.specs.Limits.{coordinate}
@@ -41,10 +42,7 @@ balanced t n = even_row Balancing t (head_of n 2)
 
 -- the same numbers, as many of them
 unfoldable pub same_row : List ℤ → List ℤ → Bool
-same_row [] [] = true
-same_row [] (b ∷ v) = false
-same_row (a ∷ u) [] = false
-same_row (a ∷ u) (b ∷ v) = le_z a b && le_z b a && same_row u v
+same_row = pointwise int_eq
 
 -- 1 where balance leaves the row as it was
 abbrev pub untouched : List ℤ → ℕ → ℕ
@@ -74,8 +72,7 @@ abbrev pub point : ℕ → ℕ → List ℤ
 point x y = pos x ∷ pos y ∷ []
 
 abbrev pub corners : List Strip → List ℕ
-corners [] = []
-corners (s ∷ ss) = s.x0 ∷ s.y0 ∷ s.x1 ∷ s.y1 ∷ corners ss
+corners = flat_map (λ s. s.x0 ∷ s.y0 ∷ s.x1 ∷ s.y1 ∷ [])
 
 -- "Cell 4 by 4, r_sheet 1, potentials 0,1,1,0"
 abbrev pub power : Float

@@ -11,7 +11,7 @@ use Rattle.refusals.specs.declared.Refusal.{Refusal}
 use Rattle.refusals.specs.declared.Refusal.TheVariants.{BadTable, NoRoom, OutOfRange}
 use Rattle.table.specs.declared.Head.{Head}
 use Rattle.net_rows.specs.Nodes.{in_ticks}
-use Rattle.net_rows.specs.Written.{written}
+use Rattle.refusals.specs.Said.{written}
 use Rattle.net_rows.specs.declared.rows.Polygons.{Polygons}
 use Rattle.network.specs.Says.{Rows, fits, first_bad, unless_bad, has_room, room_of, net_of, filled, counted, network_says, network_leaves}
 use Rattle.network.proofs.Accepted.{edges-conduct}

@@ -13,7 +13,7 @@ use Rattle.table.specs.declared.Head.{Head}
 use Rattle.table.specs.Rows.{IsTable, cells_in, leaves_in, order_in}
 use Rattle.table.specs.Mesh.{at, is_leaf}
 use Rattle.table.specs.Formed.{well_formed}
-use Rattle.table.specs.Leaves.{list_says, listed_row, written}
+use Rattle.table.specs.Leaves.{list_says, listed_row}
 use Rattle.table.proofs.Shape.{formed-within}
 use Rattle.leafnet_text.specs.Rooms.{leaf_room}
 use Rattle.leafnet_text.specs.Boards.{Given}
@@ -42,7 +42,6 @@ pub record Ordered (row : List ℤ) (head : Head) (leaves : ℕ) (order : List �
 
 pub ordered : (row : List ℤ) (head : Head) (leaves : ℕ) (order : List ℕ) → accepted (leaves ∷ []) ≡ list_says row head (order_in row head) (replicate leaf_room 0)
     → order ≡ listed_row row head (order_in row head) (replicate leaf_room 0) → Ordered row head leaves order
-unfolding written
 ordered row head leaves order e left =
     let ids = order_in row head in
     let out : List ℕ = replicate leaf_room 0 in

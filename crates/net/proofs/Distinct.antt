@@ -3,17 +3,17 @@ use Rattle.std.proofs.Common.{◌≡◌, Bool, true, false, List, [], ◌∷◌,
 use lib.ListN.{get_or-append}
 use lib.Seq.{get_or-append_seam}
 use Rattle.table.specs.Mesh.{Cell}
-use Rattle.net.specs.Net.{find, has, weld, Poly, MeshNode, Piece, same_node, nth, nowhere, number, pieces, corners_of, nodes_from, bare, weigh, network}
-use Rattle.net.proofs.Find.{finding}
+use Rattle.net.specs.Net.{position_of, has, weld, Poly, MeshNode, Piece, same_node, nth, nowhere, number, pieces, corners_of, nodes_from, bare, weigh, network}
+use Rattle.net.proofs.Positions.{positions}
 use Rattle.net.proofs.Weld.{welding}
 use Rattle.net.proofs.Sound.{node-self}
 
 module _ {A : Type 0} (same : A → A → Bool) (d : A) (self : (a : A) → same a a ≡ true) where
   abbrev pub Distinct : List A → Type 0
-  Distinct l = (i : ℕ) → i < length l → find same l (get_or l i d) ≡ i
+  Distinct l = (i : ℕ) → i < length l → position_of same l (get_or l i d) ≡ i
 
   distinct_snoc : (l : List A) (x : A) → Distinct l → has same l x ≡ false → Distinct (l ++ (x ∷ []))
-  distinct_snoc l x D e i h = grind (arith, finding, D i, length-append l (x ∷ []), get_or-append l (x ∷ []) d i, get_or-append_seam l x [] d, self x)
+  distinct_snoc l x D e i h = grind (arith, positions, D i, length-append l (x ∷ []), get_or-append l (x ∷ []) d i, get_or-append_seam l x [] d, self x)
 
   distinct-weld : (l xs : List A) → Distinct l → Distinct (weld same l xs)
   distinct-weld l [] D = grind (arith, welding)

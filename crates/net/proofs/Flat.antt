@@ -10,7 +10,7 @@ use Rattle.cell.specs.Boxes.{Box}
 use Rattle.net.specs.Net.{weld, Poly, MeshNode, Edge, NetCell, Piece, same_node, same_pair, nth, nowhere, number, corners_at, corners_of, nodes_from, side_of, sides_at, patch_at, edges_from, edges_of, patches_from, across, upright}
 use Rattle.net.specs.First.{first_of, number_by, patch_by, Part, part, same_part, news}
 use Rattle.net.specs.Flat.{Leaf, leaf, no_leaf, leaf_at, leaves_from, corners_in, mids_in, flat_places, side_twice, slots_by, flat_slots, flat_patches}
-use Rattle.net.proofs.Find.{finding}
+use Rattle.net.proofs.Positions.{positions}
 use Rattle.net.proofs.Weld.{welding, Keyed, weld-nil, weld-append, welded, place-has, place-number, corner-number}
 use Rattle.net.proofs.All.{All, all_append, all_map, all-by, all_nil}
 use Rattle.net.proofs.Board.{each-length, each_at}
@@ -36,7 +36,7 @@ alike_same k a = record { by = λ l. refl }
 alike_twice : (k : ℕ) (e : Edge) → Alike k (e ∷ []) (e ∷ e ∷ [])
 alike_twice k edge =
     record {
-      by = λ l. grind (arith, welding, finding, length-append l (x ∷ []), self);
+      by = λ l. grind (arith, welding, positions, length-append l (x ∷ []), self);
     }
   where
     x : Part

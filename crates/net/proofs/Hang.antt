@@ -8,18 +8,18 @@ use Rattle.cell.specs.Boxes.{Box}
 use Rattle.table.specs.Mesh.{Cell}
 use Rattle.net.specs.Net.{weld, Poly, MeshNode, Edge, NetCell, Piece, same_node, same_pair, pieces, corners_of, nodes_from, edges_of, edges_from, join, side_of, sides_at, One, Half, ◌·◌, ◌÷◌, weighed, bare, weigh, network}
 use Rattle.net.specs.Hang.{so_far, Joined, Halved, HalvedSides}
-use Rattle.net.proofs.Find.{find-right, find-same}
+use Rattle.net.proofs.Positions.{position-right, position-same}
 use Rattle.net.proofs.All.{All, all-by, all_left, all_right, all-each-back, In, in-more, weld-has}
 
 pair-self : (e : Edge) → same_pair e e ≡ true
 pair-self e = rw (eq-eqb e.from e.from refl, eq-eqb e.to e.to refl)
 
 in_right : (a b : List Edge) (x : Edge) → In same_pair b x → In same_pair (a ++ b) x
-in_right a b x h = grind (arith, length-append a b, in-more same_pair a b x, find-right same_pair a b x)
+in_right a b x h = grind (arith, length-append a b, in-more same_pair a b x, position-right same_pair a b x)
 
 -- the conductance plays no part
 any-g : (n : List MeshNode) (es : List Edge) (a b : MeshNode) (g : Float) → In same_pair es (join n a b g) → Joined n es a b
-any-g n es a b g h k = let e = find-same same_pair same_pair es es (join n a b g) (join n a b g) (join n a b k) (join n a b g) refl (λ i p. refl) in omega arith
+any-g n es a b g h k = let e = position-same same_pair same_pair es es (join n a b g) (join n a b g) (join n a b k) (join n a b g) refl (λ i p. refl) in omega arith
 
 -- a side whose parts are all there
 side-halved : (n : List MeshNode) (es : List Edge) (a m b : MeshNode) (r : Float) → All (In same_pair es) (side_of n a m b r) → Halved n es a m b
@@ -51,7 +51,7 @@ weighed-in : (n : List MeshNode) (cs : List NetCell) (es : List Edge) (x : Edge)
 unfolding weighed
 weighed-in n cs es x h =
     let l = length-map es (weighed n cs) in
-    let e = find-same same_pair same_pair es (map (weighed n cs) es) x x x (weighed n cs x) (sym l) (λ i p. ap (λ (z : Edge). same_pair z x) (sym (get_or-map (weighed n cs) es i x))) in
+    let e = position-same same_pair same_pair es (map (weighed n cs) es) x x x (weighed n cs x) (sym l) (λ i p. ap (λ (z : Edge). same_pair z x) (sym (get_or-map (weighed n cs) es i x))) in
     omega arith
 
 edges-in : (t : List Cell) (ps : List Poly) (pre : List Piece) (q : Piece) (qs : List Piece) (x : Edge) → pieces t ps 0 ≡ pre ++ (q ∷ qs) → In same_pair (edges_of (so_far pre q) q) x → In same_pair (network t ps).edges x

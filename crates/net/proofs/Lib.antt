@@ -1,4 +1,4 @@
-pub mod Find
+pub mod Positions
 pub mod Weld
 pub mod Keys
 pub mod All

@@ -10,7 +10,7 @@ use Rattle.cell.specs.Boxes.{Box}
 use Rattle.table.specs.Mesh.{Cell, is_none}
 use Rattle.net.specs.Net.{weld, Poly, MeshNode, Edge, Piece, same_node, same_pair, sw_of, se_of, ne_of, nw_of, corners_at, corners_of, nodes_from, number, nth, nowhere, patch_at, side_of, sides_at, edges_of, edges_from, patches_from, leaves_of, pieces, Cornered, Ends, leaf_count}
 use Rattle.net.specs.Laws.{HasArea}
-use Rattle.net.proofs.Find.{find-hit}
+use Rattle.net.proofs.Positions.{has-at, position-hit}
 use Rattle.net.proofs.Leaves.{leaves_of-cons}
 use Rattle.net.proofs.Pieces.{all_corners, nodes-weld}
 use Rattle.net.proofs.All.{All, all_append, all-by, all_nil, all_cons, all-weld, all-each-by, all-map-by, all-each-back, all_both, weld-length, weld-more, In, weld-has}
@@ -25,7 +25,7 @@ node-is m n e = grind (arith, nat_tests)
 
 -- a node that is there, and its number, as the nodes go on
 pub number_at : (n more : List MeshNode) (m : MeshNode) → In same_node n m → nth (n ++ more) (number n m) ≡ m
-number_at n more m h = grind (arith, get_or-append n more nowhere (number n m) h, node-is (nth n (number n m)) m, find-hit same_node n m nowhere h)
+number_at n more m h = grind (arith, get_or-append n more nowhere (number n m) h, node-is (nth n (number n m)) m, position-hit same_node n m nowhere h)
 
 -- how the nodes go on
 pub nodes-more : (n : List MeshNode) (qs : List Piece) → (more : List MeshNode) × (nodes_from n qs ≡ n ++ more)
@@ -42,7 +42,7 @@ piece-in n q =
 
 side-ends : (n : List MeshNode) (a m b : MeshNode) (r : Float) → In same_node n a → In same_node n b → All (Ends (length n)) (side_of n a m b r)
 unfolding All
-side-ends n a m b r p q = grind (arith, all_nil (Ends (length n)), all_cons (Ends (length n)))
+side-ends n a m b r p q = grind (arith, has-at same_node n m, all_nil (Ends (length n)), all_cons (Ends (length n)))
 
 leaf-ends : (n : List MeshNode) (p : Poly) (r : Box) → All (In same_node n) (corners_at p r) → All (Ends (length n)) (sides_at n p r)
 unfolding All sides_at

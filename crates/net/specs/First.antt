@@ -1,27 +1,25 @@
 -- The first of equal keys, and the numbering of the new ones: what a sort of the keys gives, and what the net is computed from. Definitions only.
--- Counts go by recursion on the number of places, as their lemmas do: std's `count_by` over `range_with_len` would add a turn to each.
-use Rattle.std.specs.Prelude.{Bool, ◌&&◌, List, [], ◌∷◌, ◌++◌, ◌≡◌, ℕ, zero, suc, ◌+◌, ◌≤◌, ◌<◌, ◌==◌, nat_eq, length, slice_index_or, Float, if◌then◌else◌}
+use Rattle.std.specs.Prelude.{Bool, ◌&&◌, List, [], ◌∷◌, ◌≡◌, ℕ, ◌+◌, ◌≤◌, ◌<◌, ◌==◌, nat_eq, length, slice_index_or, Float, filter, count_by}
+use Rattle.std.specs.List.{range_with_len}
 use Rattle.cell.specs.Boxes.{Box, mid}
-use Rattle.net.specs.Net.{find, MeshNode, Edge, NetCell, same_pair, Poly, node_at}
+use Rattle.net.specs.Net.{position_of, MeshNode, Edge, NetCell, same_pair, Poly, node_at}
 
 abbrev pub key : List ℕ → ℕ → ℕ
 key ks i = slice_index_or ks i 0
 
 -- the least j whose key is the key at i
 abbrev pub first_of : List ℕ → ℕ → ℕ
-first_of ks i = find nat_eq ks (key ks i)
+first_of ks i = position_of nat_eq ks (key ks i)
 
 abbrev pub is_new : List ℕ → ℕ → Bool
 is_new ks i = first_of ks i == i
 
 -- how many of the first n are new, and which
 unfoldable pub rank : List ℕ → ℕ → ℕ
-rank ks zero = 0
-rank ks (suc i) = if is_new ks i then suc (rank ks i) else rank ks i
+rank ks n = count_by (is_new ks) (range_with_len 0 n)
 
 unfoldable pub news : List ℕ → ℕ → List ℕ
-news ks zero = []
-news ks (suc i) = if is_new ks i then news ks i ++ (i ∷ []) else news ks i
+news ks n = filter (is_new ks) (range_with_len 0 n)
 
 -- the parts of edges of all polygons, before any is left out, each with its polygon: the first with a polygon and a pair is kept
 pub record Part : Type 0 where
@@ -54,8 +52,7 @@ mids_at p r = node_at p (mid r.x0 r.x1) r.y0 ∷ node_at p (mid r.x0 r.x1) r.y1 
 
 -- how many below n are their own first
 unfoldable pub rank_in : List ℕ → ℕ → ℕ
-rank_in fs zero = 0
-rank_in fs (suc i) = if slice_index_or fs i 0 == i then suc (rank_in fs i) else rank_in fs i
+rank_in fs n = count_by (λ i. slice_index_or fs i 0 == i) (range_with_len 0 n)
 
 -- a row of first places
 pub record Firsts (fs : List ℕ) : Type 0 where

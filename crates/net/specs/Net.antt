@@ -1,9 +1,8 @@
 -- The net of a table of leaves: nodes, cells, edges and weights, by the rules' "The net". Coordinates are whole ticks, from 0 up;
 -- extents and faces are whole half ticks. Nothing is sorted and nothing is looked up: each rule goes through the whole list. Definitions only.
--- A recursion stands as one where its lemmas go by induction on the list: std's `fold` and `range_with_len` would add a turn to each. So does
--- `sheet_of`, since std's `find` would stand beside the `find` here; `has` goes by that number, as what is said of welding does.
-use Rattle.std.specs.Prelude.{Bool, ◌&&◌, ◌||◌, not, List, [], ◌∷◌, ◌++◌, map, ◌≡◌, ℕ, suc, ◌+◌, ◌-◌, ◌<◌, min, max, nat_lt, ◌==◌, length, slice_index_or, drop, pos, Float, Option, None, Some, unwrap_or, flat_map, count_by, filter, if◌then◌else◌}
-use Rattle.std.specs.List.{position_or_len}
+-- What goes on from piece to piece, or from cell to cell, is a recursion, as its lemmas go by induction on the list.
+use Rattle.std.specs.Prelude.{Bool, ◌&&◌, ◌||◌, not, List, [], ◌∷◌, ◌++◌, map, ◌≡◌, ℕ, suc, ◌+◌, ◌-◌, ◌<◌, min, max, nat_lt, ◌==◌, length, slice_index_or, drop, pos, Float, Option, None, Some, unwrap_or, option_map, flat_map, count_by, filter, find, if◌then◌else◌}
+use Rattle.std.specs.List.{position_or_len, list_any}
 use Rattle.std.specs.Int.{abs_diff}
 use Rattle.std.specs.Float.Ieee as Ieee
 use Rattle.std.specs.Float.{binary64}
@@ -18,11 +17,11 @@ pub use Rattle.net_rows.specs.declared.rows.NetCell.{NetCell}
 
 module _ {A : Type 0} (same : A → A → Bool) where
   -- the number of the first that is the same as x; where there is none, the length
-  unfoldable pub find : List A → A → ℕ
-  find l x = position_or_len (λ a. same a x) l
+  unfoldable pub position_of : List A → A → ℕ
+  position_of l x = position_or_len (λ a. same a x) l
 
-  abbrev pub has : List A → A → Bool
-  has l x = nat_lt (find l x) (length l)
+  unfoldable pub has : List A → A → Bool
+  has l x = list_any (λ a. same a x) l
 
   -- each of the second list in turn goes behind the first, unless the same is there already
   unfoldable pub weld : List A → List A → List A
@@ -95,7 +94,7 @@ nodes_from n (q ∷ qs) = nodes_from (weld same_node n (corners_of q)) qs
 -- ---- cells and edges, by the nodes so far
 
 abbrev pub number : List MeshNode → MeshNode → ℕ
-number n m = find same_node n m
+number n m = position_of same_node n m
 
 abbrev pub patch_at : List MeshNode → Poly → Box → NetCell
 patch_at n p r =
@@ -271,8 +270,7 @@ is_side c a b =
 
 -- the sheet resistance of the first cell with that pair
 unfoldable pub sheet_of : List NetCell → ℕ → ℕ → Option Float
-sheet_of [] a b = None
-sheet_of (c ∷ cs) a b = if is_side c a b then Some c.sheet else sheet_of cs a b
+sheet_of cs a b = option_map (λ c. c.sheet) (find (λ c. is_side c a b) cs)
 
 -- of the conductance so far, the face, the distance and the sheet resistance
 abbrev pub weight : Float → ℕ → ℕ → Option Float → Float

@@ -1,5 +1,5 @@
 -- The rules' "A net is bad (7) if ..", and what is read of a sound one. What a row's type says is never bad. Definitions only.
-use Rattle.std.specs.Prelude.{ℕ, Bool, ◌&&◌, List, length, pos, ◌-ℤ◌, nat_abs, int_lt, nat_lt, slice_index_or, IsTrue}
+use Rattle.std.specs.Prelude.{ℕ, Bool, ◌&&◌, List, [], ◌∷◌, min, max, length, pos, ◌-ℤ◌, nat_abs, int_lt, nat_lt, slice_index_or, IsTrue}
 use Rattle.std.specs.Ordering.{int_eq}
 use Rattle.std.specs.List.{list_all}
 use Rattle.std.specs.Float.{nan}
@@ -23,6 +23,10 @@ blank_cell = record { corners = record { southwest = 0; southeast = 0; northeast
 
 abbrev pub nth_cell : List NetCell → ℕ → NetCell
 nth_cell cells c = slice_index_or cells c blank_cell
+
+-- two nodes, the lesser first
+abbrev pub pair_of : ℕ → ℕ → List ℕ
+pair_of a b = min a b ∷ max a b ∷ []
 
 -- its coordinates are in the rules' range
 abbrev pub sound_node : Node → Bool

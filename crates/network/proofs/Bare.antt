@@ -15,7 +15,7 @@ use Rattle.table.proofs.Shape.{formed-shape}
 use Rattle.table.proofs.Tables.{few_pass}
 use Rattle.net_rows.specs.declared.rows.Edge.{Edge}
 use Rattle.net_rows.specs.Nodes.{in_mesh, in_ticks}
-use Rattle.net_rows.specs.Written.{written}
+use Rattle.refusals.specs.Said.{written}
 use Rattle.net_rows.specs.Facts.{AreKnown}
 use Rattle.net.specs.Net as Net
 use Rattle.net.specs.Net.{Poly, Piece, MeshNode, pieces, bare, weigh, weighed, network, leaf_count, Ends, Cornered}

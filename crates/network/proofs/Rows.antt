@@ -3,7 +3,7 @@ use Rattle.std.proofs.Common.{◌≡◌, refl, sym, ap, ap₂, ◌∙◌, List, 
 use lib.Seq.{take-append_seam, drop-append_seam}
 use Rattle.cell.proofs.Offsets.{off-on}
 use Rattle.net_rows.specs.Nodes.{in_mesh, in_ticks}
-use Rattle.net_rows.specs.Written.{written}
+use Rattle.refusals.specs.Said.{written}
 use Rattle.net.specs.Net.{MeshNode}
 use Rattle.net.specs.Laws.{widest}
 use Rattle.net.proofs.All.{All}

@@ -15,7 +15,7 @@ use Rattle.net_rows.specs.declared.rows.NetCell.{NetCell}
 use Rattle.net_rows.specs.declared.rows.Polygons.{Polygons}
 use Rattle.net_rows.specs.Polygons.{polygons_fit}
 use Rattle.net_rows.specs.Nodes.{in_ticks}
-use Rattle.net_rows.specs.Written.{written}
+use Rattle.refusals.specs.Said.{written}
 use Rattle.net.specs.Net as Net
 use Rattle.places.specs.Leaves.{polys_of}
 use Rattle.bare_net.specs.declared.Counts.{Counts}

@@ -3,9 +3,9 @@ use Rattle.std.proofs.Common.{◌≡◌, refl, sym, ap, ◌∙◌, subst, true, 
 use Rattle.std.proofs.lemmas.Bool.{cases_Bool}
 use Rattle.std.proofs.lemmas.List.{length-map, get_or-map, ext_get_or}
 use Rattle.sorted.specs.Firsts.{AreFirsts}
-use Rattle.net.specs.Net.{find, MeshNode, same_node, nth, nowhere}
+use Rattle.net.specs.Net.{position_of, MeshNode, same_node, nth, nowhere}
 use Rattle.net.specs.First.{key, first_of}
-use Rattle.net.proofs.Find.{find-hit, find-at-most, find-is}
+use Rattle.net.proofs.Positions.{position-hit, position-at-most, position-is}
 use Rattle.net.proofs.Keys.{bool-ext, both, both_of}
 use Rattle.net.proofs.Weld.{Keyed}
 use Rattle.places.specs.Places.{place_entry, firsts}
@@ -24,24 +24,24 @@ same-is m n e =
 module _ (P : List MeshNode) where
   -- the first place of the same node as place i
   abbrev pub first_at : ℕ → ℕ
-  first_at i = find same_node P (nth P i)
+  first_at i = position_of same_node P (nth P i)
 
   pub first-most : (i : ℕ) → first_at i ≤ i
-  first-most i = find-at-most same_node P (nth P i) nowhere i (same_self (nth P i))
+  first-most i = position-at-most same_node P (nth P i) nowhere i (same_self (nth P i))
 
   pub first-node : (i : ℕ) → i < length P → nth P (first_at i) ≡ nth P i
-  first-node i h = same-is (nth P (first_at i)) (nth P i) (find-hit same_node P (nth P i) nowhere (omega (arith, first-most i)))
+  first-node i h = same-is (nth P (first_at i)) (nth P i) (position-hit same_node P (nth P i) nowhere (omega (arith, first-most i)))
 
   pub firsts-length : length (firsts P) ≡ length P
   unfolding firsts
-  firsts-length = length-map P (find same_node P)
+  firsts-length = length-map P (position_of same_node P)
 
   pub firsts-at : (i : ℕ) → i < length P → get_or (firsts P) i 0 ≡ first_at i
   unfolding firsts
-  firsts-at i h = get_or-map (find same_node P) P i nowhere 0 h
+  firsts-at i h = get_or-map (position_of same_node P) P i nowhere 0 h
 
   own : (i : ℕ) → i < length P → get_or (firsts P) (first_at i) 0 ≡ first_at i
-  own i h = firsts-at (first_at i) (omega (arith, first-most i)) ∙ ap (find same_node P) (first-node i h)
+  own i h = firsts-at (first_at i) (omega (arith, first-most i)) ∙ ap (position_of same_node P) (first-node i h)
 
   -- the first places are keys of the places, and each is the first of its own
   pub firsts-keyed : Keyed same_node nowhere P (firsts P)
@@ -49,7 +49,7 @@ module _ (P : List MeshNode) where
       record {
         long = firsts-length;
         agree = λ i j h k. bool-ext _ _
-            (λ e. eq-eqb (key (firsts P) i) (key (firsts P) j) (firsts-at i h ∙ ap (find same_node P) (same-is (nth P i) (nth P j) e) ∙ sym (firsts-at j k)))
+            (λ e. eq-eqb (key (firsts P) i) (key (firsts P) j) (firsts-at i h ∙ ap (position_of same_node P) (same-is (nth P i) (nth P j) e) ∙ sym (firsts-at j k)))
             (λ e. (let q : first_at i ≡ first_at j = sym (firsts-at i h) ∙ eqb-true (key (firsts P) i) (key (firsts P) j) e ∙ firsts-at j k in
             let n : nth P i ≡ nth P j = sym (first-node i h) ∙ ap (nth P) q ∙ first-node j k in
             subst (λ (m : MeshNode). same_node (nth P i) m ≡ true) n (same_self (nth P i))));
@@ -59,7 +59,7 @@ module _ (P : List MeshNode) where
   first-of i h =
       let l = firsts-length in
       let m = first-most i in
-      find-is eqb (firsts P) (key (firsts P) i) 0 (get_or (firsts P) i 0)
+      position-is eqb (firsts P) (key (firsts P) i) 0 (get_or (firsts P) i 0)
       (eq-eqb _ _ (ap (λ (k : ℕ). get_or (firsts P) k 0) (firsts-at i h) ∙ own i h ∙ sym (firsts-at i h)))
       (λ j q. ne_eqb _ _ (λ e. (let b = first-most j in absurd (omega (arith, firsts-at i h, firsts-at j (omega (arith, firsts-at i h)))))))
       (omega (arith, firsts-at i h))
@@ -71,7 +71,7 @@ module _ (P : List MeshNode) where
       let least = le-from (λ (l : i < get_or row i 0). F.least i l refl) in
       sym
       (firsts-at i (omega arith)
-      ∙ find-is same_node P (nth P i) nowhere (get_or row i 0)
+      ∙ position-is same_node P (nth P i) nowhere (get_or row i 0)
       (subst (λ (m : MeshNode). same_node m (nth P i) ≡ true) (sym (node (get_or row i 0) i F.equal)) (same_self (nth P i)))
       (λ j l. other (nth P j) (nth P i) (λ e. F.least j l (ap (λ (m : MeshNode). m.layer ∷ m.component ∷ m.x ∷ m.y ∷ []) e)))
       (omega arith)))

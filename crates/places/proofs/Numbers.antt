@@ -1,30 +1,28 @@
 -- The numbers of the corners' nodes, and the row of nodes that is written from them.
-use Rattle.std.proofs.Common.{◌≡◌, refl, sym, ap, ap₂, ◌∙◌, append_assoc, true, false, ⊎_elim, List, [], ◌∷◌, ◌++◌, map, ℕ, zero, suc, ◌+◌, ◌-◌, ◌*◌, ◌<◌, ◌≤◌, arith, length, length-append, get_or, set, take, drop, eqb-true}
+use Rattle.std.proofs.Common.{◌≡◌, sym, ap, ◌∙◌, true, false, ⊎_elim, List, [], ◌∷◌, ◌++◌, map, ℕ, suc, ◌+◌, ◌*◌, ◌<◌, ◌≤◌, arith, length, get_or, take, drop, eqb-true}
 use Rattle.std.specs.Prelude.{flat_map}
+use Rattle.std.specs.List.{range_with_len}
 use borrow.Author.Tests.{eqb-false}
-use Rattle.std.proofs.Math.Seq.{drop-cons}
-use Rattle.std.proofs.lemmas.List.{ext_get_or, length-map, get_or-map, map-append, get_or-take, get_or-drop, length-take-le, set-append_right}
+use Rattle.std.proofs.lemmas.List.{ext_get_or, length-map, get_or-map, map-append, get_or-take, get_or-drop, length-take-le}
 use Rattle.std.proofs.Math.Seq.{take-append_seam}
+use Rattle.std.proofs.lemmas.List.Sums.{count_by-le-length}
+use Rattle.std.proofs.lemmas.List.FromFn.{length-range_with_len}
 use Rattle.net_rows.specs.declared.rows.Node.{Node}
 use Rattle.net_rows.specs.Nodes.{in_ticks}
-use Rattle.net_rows.specs.Written.{written}
-use Rattle.net.specs.Net.{find, MeshNode, Piece, same_node, nth, nowhere, weld, nodes_from}
+use Rattle.net.specs.Net.{position_of, MeshNode, Piece, same_node, nth, nowhere, weld, nodes_from}
 use Rattle.net.specs.First.{key, first_of, is_new, rank, rank_in, news, number_by, Firsts}
 use Rattle.net.specs.Flat.{Leaf, corners_in, mids_in, flat_places, leaves_from}
 use Rattle.net.proofs.Flat.{flat-nodes}
-use Rattle.net.proofs.Find.{test}
+use Rattle.net.proofs.Positions.{test}
 use Rattle.net.proofs.Numbers.{rank-in}
-use Rattle.net.proofs.Weld.{rank-new, rank-old, news-new, news-old, length-news, rank_below, first-new, first-at-most, welded}
+use Rattle.net.proofs.Weld.{news-new, news-old, length-news, rank_below, first-new, first-at-most, welded}
 use Rattle.places.specs.Places.{firsts, numbers_of}
 use Rattle.places.proofs.Places.{corners-length, places-length}
 use Rattle.places.proofs.Firsts.{first_at, first-most, first-node, firsts-length, firsts-at, firsts-keyed, first-of}
 
 pub rank-le : (ks : List ℕ) (i : ℕ) → rank ks i ≤ i
 unfolding rank
-rank-le ks zero = omega arith
-rank-le ks (suc i) =
-    let h = rank-le ks i in
-    ⊎_elim (λ e. omega (arith, rank-new ks i e)) (λ e. omega (arith, rank-old ks i e)) (test (is_new ks i))
+rank-le ks i = omega (arith, count_by-le-length (is_new ks) (range_with_len 0 i), length-range_with_len 0 i)
 
 -- a place is new if its number is the next one
 pub next-new : (ks : List ℕ) (i : ℕ) → number_by ks i ≡ rank ks i → i < length ks → is_new ks i ≡ true
@@ -38,15 +36,6 @@ next-new ks i e h =
 
 pub next-old : (ks : List ℕ) (i : ℕ) → (number_by ks i ≡ rank ks i → ⊥) → is_new ks i ≡ false
 next-old ks i e = ⊎_elim (λ t. absurd (e (ap (rank ks) (eqb-true (first_of ks i) i t)))) (λ t. t) (test (is_new ks i))
-
--- one more behind a written front
-pub written-more : {A : Type 0} (new old : List A) (k : ℕ) (x : A) → k ≡ length new → k < length old → set (written new old) k x ≡ written (new ++ (x ∷ [])) old
-written-more {A} new old k x e h =
-    let n = length new in
-    let m : suc n ≡ length (new ++ (x ∷ [])) = omega (arith, length-append new (x ∷ [])) in
-    set-append_right new (drop n old) n k x refl (omega arith)
-    ∙ ap₂ {C = List A} (λ i l. new ++ set l i x) (let z : k - n ≡ 0 = omega arith in z) (drop-cons old n x (omega arith))
-    ∙ sym (append_assoc new (x ∷ []) (drop (length (new ++ (x ∷ []))) old) ∙ ap (λ i. new ++ (x ∷ drop i old)) (sym m))
 
 module _ (P : List MeshNode) where
   abbrev fs : List ℕ
@@ -115,7 +104,7 @@ module _ (P : List MeshNode) (n : ℕ) (l : n ≤ length P) where
         own = λ i h. (let f = first-most P i in
             ap (λ k. get_or front k 0) (front_at i (omega arith))
             ∙ front_at (first_at P i) (omega arith)
-            ∙ ap (find same_node P) (first-node P i (omega arith))
+            ∙ ap (position_of same_node P) (first-node P i (omega arith))
             ∙ sym (front_at i (omega arith)));
       }
 

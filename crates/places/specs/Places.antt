@@ -1,6 +1,6 @@
 -- The places on the leaves, numbered as nodes. Definitions only.
 use Rattle.std.specs.Prelude.{ℕ, ◌*◌, List, [], ◌∷◌, map, length, take, flat_map}
-use Rattle.net.specs.Net.{MeshNode, find, weld, same_node, node_at, nth}
+use Rattle.net.specs.Net.{MeshNode, position_of, weld, same_node, node_at, nth}
 use Rattle.net.specs.First.{rank}
 use Rattle.net.specs.Flat as Flat
 use Rattle.net.specs.Flat.{flat_places, corners_in, place_x, place_y}
@@ -30,7 +30,7 @@ place_entry places i = let n = nth places i in n.layer ∷ n.component ∷ n.x �
 
 -- of each place the first one that is the same node
 unfoldable pub firsts : List MeshNode → List ℕ
-firsts places = map (find same_node places) places
+firsts places = map (position_of same_node places) places
 
 -- of each of the first n places the number of its node: how many places before its first one are first places
 abbrev pub numbers_of : List MeshNode → ℕ → List ℕ

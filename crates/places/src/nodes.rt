@@ -1,7 +1,7 @@
 // The places on the leaves as nodes: numbered by one sort, and written.
 ghost use Rattle.std.specs.Prelude.{◌≡◌, ◌<◌, ◌≤◌, map, drop, length};
 ghost use Rattle.net_rows.specs.Nodes.{in_ticks};
-ghost use Rattle.net_rows.specs.Written.{written};
+ghost use Rattle.refusals.specs.Said.{written};
 ghost use Rattle.net.specs.Net.{nth};
 ghost use Rattle.net.specs.First.{rank, rank_in, Firsts};
 ghost use Rattle.net.specs.Flat.{place_x, place_y};

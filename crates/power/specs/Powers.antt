@@ -10,7 +10,7 @@ use Rattle.floats.specs.Fractions.{in_sheet, in_potential}
 use Rattle.net_rows.specs.declared.rows.Node.{Node}
 use Rattle.net_rows.specs.declared.rows.Edge.{Edge}
 use Rattle.net_rows.specs.declared.rows.NetCell.{NetCell}
-use Rattle.net_rows.specs.Written.{written}
+use Rattle.refusals.specs.Said.{written}
 use Rattle.net_rows.specs.Nets.{width_of, height_of, sound_net}
 use Rattle.power.specs.declared.Values.{Values}
 use Rattle.power.specs.declared.Slope.{Slope}

@@ -6,7 +6,7 @@ ghost use Rattle.std.specs.Prelude.{◌≡◌, ◌^◌, ◌<◌, ◌≤◌, map,
 ghost use Rattle.std.specs.List.{list_all};
 ghost use Rattle.cell.specs.Ticks.{metres_of};
 ghost use Rattle.floats.specs.Fractions.{in_sheet, in_potential};
-ghost use Rattle.net_rows.specs.Written.{written};
+ghost use Rattle.refusals.specs.Said.{written};
 ghost use Rattle.net_rows.specs.Nets.{nth_cell};
 ghost use Rattle.power.specs.Formulas.{slope_of, power_of};
 ghost use Rattle.power.specs.Powers.{cell_values, cell_power, in_ranges, power_said, power_says, power_row};

@@ -16,6 +16,7 @@ use Rattle.record.specs.Laws.{written, ReadsBack}
 use Rattle.record.proofs.Sheets.{no_nan}
 use Rattle.record.proofs.Stores.{eq_self}
 use Rattle.record.proofs.Records.{record-long}
+use Rattle.record.proofs.Turns.{add_cons, add_none}
 use Rattle.record.proofs.Rounds.{polygon_fits, board_fits, record_again}
 
 -- every polygon is one that the description takes
@@ -58,11 +59,10 @@ rings-long (p ∷ ps) fits =
     rw (length-append p.points (rings ps), mul-suc max_points (length ps)) (omega (arith, (polygon_fits (limits_of One) p f.0).points, rings-long ps f.1))
 
 adds-up : (ps : List Polygon) (n : ℕ) → n ≡ length (rings ps) → add_up (map polygon_row ps) n ≡ true
-unfolding add_up
-adds-up [] n e = eq-eqb n 0 e
+adds-up [] n e = add_none n ∙ eq-eqb n 0 e
 adds-up (p ∷ ps) n e =
     let m : n ≡ length p.points + length (rings ps) = e ∙ length-append p.points (rings ps) in
-    rw (le-leb (length p.points) n (omega arith)) (adds-up ps (n - length p.points) (omega arith))
+    add_cons (polygon_row p) (map polygon_row ps) n ∙ rw (le-leb (length p.points) n (omega arith)) (adds-up ps (n - length p.points) (omega arith))
 
 module _ (b : Board) (fits : is_in_range b ≡ true) where
   same_len : length (rows_for b).polygons ≡ length (rows_for b).sheets

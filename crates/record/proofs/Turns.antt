@@ -5,7 +5,9 @@ use lib.ListN.{length-map}
 use lib.Seq.{sets}
 use borrow.Author.Tests.{lt-leb}
 use Rattle.record.specs.Board.{Entry, Polygon, Point}
-use Rattle.std.specs.List.{flat_map}
+use Rattle.std.specs.List.{flat_map, sum_by}
+use Rattle.std.proofs.lemmas.List.Sums.{sum_by-cons}
+use Rattle.std.proofs.lemmas.Bool.Decides.{nat_tests}
 use Rattle.std.specs.Int.{bytes_high_first, cast_unsigned}
 use Rattle.record.specs.Puts.{entry_bytes, point_bytes, polygon_bytes, head_bytes}
 use Rattle.record.specs.Writing.{entry_of, entries_of, point_of, ring_of, sheet_bits, count_of, polygons_of, add_up}
@@ -20,14 +22,25 @@ pub none : {A : Type 0} (l : List A) → length l ≡ 0 → l ≡ []
 none [] e = refl
 none (x ∷ l) e = absurd (omega arith)
 
-pub count_fits : (p : List ℕ) (ps : List (List ℕ)) (m : ℕ) → add_up (p ∷ ps) m ≡ true → (count_of p ≤ m) × (add_up ps (m - count_of p) ≡ true)
+counted : (c s m : ℕ) → eqb (c + s) m ≡ (leb c m && eqb s (m - c))
+counted c s m = grind (arith, nat_tests)
+
+-- the first count is taken off
+pub add_cons : (p : List ℕ) (ps : List (List ℕ)) (m : ℕ) → add_up (p ∷ ps) m ≡ (leb (count_of p) m && add_up ps (m - count_of p))
 unfolding add_up
-count_fits p ps m e = let b = and_both (leb (count_of p) m) (add_up ps (m - count_of p)) e in (leb-true (count_of p) m b.0, b.1)
+add_cons p ps m = ap (λ k. eqb k m) (sum_by-cons count_of p ps) ∙ counted (count_of p) (sum_by count_of ps) m
+
+pub add_none : (m : ℕ) → add_up [] m ≡ eqb m 0
+unfolding add_up
+add_none m = grind (arith, nat_tests)
+
+pub count_fits : (p : List ℕ) (ps : List (List ℕ)) (m : ℕ) → add_up (p ∷ ps) m ≡ true → (count_of p ≤ m) × (add_up ps (m - count_of p) ≡ true)
+count_fits p ps m e =
+    let b = and_both (leb (count_of p) m) (add_up ps (m - count_of p)) (sym (add_cons p ps m) ∙ e) in
+    (leb-true (count_of p) m b.0, b.1)
 
 pub none_left : (ps : List (List ℕ)) (m : ℕ) → ps ≡ [] → add_up ps m ≡ true → m ≡ 0
-unfolding add_up
-none_left [] m e h = eqb-true m 0 h
-none_left (p ∷ ps) m e h = absurd cc
+none_left ps m e h = eqb-true m 0 (sym (ap (λ x. add_up x m) e ∙ add_none m) ∙ h)
 
 pub each-length : {A : Type 0} (f : A → List ℕ) (k : ℕ) → ((x : A) → length (f x) ≡ k) → (xs : List A) → length (flat_map f xs) ≡ k * length xs
 each-length f k h [] = sym (mul-zero k)
@@ -94,16 +107,13 @@ none_to_put out at (p ∷ ps) rs qs e = absurd cc
 
 module _ (ps : List (List ℕ)) (i m : ℕ) where
   pub add_short : i < length ps → m < count_of (get_or ps i []) → add_up (drop i ps) m ≡ false
-  unfolding add_up
-  add_short h l = ap (λ x. add_up x m) (drop-cons ps i [] h) ∙ rw (lt-leb (count_of (get_or ps i [])) m l) refl
+  add_short h l = ap (λ x. add_up x m) (drop-cons ps i [] h) ∙ add_cons _ _ m ∙ rw (lt-leb (count_of (get_or ps i [])) m l) refl
 
   pub add_next : i < length ps → count_of (get_or ps i []) ≤ m → add_up (drop i ps) m ≡ add_up (drop (i + 1) ps) (m - count_of (get_or ps i []))
-  unfolding add_up
-  add_next h l = ap (λ x. add_up x m) (drop-cons ps i [] h) ∙ rw (le-leb (count_of (get_or ps i [])) m l, add-one i) refl
+  add_next h l = ap (λ x. add_up x m) (drop-cons ps i [] h) ∙ add_cons _ _ m ∙ rw (le-leb (count_of (get_or ps i [])) m l, add-one i) refl
 
   pub add_end : length ps ≤ i → add_up (drop i ps) m ≡ eqb m 0
-  unfolding add_up
-  add_end h = ap (λ x. add_up x m) (none (drop i ps) (length-drop i ps ∙ omega arith))
+  add_end h = ap (λ x. add_up x m) (none (drop i ps) (length-drop i ps ∙ omega arith)) ∙ add_none m
 
 -- ---- lengths
 
@@ -129,17 +139,16 @@ polygon-long p =
 
 pub polygons-long : (ps : List (List ℕ)) (rs : List Float) (qs : List (List ℤ)) → length ps ≡ length rs → add_up ps (length qs) ≡ true
     → length (flat_map polygon_bytes (polygons_of ps rs qs)) ≡ 16 * length ps + 16 * length qs
-unfolding polygons_of add_up
-polygons-long [] rs qs h e = let z = eqb-true (length qs) 0 e in omega arith
+unfolding polygons_of
+polygons-long [] rs qs h e = let z = none_left [] (length qs) refl e in omega arith
 polygons-long (p ∷ ps) [] qs h e = absurd (omega arith)
 polygons-long (p ∷ ps) (r ∷ rs) qs h e =
-    let b = and_both (leb (count_of p) (length qs)) (add_up ps (length qs - count_of p)) e in
-    let k = leb-true (count_of p) (length qs) b.0 in
+    let f = count_fits p ps (length qs) e in
     let d = length-drop (count_of p) qs in
     let x : Polygon = record { layer = get_or p 0 0; component = get_or p 1 0; sheet = sheet_bits r; points = ring_of (take (count_of p) qs) } in
-    let n : length x.points ≡ count_of p = length-map (take (count_of p) qs) _ ∙ length-take-le (count_of p) qs k in
-    let i = polygons-long ps rs (drop (count_of p) qs) (omega arith) (ap (add_up ps) d ∙ b.1) in
-    length-append (polygon_bytes x) (flat_map polygon_bytes (polygons_of ps rs (drop (count_of p) qs))) ∙ omega (arith, polygon-long x, n, i, d)
+    let n : length x.points ≡ count_of p = length-map (take (count_of p) qs) _ ∙ length-take-le (count_of p) qs f.0 in
+    let i = polygons-long ps rs (drop (count_of p) qs) (omega arith) (ap (add_up ps) d ∙ f.1) in
+    length-append (polygon_bytes x) (flat_map polygon_bytes (polygons_of ps rs (drop (count_of p) qs))) ∙ omega (arith, polygon-long x, n, i, d, f.0)
 
 -- ---- entries and points, turn by turn
 

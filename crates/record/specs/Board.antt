@@ -1,6 +1,7 @@
 -- The rules' board record: one description of each field, over what a version allows.
 use Rattle.std.specs.Prelude.{ℕ, ◌-◌, ◌^◌, List, ◌∷◌, ◌++◌, length, Bool, true, Option, Some, None}
 use Rattle.std.specs.Prelude.{nat_le, nat_lt, ◌==◌, Result, Ok, Err, ℤ, if◌then◌else◌}
+use Rattle.std.specs.Option.{option_map_or}
 use Rattle.std.specs.Int.{w8, w16, w32, w64, to_be_bytes}
 use Rattle.refusals.specs.declared.Refusal.{Refusal}
 use Rattle.refusals.specs.declared.Refusal.TheVariants.{WrongVersion, WrongLength, OutOfRange}
@@ -74,8 +75,7 @@ settings l =
 
 -- "layer numbers rising strictly": above the last one, if there is one
 abbrev pub is_above : Option ℕ → ℕ → Bool
-is_above None n = true
-is_above (Some last) n = nat_lt last n
+is_above last n = option_map_or (λ l. nat_lt l n) last true
 
 abbrev pub layer : Option ℕ → Codec ℕ
 layer last = tested (is_above last) (any w16)

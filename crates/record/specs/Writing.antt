@@ -1,6 +1,6 @@
 -- What `write` says and does.
 use Rattle.std.specs.Prelude.{ℕ, ◌+◌, ◌*◌, ◌-◌, ◌^◌, Bool, ◌&&◌, ◌==◌, nat_le, List, [], ◌∷◌, map, length, take, drop}
-use Rattle.std.specs.Prelude.{slice_index_or, ℤ, pos, Float, Result, if◌then◌else◌}
+use Rattle.std.specs.Prelude.{scan, zip, sum_by, slice_index_or, ℤ, pos, Float, Result, if◌then◌else◌}
 use Rattle.std.specs.Float.Ieee as Ieee
 use Rattle.std.specs.Float.{binary64}
 use Rattle.std.specs.Float.Ieee.{to_bits}
@@ -36,23 +36,23 @@ sheet_bits r = if Ieee.eq r r then to_bits binary64 r else 0
 abbrev pub count_of : List ℕ → ℕ
 count_of row = slice_index_or row 2 0
 
--- each polygon takes its points from the front of those that are left
-unfoldable pub polygons_of : List (List ℕ) → List Float → List (List ℤ) → List Polygon
-polygons_of [] rs qs = []
-polygons_of (p ∷ ps) [] qs = []
-polygons_of (p ∷ ps) (r ∷ rs) qs =
+-- a polygon's row and its r_sheet, with its points from the front of those that are left
+abbrev pub polygon_from : List (List ℤ) → List ℕ × Float → Polygon
+polygon_from left p =
     record {
-      layer = slice_index_or p 0 0;
-      component = slice_index_or p 1 0;
-      sheet = sheet_bits r;
-      points = ring_of (take (count_of p) qs);
+      layer = slice_index_or p.0 0 0;
+      component = slice_index_or p.0 1 0;
+      sheet = sheet_bits p.1;
+      points = ring_of (take (count_of p.0) left);
     }
-    ∷ polygons_of ps rs (drop (count_of p) qs)
+
+-- each leaves the others what is behind its own
+unfoldable pub polygons_of : List (List ℕ) → List Float → List (List ℤ) → List Polygon
+polygons_of ps rs qs = scan (λ left p. drop (count_of p.0) left) polygon_from qs (zip ps rs)
 
 -- whether the point counts add up to the points
 unfoldable pub add_up : List (List ℕ) → ℕ → Bool
-add_up [] n = n == 0
-add_up (p ∷ ps) n = nat_le (count_of p) n && add_up ps (n - count_of p)
+add_up ps n = sum_by count_of ps == n
 
 abbrev pub board_of : Settings → Rows → Board
 board_of g rows =

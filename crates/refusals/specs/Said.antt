@@ -1,5 +1,5 @@
 -- What a call says, in the rules' terms: accepted, with its values, or refused, with a number and a place.
-use Rattle.std.specs.Prelude.{ℕ, Bool, true, false, List, Result, Ok, Err}
+use Rattle.std.specs.Prelude.{ℕ, Bool, true, false, List, ◌++◌, length, drop, Result, Ok, Err}
 use Rattle.refusals.specs.declared.Refusal.{Refusal}
 use Rattle.refusals.specs.declared.Refusal.TheVariants.{WrongVersion, WrongLength, OutOfRange, Slanted, UnevenCell}
 use Rattle.refusals.specs.declared.Refusal.TheVariants.{NoRoom, BadTable, NoSuchCell, AlreadySplit, FinestLevel}
@@ -34,6 +34,10 @@ is_accepted (refused number place) = false
 abbrev pub if_accepted : {A : Type 0} → Said → A → A → A
 if_accepted (accepted values) new old = new
 if_accepted (refused number place) new old = old
+
+-- a row written from its front: what is new, and behind it what stood there
+abbrev pub written : {A : Type 0} → List A → List A → List A
+written new old = new ++ drop (length new) old
 
 -- yes and no as a value of an accepted call
 abbrev pub bit : Bool → ℕ

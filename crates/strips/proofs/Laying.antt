@@ -1,5 +1,5 @@
 -- Strips written one after another from the front of a row. Assumes nothing.
-use Rattle.std.proofs.Common.{ℕ, suc, ◌+◌, ◌<◌, ◌≤◌, ◌≡◌, refl, sym, ap, ◌∙◌, List, [], ◌∷◌, append_assoc, arith, add-one, ℤ, length, drop, set, take-append-drop, take-suc-set, drop-set-lt, drop-drop, true, leb-true}
+use Rattle.std.proofs.Common.{ℕ, suc, ◌+◌, ◌<◌, ◌≤◌, ◌≡◌, refl, sym, ap, ◌∙◌, List, [], ◌∷◌, map, append_assoc, arith, add-one, ℤ, length, drop, set, take-append-drop, take-suc-set, drop-set-lt, drop-drop, true, leb-true}
 use Rattle.strips.proofs.Picking.{all_below}
 use Rattle.cell.proofs.Contact.{and_left}
 use Rattle.refusals.specs.Limits.{max_points}
@@ -10,8 +10,9 @@ use Rattle.strips.specs.declared.walk.Strip.{Strip}
 pub laid_one : (out : List (List ℤ)) (k : ℕ) (s : Strip) (ss : List Strip) → k < length out → laying (set out k (strip_row s)) (k + 1) ss ≡ laying out k (s ∷ ss)
 unfolding laid
 laid_one out k s ss h =
-    let q : suc k + length ss ≡ k + suc (length ss) = omega arith in
-    let e : drop (length ss) (drop (suc k) out) ≡ drop (suc (length ss)) (drop k out) = drop-drop (length ss) (suc k) out ∙ ap (λ (n : ℕ). drop n out) q ∙ sym (drop-drop (suc (length ss)) k out) in
+    let n = length (map strip_row ss) in
+    let q : suc k + n ≡ k + suc n = omega arith in
+    let e : drop n (drop (suc k) out) ≡ drop (suc n) (drop k out) = drop-drop n (suc k) out ∙ ap (λ (i : ℕ). drop i out) q ∙ sym (drop-drop (suc n) k out) in
     rw (add-one k, take-suc-set out k (strip_row s) h, drop-set-lt (suc k) out k (strip_row s) (omega arith), append_assoc, e) refl
 
 pub laid_none : (out : List (List ℤ)) (k : ℕ) → laying out k [] ≡ out

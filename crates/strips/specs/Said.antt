@@ -3,7 +3,7 @@ use Rattle.std.specs.Prelude.{ℕ, List, [], ◌∷◌, ◌++◌, map, length, t
 use Rattle.std.specs.Prelude.{if◌then◌else◌, nat_lt}
 use Rattle.refusals.specs.declared.Refusal.{Refusal}
 pub use Rattle.refusals.specs.Said.{if_accepted}
-use Rattle.refusals.specs.Said.{Said, accepted, refused, refusal, said}
+use Rattle.refusals.specs.Said.{Said, accepted, refused, refusal, said, written}
 use Rattle.cell.specs.Ticks.{on}
 use Rattle.strips.specs.Rings.{ring_in_range, ring_slants}
 use Rattle.strips.specs.Strips.{strips_of}
@@ -37,7 +37,7 @@ strips_says ps room = judged 0 ps (counted (length (strips_of ps)) room)
 
 -- strips at the front of a row, and behind them what the row held
 unfoldable pub laid : List Strip → List (List ℤ) → List (List ℤ)
-laid ss row = map strip_row ss ++ drop (length ss) row
+laid ss row = written (map strip_row ss) row
 
 -- the row below k, and the strips from k on
 abbrev pub laying : List (List ℤ) → ℕ → List Strip → List (List ℤ)

@@ -1,5 +1,5 @@
 -- The rules' "Rings to roots", as far as the strips.
-use Rattle.std.specs.Prelude.{ℕ, ◌&&◌, List, [], ◌∷◌, ◌++◌, map, length, ℤ, if◌then◌else◌, nat_eq, nat_lt}
+use Rattle.std.specs.Prelude.{ℕ, ◌&&◌, List, [], ◌∷◌, map, length, drop, zip, flat_map, ℤ, if◌then◌else◌, nat_eq, nat_lt}
 use Rattle.std.specs.List.{dedup, filter, range_with_len}
 use Rattle.strips.specs.Sorted.{sorted}
 use Rattle.strips.specs.Rings.{x_at, y_at, edge_at, vertical, reaches}
@@ -23,11 +23,13 @@ pair_up lo hi (a ∷ b ∷ l) =
     if nat_lt a b then record { x0 = a; y0 = lo; x1 = b; y1 = hi } ∷ pair_up lo hi l
     else pair_up lo hi l
 
+-- the bands between neighbouring levels of a list
+abbrev pub bands : List ℕ → List (ℕ × ℕ)
+bands levels = zip levels (drop 1 levels)
+
 -- the strips of the bands that a list of levels bounds: by band, then left to right
 unfoldable pub banded : List (List ℤ) → List ℕ → List Strip
-banded ps [] = []
-banded ps (lo ∷ []) = []
-banded ps (lo ∷ hi ∷ l) = pair_up lo hi (crossings ps lo hi) ++ banded ps (hi ∷ l)
+banded ps levels = flat_map (λ b. pair_up b.0 b.1 (crossings ps b.0 b.1)) (bands levels)
 
 -- "fewer than 3 points": none
 unfoldable pub strips_of : List (List ℤ) → List Strip

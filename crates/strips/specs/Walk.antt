@@ -3,11 +3,11 @@
 use Rattle.std.specs.Prelude.{ℕ, ◌+◌, ◌*◌, ◌/◌, ◌%◌, ◌<◌, ◌≤◌, ◌≡◌, ◌⊎◌, Bool, ◌&&◌, List, [], ◌∷◌, ◌++◌, map}
 use Rattle.std.specs.Prelude.{length, take, drop, ℤ, Option, None, Some, if◌then◌else◌, nat_lt, slice_index}
 use Rattle.refusals.specs.Limits.{coordinate, max_points}
-use Rattle.std.specs.List.{filter, range_with_len}
+use Rattle.std.specs.List.{filter, flat_map, range_with_len}
 use Rattle.strips.specs.Sorted.{sorted}
 use Rattle.strips.specs.Rings.{x_at, y_at, after, edge_at, vertical, reaches}
 use Rattle.strips.specs.Levels.{level_at, crosses}
-use Rattle.strips.specs.Strips.{levels, pair_up}
+use Rattle.strips.specs.Strips.{levels, pair_up, bands}
 use Rattle.strips.specs.declared.walk.Strip.{Strip}
 use Rattle.strips.specs.declared.walk.Step.{Step}
 
@@ -78,9 +78,7 @@ FindsPair ps lo hi es j (Some pair) = IsNextPair ps lo hi es j pair.0 pair.1
 
 -- the strips of all bands between neighbouring heights
 unfoldable pub walked : List (List ℤ) → List ℕ → List ℕ → List Strip
-walked ps es [] = []
-walked ps es (lo ∷ []) = []
-walked ps es (lo ∷ hi ∷ hs) = pair_up lo hi (crossed ps lo hi es) ++ walked ps es (hi ∷ hs)
+walked ps es hs = flat_map (λ b. pair_up b.0 b.1 (crossed ps b.0 b.1 es)) (bands hs)
 
 -- the strips that are left where the first band has got as far as the edge at j
 unfoldable pub left : List (List ℤ) → List ℕ → ℕ → List ℕ → List Strip

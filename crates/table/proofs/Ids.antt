@@ -5,7 +5,7 @@ use lib.Seq.{sets, sets-eq}
 use Rattle.std.specs.List.{range_with_len, flat_map}
 use Rattle.std.proofs.lemmas.List.Elements.{filter-append}
 use Rattle.std.proofs.lemmas.Grind.{flat_map-append}
-use Rattle.table.specs.Leaves.{written}
+use Rattle.refusals.specs.Said.{written}
 use Rattle.table.proofs.All.{top?}
 
 -- ---- what one number more of a range adds
@@ -16,7 +16,7 @@ range_more a (suc n) =
     let e : a + 1 + n ≡ a + suc n = omega arith in
     ap (λ (l : List ℕ). a ∷ l) (range_more (a + 1) n ∙ ap (λ (k : ℕ). range_with_len (a + 1) n ++ (k ∷ [])) e)
 
-range-last : (n : ℕ) → range_with_len 0 (suc n) ≡ range_with_len 0 n ++ (n ∷ [])
+pub range-last : (n : ℕ) → range_with_len 0 (suc n) ≡ range_with_len 0 n ++ (n ∷ [])
 range-last n = range_more 0 n ∙ ap (λ (k : ℕ). range_with_len 0 n ++ (k ∷ [])) (zero-add n)
 
 pub flat_map_more : (f : ℕ → List ℕ) (n : ℕ) → flat_map f (range_with_len 0 (suc n)) ≡ flat_map f (range_with_len 0 n) ++ f n
@@ -76,7 +76,6 @@ ids-same f g (suc n) h =
     rw (ids-more f n, ids-more g n, ids-same f g n (λ i l. h i (omega arith)), h n (omega arith))
 
 pub sets-written : (out ids : List ℕ) → length ids ≤ length out → sets out 0 ids ≡ written ids out
-unfolding written
 sets-written out ids h =
     let e : 0 + length ids ≡ length ids = omega arith in
     subst (λ (k : ℕ). sets out 0 ids ≡ ids ++ drop k out) e (sets-eq ids out 0 (omega arith))

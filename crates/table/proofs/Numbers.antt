@@ -1,7 +1,7 @@
 -- Laws of the numbers of a slot. Assumes nothing.
-use Rattle.std.proofs.Common.{ℕ, ◌≤◌, ◌≡◌, refl, ap, subst, true, arith, ℤ, pos, negsuc, nat_abs, eqb-true, eq-eqb}
-use mathlib.Core.Bool.{false≢true}
+use Rattle.std.proofs.Common.{ℕ, ◌≤◌, ◌≡◌, refl, true, arith, ℤ, pos, negsuc, nat_abs}
 use Rattle.std.specs.Int.{int_max}
+use Rattle.std.proofs.lemmas.Bool.Decides.{Decides-int_eq}
 use Rattle.table.specs.Slots.{counted, kept, same_z}
 
 pub counted-kept : (n : ℕ) → n ≤ 9223372036854775807 → counted (kept n) ≡ n
@@ -17,14 +17,9 @@ counted_max (negsuc n) = refl
 -- ---- the test of two numbers
 
 pub same_true : (a b : ℤ) → same_z a b ≡ true → a ≡ b
-same_true (pos a) (pos b) e = ap pos (eqb-true a b e)
-same_true (pos a) (negsuc b) e = absurd (false≢true e)
-same_true (negsuc a) (pos b) e = absurd (false≢true e)
-same_true (negsuc a) (negsuc b) e = ap negsuc (eqb-true a b e)
-
-same_self : (a : ℤ) → same_z a a ≡ true
-same_self (pos a) = eq-eqb a a refl
-same_self (negsuc a) = eq-eqb a a refl
+unfolding same_z
+same_true a b = (Decides-int_eq a b).0
 
 pub true_same : (a b : ℤ) → a ≡ b → same_z a b ≡ true
-true_same a b e = subst (λ (z : ℤ). same_z a z ≡ true) e (same_self a)
+unfolding same_z
+true_same a b = (Decides-int_eq a b).1

@@ -1,11 +1,12 @@
 -- What the code reads of a slot, as the cells have it, and how a walk over the leaves goes on. Assumes nothing.
-use Rattle.std.proofs.Common.{◌≡◌, ℕ, zero, suc, ◌+◌, ◌-◌, ◌/◌, ◌<◌, ◌≤◌, Bool, true, false, cond, List, ◌∷◌, ℤ, length, filter, refl, sym, ap, ◌∙◌, arith, eqb, is_none}
+use Rattle.std.proofs.Common.{◌≡◌, ℕ, zero, suc, ◌+◌, ◌-◌, ◌/◌, ◌<◌, ◌≤◌, Bool, true, false, cond, List, ◌∷◌, ℤ, length, filter, refl, sym, ap, ◌∙◌, arith, eqb, is_none, Some, None}
+use Rattle.std.specs.Prelude.{if◌then◌else◌}
 use Rattle.std.specs.List.{range_with_len}
 use Rattle.refusals.specs.Limits.{widest_level, max_slots}
 use Rattle.cell.specs.Cells.{no_cell}
 use Rattle.table.specs.declared.Head.{Head}
 use Rattle.table.specs.Slots.{cell_at}
-use Rattle.table.specs.Mesh.{Cell, at, table, is_leaf, opt, opt_if}
+use Rattle.table.specs.Mesh.{Cell, at, table, is_leaf, opt}
 use Rattle.table.specs.Leaves.{leaf_at}
 use Rattle.table.specs.Rows.{IsTable}
 use Rattle.table.proofs.Cells.{at_table}
@@ -16,9 +17,9 @@ pub table_bounds : (row : List ℤ) (head : Head) → IsTable row head
     → IsTable row head × (head.count ≤ length row / 8) × (length row / 8 ≤ max_slots) × (head.max_level ≤ widest_level)
 table_bounds row head e = let s = formed-shape row head.count head.max_level e in (e, s.count, s.slots, s.range)
 
-is_none-opt_if : (b : Bool) (v : ℕ) → is_none (opt_if b v) ≡ b
-is_none-opt_if true v = refl
-is_none-opt_if false v = refl
+is_none-if : (b : Bool) (v : ℕ) → is_none (if b then None else Some v) ≡ b
+is_none-if true v = refl
+is_none-if false v = refl
 
 module _ (t : List ℤ) (n i : ℕ) (inside : i < n) where
   pub level_read : (cell_at t i).level ≡ (at (table t n) i).level
@@ -32,7 +33,7 @@ module _ (t : List ℤ) (n i : ℕ) (inside : i < n) where
 
   pub leaf_read : leaf_at t i ≡ is_leaf (table t n) i
   unfolding leaf_at
-  leaf_read = sym (is_none-opt_if (eqb (cell_at t i).first no_cell) (cell_at t i).first) ∙ ap is_none kids_read
+  leaf_read = sym (is_none-if (eqb (cell_at t i).first no_cell) (cell_at t i).first) ∙ ap is_none kids_read
 
 -- what the polygon of a leaf is read from
 pub ruleset runs_read = (leaf_read, polygon_read)

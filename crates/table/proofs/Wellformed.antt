@@ -1,15 +1,17 @@
 -- The test of well-formedness says yes exactly if the rules' definition holds. Assumes nothing.
-use Rattle.std.proofs.Common.{ℕ, zero, suc, ◌+◌, ◌*◌, ◌-◌, ◌/◌, ◌%◌, ◌^◌, ◌<◌, ◌≤◌, ◌≡◌, refl, sym, ap, subst, ◌∙◌, Bool, true, false, ◌&&◌, cond, None, Some, List, ◌≢◌, arith, add-one, div-add-mod', suc-mul, zero-mul, ltb, leb, eqb, ℤ, pos, negsuc, nat_abs, length, get_or, ltb-true, leb-true, eqb-true, lt-ltb, le-leb, eq-eqb, ne_eqb}
+use Rattle.std.proofs.Common.{ℕ, zero, suc, ◌+◌, ◌*◌, ◌-◌, ◌/◌, ◌%◌, ◌^◌, ◌<◌, ◌≤◌, ◌≡◌, refl, sym, ap, subst, ◌∙◌, Bool, true, false, ◌&&◌, cond, None, Some, List, ◌≢◌, arith, add-one, div-add-mod', suc-mul, zero-mul, ltb, leb, eqb, ℤ, pos, length, get_or, ltb-true, leb-true, eqb-true, lt-ltb, le-leb, eq-eqb, ne_eqb}
 use native.Mathlib.Nat.{mul-mod_left, one-le-pow}
 use borrow.Author.Tests.{eqb-false}
+use Rattle.std.specs.Prelude.{if◌then◌else◌}
 use Rattle.refusals.specs.Limits.{max_slots}
 use Rattle.cell.specs.Boxes.{Box, Quad, sw, se, nw, ne, num, quad_at, quadrant}
 use Rattle.cell.specs.declared.Cell as Held
 use Rattle.cell.specs.Cells.{no_cell, box_of, child_of}
 use Rattle.table.specs.Slots.{cell_at}
-use Rattle.table.specs.Mesh.{Cell, at, table, opt, opt_if, mesh_cell}
+use Rattle.table.specs.Mesh.{Cell, at, table, opt, mesh_cell}
 use Rattle.table.specs.Formed.{Kid, Split, Born, Root, Formed, WellFormed, rest_zero, side_ok, root_ok, born_ok, same_but, kid_ok, kids_ok, place_ok, well_formed}
 use Rattle.table.proofs.All.{and_left, and_right, and_both}
+use Rattle.table.proofs.Numbers.{same_true, true_same}
 use Rattle.table.proofs.Zeros.{zeros, of-zeros}
 use Rattle.table.proofs.Shape.{of-shape, formed-shape}
 use Rattle.table.proofs.Facts.{CellFacts, formed-cell, formed-rest, parts-formed}
@@ -19,10 +21,10 @@ use Rattle.table.proofs.Meshes.{not_some, some_is, num-below, kids-in, root_in}
 -- ---- small laws
 
 pub opt-some : (v : ℕ) → v ≢ no_cell → opt v ≡ Some v
-opt-some v h = ap (λ (b : Bool). opt_if b v) (ne_eqb v no_cell h)
+opt-some v h = ap (λ (b : Bool). if b then None else Some v) (ne_eqb v no_cell h)
 
 pub opt_none : (v : ℕ) → v ≡ no_cell → opt v ≡ None
-opt_none v h = ap (λ (b : Bool). opt_if b v) (eq-eqb v no_cell h)
+opt_none v h = ap (λ (b : Bool). if b then None else Some v) (eq-eqb v no_cell h)
 
 pub some-opt : (v f : ℕ) → opt v ≡ Some f → (v ≡ f) × (v ≢ no_cell)
 some-opt v f e = by (eqb v no_cell) refl
@@ -52,10 +54,6 @@ quad-num ne = refl
 
 -- what the code that puts a child needs
 pub ruleset quadrants = (quad-num, num-below)
-
-no-magnitude : (z : ℤ) → nat_abs z ≡ 0 → z ≡ pos 0
-no-magnitude (pos n) e = ap pos e
-no-magnitude (negsuc n) e = absurd (omega arith)
 
 -- ---- a root's sides
 
@@ -301,13 +299,11 @@ module _ (t : List ℤ) (n M : ℕ) (small : n ≤ max_slots) where
 module _ (t : List ℤ) (n : ℕ) where
   pub rest-facts : rest_zero t n ≡ true → (j : ℕ) → n * 8 ≤ j → j < length t → get_or t j (pos 0) ≡ pos 0
   unfolding rest_zero
-  rest-facts e j l h =
-      let z = zeros t (n * 8) (length t - n * 8) e j l (omega arith) in
-      no-magnitude (get_or t j (pos 0)) (eqb-true (nat_abs (get_or t j (pos 0))) 0 z)
+  rest-facts e j l h = same_true (get_or t j (pos 0)) (pos 0) (zeros t (n * 8) (length t - n * 8) e j l (omega arith))
 
   pub facts-rest : ((j : ℕ) → n * 8 ≤ j → j < length t → get_or t j (pos 0) ≡ pos 0) → rest_zero t n ≡ true
   unfolding rest_zero
-  facts-rest f = of-zeros t (n * 8) (length t - n * 8) (λ j l h. ap (λ (z : ℤ). eqb (nat_abs z) 0) (f j l (omega arith)))
+  facts-rest f = of-zeros t (n * 8) (length t - n * 8) (λ j l h. true_same (get_or t j (pos 0)) (pos 0) (f j l (omega arith)))
 
 module _ (t : List ℤ) (n M : ℕ) where
   pub facts-cells : n ≤ max_slots → ((i : ℕ) → i < n → CellFacts t n M i) → Formed M (table t n)

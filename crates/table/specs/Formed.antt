@@ -1,13 +1,13 @@
 -- The rules' "Well-formed table", clause by clause; and the test whose answer the code gives, which holds exactly if
 -- the definition does (proofs/Wellformed.antt). How the code comes to that answer is in Walk.antt.
 use Rattle.std.specs.Prelude.{ℕ, suc, ◌+◌, ◌*◌, ◌-◌, ◌/◌, ◌%◌, ◌^◌, ◌<◌, ◌≤◌, ◌≡◌, Bool, true, ◌&&◌, List, ℤ, pos}
-use Rattle.std.specs.Prelude.{nat_abs, length, None, Some, ◌==◌, if◌then◌else◌, nat_lt, nat_le, slice_index_or}
+use Rattle.std.specs.Prelude.{length, None, Some, ◌==◌, if◌then◌else◌, nat_lt, nat_le, slice_index_or}
 use Rattle.std.specs.List.{list_all, range_with_len}
 use Rattle.refusals.specs.Limits.{widest_level, max_slots, max_polygons}
 use Rattle.cell.specs.Boxes.{Quad, num, quadrant, quad_at}
 use Rattle.cell.specs.declared.Cell as Held
 use Rattle.cell.specs.Cells.{no_cell, child_of}
-use Rattle.table.specs.Slots.{cell_at, in_slot}
+use Rattle.table.specs.Slots.{same_z, cell_at, in_slot}
 use Rattle.table.specs.Mesh.{Cell, at, table}
 
 -- ---- the definition
@@ -68,7 +68,7 @@ pub record WellFormed (t : List ℤ) (n M : ℕ) : Type 0 where
 -- ---- the test
 
 abbrev pub zero_at : List ℤ → ℕ → Bool
-zero_at t j = nat_abs (slice_index_or t j (pos 0)) == 0
+zero_at t j = same_z (slice_index_or t j (pos 0)) (pos 0)
 
 unfoldable pub rest_zero : List ℤ → ℕ → Bool
 rest_zero t n = list_all (zero_at t) (range_with_len (n * 8) (length t - n * 8))

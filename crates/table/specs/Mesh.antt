@@ -1,7 +1,8 @@
 -- The cells that a table holds, as the rules speak of them: no parent and no child are `none`, and there is no limit on
 -- room.
-use Rattle.std.specs.Prelude.{ℕ, zero, suc, Bool, true, false, List, [], ◌∷◌, ◌++◌, ℤ, length, Option, None, Some, ◌==◌}
-use Rattle.std.specs.Prelude.{slice_index_or, slice_set}
+use Rattle.std.specs.Prelude.{ℕ, suc, Bool, List, [], ◌∷◌, ◌++◌, map, ℤ, length, Option, None, Some, ◌==◌}
+use Rattle.std.specs.Prelude.{slice_index_or, slice_set, if◌then◌else◌}
+use Rattle.std.specs.List.{range_with_len}
 pub use Rattle.std.specs.Prelude.{is_none}
 use Rattle.cell.specs.Boxes.{Box, Quad, sw, se, nw, ne, quadrant}
 use Rattle.cell.specs.declared.Cell as Held
@@ -42,17 +43,12 @@ abbrev pub is_leaf : List Cell → ℕ → Bool
 is_leaf t i = is_none (at t i).kids
 
 -- the row's NO_CELL is `none`
-abbrev pub opt_if : Bool → ℕ → Option ℕ
-opt_if true v = None
-opt_if false v = Some v
-
 abbrev pub opt : ℕ → Option ℕ
-opt v = opt_if (v == no_cell) v
+opt v = if v == no_cell then None else Some v
 
 abbrev pub mesh_cell : Held.Cell → Cell
 mesh_cell c = record { box = box_of c; level = c.level; parent = opt c.parent; kids = opt c.first; polygon = c.poly }
 
 -- the cells of the row's first n slots
 unfoldable pub table : List ℤ → ℕ → List Cell
-table t zero = []
-table t (suc n) = table t n ++ (mesh_cell (cell_at t n) ∷ [])
+table t n = map (λ i. mesh_cell (cell_at t i)) (range_with_len 0 n)

@@ -1,7 +1,8 @@
 -- Cells in the slots of a lent row, eight numbers to a slot: x0 y0 x1 y1 level parent first-child polygon.
-use Rattle.std.specs.Prelude.{ℕ, ◌+◌, ◌*◌, ◌-◌, ◌^◌, min, Bool, false, ◌&&◌, List, ℤ, pos, negsuc, ◌==◌, slice_index_or}
+use Rattle.std.specs.Prelude.{ℕ, ◌+◌, ◌*◌, ◌-◌, ◌^◌, min, Bool, ◌&&◌, List, ℤ, pos, negsuc, slice_index_or}
 use Rattle.std.specs.Prelude.{slice_set}
 use Rattle.std.specs.Int.Signed.{non_neg}
+use Rattle.std.specs.Ordering.{int_eq}
 use Rattle.cell.specs.declared.Cell.{Cell}
 use Rattle.cell.specs.Ticks.{off, on, in_range}
 
@@ -14,11 +15,8 @@ unfoldable pub kept : ℕ → ℤ
 kept n = pos (min n (2 ^ 63 - 1))
 
 -- two numbers of the row are the same
-abbrev pub same_z : ℤ → ℤ → Bool
-same_z (pos a) (pos b) = a == b
-same_z (pos a) (negsuc b) = false
-same_z (negsuc a) (pos b) = false
-same_z (negsuc a) (negsuc b) = a == b
+unfoldable pub same_z : ℤ → ℤ → Bool
+same_z = int_eq
 
 -- the number at an index of slot i
 abbrev pub number : List ℤ → ℕ → ℕ → ℤ

@@ -95,6 +95,7 @@ pub fn poly_at(t: &[i64], i: usize) -> u64
 }
 
 /// Whether number j of the row is z, whatever the two are.
+#[tactic(auto, unfolding(crate::specs::Slots::same_z))]
 pub fn is_at(t: &[i64], j: usize, z: i64) -> bool
     requires { j < length t.now }
     ensures { result ≡ same_z (slice_index_or t.now j (pos 0)) z }

@@ -32,7 +32,7 @@ fn named(id: u64) -> Option<usize>
 }
 
 impl<'a> Table<'a> {
-    ghost use Rattle.table.specs.Leaves.{written};
+    ghost use Rattle.refusals.specs.Said.{written};
     ghost use Rattle.table.specs.Tables.{cells, leaves, order, leaves_left};
 
     /// The row as a table; none where it is not well formed.
@@ -106,7 +106,6 @@ impl<'a> Table<'a> {
     }
 
     /// The leaves by id, into the front of a row that has room for them.
-    #[tactic(auto, unfolding(crate::specs::Leaves::written))]
     pub fn list_leaves(&self, out: &mut [u64])
         requires { length (leaves self.now) ≤ length out.old }
         ensures { out.new ≡ written (leaves self.now) out.old }

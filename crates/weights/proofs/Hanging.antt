@@ -1,16 +1,17 @@
 -- The last node at a place, by a sorted row; and what cells ask for it.
-use Rattle.std.proofs.Common.{◌≡◌, ℕ, suc, ◌+◌, ◌-◌, ◌<◌, ◌≤◌, max, Bool, true, false, not, nat_eq, eqb, List, [], ◌∷◌, ◌++◌, length, get_or, set, drop, filter, slice_get, Option, None, Some, refl, sym, ap, ◌∙◌, subst, ⊎_elim, arith, length-drop, get_or-drop, ltb-true, lt-ltb, eqb-true, eq-eqb, if◌then◌else◌}
+use Rattle.std.proofs.Common.{◌≡◌, ℕ, suc, ◌+◌, ◌-◌, ◌<◌, ◌≤◌, max, Bool, true, false, not, nat_eq, eqb, List, [], ◌∷◌, ◌++◌, length, get_or, set, drop, filter, slice_get, Option, None, Some, refl, sym, ap, ◌∙◌, subst, ⊎_elim, arith, length-drop, get_or-drop, ltb-true, eqb-true, eq-eqb, if◌then◌else◌}
 use Rattle.std.specs.List.{starts_with}
 use Rattle.std.specs.Ordering.{is_lt, nat_cmp}
 use Rattle.std.specs.Cmp.Lexicographic.{slice_cmp}
 use Rattle.std.proofs.lemmas.Bool.{true≢false, cases_Bool, ne_eqb}
 use Rattle.std.proofs.lemmas.Bool.Decides.{nat_tests}
+use Rattle.std.proofs.lemmas.List.Folds.{list_any_at}
 use Rattle.std.proofs.lemmas.List.{get_or-set_same, get_or-set_other}
 use mathlib.Core.Logic.{by_cases}
 use native.Mathlib.Decide.{ℕ_discrete}
 use Rattle.sorted.proofs.Ends.{none_passes, found_passes, last_greatest}
-use Rattle.net.specs.Net.{find, has, MeshNode, NetCell, Way, same_place, nth, nowhere, is_last, gap, hung, extent, hangs_at, box_of, size_of}
-use Rattle.net.proofs.Find.{find-hit, find-at-most}
+use Rattle.net.specs.Net.{position_of, has, MeshNode, NetCell, Way, same_place, nth, nowhere, is_last, gap, hung, extent, hangs_at, box_of, size_of}
+use Rattle.net.proofs.Positions.{has-at, position-hit}
 use Rattle.net.proofs.Keys.{both, both_of, bool-ext}
 use Rattle.net.proofs.Last.{asks, hung-snoc}
 use Rattle.weights.specs.Lines.{place_of, entry_of, Lined, at, IsLast, LastIs, raised, Reaches}
@@ -75,20 +76,21 @@ module _ (ns : List MeshNode) (row : List (List ℕ)) (L : Lined ns row) (x y z 
 -- a later node at the place
 module _ (n : List MeshNode) (m : MeshNode) (i : ℕ) where
   later-yes : (j : ℕ) → i < j → j < length n → same_place (nth n j) m ≡ true → has same_place (drop (suc i) n) m ≡ true
+  unfolding has
   later-yes j h g e =
       let p : suc i + (j - suc i) ≡ j = omega arith in
-      let f = find-at-most same_place (drop (suc i) n) m nowhere (j - suc i) (ap (λ (z : MeshNode). same_place z m) (get_or-drop (suc i) n (j - suc i) nowhere ∙ ap (nth n) p) ∙ e) in
-      lt-ltb (find same_place (drop (suc i) n) m) (length (drop (suc i) n)) (omega (arith, length-drop (suc i) n))
+      list_any_at (λ (z : MeshNode). same_place z m) (drop (suc i) n) (j - suc i) nowhere (omega (arith, length-drop (suc i) n))
+      (ap (λ (z : MeshNode). same_place z m) (get_or-drop (suc i) n (j - suc i) nowhere ∙ ap (nth n) p) ∙ e)
 
   later-no : has same_place (drop (suc i) n) m ≡ true → (j : ℕ) × ((i < j) × (j < length n) × (same_place (nth n j) m ≡ true))
   later-no e =
-      let k = find same_place (drop (suc i) n) m in
-      let h = ltb-true k (length (drop (suc i) n)) e in (
+      let k = position_of same_place (drop (suc i) n) m in
+      let h = ltb-true k (length (drop (suc i) n)) (sym (has-at same_place (drop (suc i) n) m) ∙ e) in (
         suc i + k,
         (
           omega arith,
           omega (arith, length-drop (suc i) n),
-          ap (λ (z : MeshNode). same_place z m) (sym (get_or-drop (suc i) n k nowhere)) ∙ find-hit same_place (drop (suc i) n) m nowhere h,
+          ap (λ (z : MeshNode). same_place z m) (sym (get_or-drop (suc i) n k nowhere)) ∙ position-hit same_place (drop (suc i) n) m nowhere h,
         ),
       )
 

@@ -1,19 +1,23 @@
 -- The sides of cells by a sorted row: the first cell that has a pair of nodes, and so its sheet resistance.
 use Rattle.std.proofs.Common.{◌≡◌, ℕ, zero, suc, ◌+◌, ◌*◌, ◌/◌, ◌%◌, ◌<◌, min, max, Bool, true, false, nat_eq, List, [], ◌∷◌, map, length, get_or, slice_get, filter, Option, None, Some, refl, sym, ap, ◌∙◌, subst, ⊎_elim, arith, Contains, zero-add}
 use Rattle.std.specs.List.{range_with_len, starts_with}
+use Rattle.std.specs.Prelude.{option_map}
 use Rattle.std.specs.Ordering.{is_lt, nat_cmp}
 use Rattle.std.specs.Cmp.Lexicographic.{slice_cmp}
 use Rattle.std.proofs.lemmas.Bool.{true≢false, cases_Bool}
 use Rattle.std.proofs.lemmas.Bool.Decides.{nat_tests}
+use Rattle.std.proofs.lemmas.Option.{slice_get-get_or, slice_get_past}
 use Rattle.std.proofs.lemmas.List.{get_or_default}
+use Rattle.std.proofs.lemmas.List.Sums.{position_or_len_is}
+use Rattle.std.proofs.lemmas.List.Folds.{find_at}
 use Rattle.std.proofs.lemmas.List.FromFn.{length-map-range_with_len, get_or-map-range_with_len}
 use Rattle.std.proofs.lemmas.List.Elements.{All-from_get_or, Contains-get_or}
 use Rattle.std.proofs.lemmas.List.Sorted.{All-permutation, Contains-permutation}
 use Rattle.sorted.proofs.Ends.{none_passes, found_passes, first_least}
 use Rattle.net.specs.Net.{NetCell, pair_is, is_side, sheet_of}
 use Rattle.net.proofs.Keys.{either, left-of, right_of}
-use Rattle.net_rows.specs.Nets.{nth_cell, blank_cell}
-use Rattle.weights.specs.Sides.{round, pair_of, side_pair, side_of, side_entry, Sided, IsFirstCell, FirstCellIs}
+use Rattle.net_rows.specs.Nets.{nth_cell, blank_cell, pair_of}
+use Rattle.weights.specs.Sides.{round, side_pair, side_of, side_entry, Sided, IsFirstCell, FirstCellIs}
 use Rattle.weights.proofs.Order.{num, upto-entries}
 
 begins : (a b c d : ℕ) → starts_with nat_eq (a ∷ b ∷ c ∷ d ∷ []) (a ∷ b ∷ []) ≡ true
@@ -127,14 +131,15 @@ module _ (c : NetCell) (a b : ℕ) where
 -- the first of the list that has the pair
 sheet-none : (cs : List NetCell) (d : NetCell) (a b : ℕ) → ((u : ℕ) → u < length cs → is_side (get_or cs u d) a b ≡ false) → sheet_of cs a b ≡ None
 unfolding sheet_of
-sheet-none [] d a b h = refl
-sheet-none (c ∷ cs) d a b h = rw (h 0 (omega arith), sheet_of) (sheet-none cs d a b (λ u g. h (suc u) (omega arith)))
+sheet-none cs d a b h =
+    let k = position_or_len_is (λ c. is_side c a b) cs (length cs) d (omega arith) h (λ l. absurd (omega arith)) in
+    ap (option_map (λ c. c.sheet)) (find_at (λ c. is_side c a b) cs ∙ slice_get_past cs _ (omega arith))
 
 sheet-some : (cs : List NetCell) (d : NetCell) (a b v : ℕ) → v < length cs → is_side (get_or cs v d) a b ≡ true → ((u : ℕ) → u < v → is_side (get_or cs u d) a b ≡ false) → sheet_of cs a b ≡ Some (get_or cs v d).sheet
 unfolding sheet_of
-sheet-some [] d a b v h t f = absurd (omega arith)
-sheet-some (c ∷ cs) d a b zero h t f = rw (t, sheet_of) refl
-sheet-some (c ∷ cs) d a b (suc v) h t f = rw (f 0 (omega arith), sheet_of) (sheet-some cs d a b v (omega arith) t (λ u g. f (suc u) (omega arith)))
+sheet-some cs d a b v h t f =
+    let k = position_or_len_is (λ c. is_side c a b) cs v d (omega arith) f (λ l. t) in
+    ap (option_map (λ c. c.sheet)) (find_at (λ c. is_side c a b) cs ∙ ap (slice_get cs) k ∙ slice_get-get_or cs v d h)
 
 module _ (cs : List NetCell) (a b : ℕ) where
   no-side : (u : ℕ) → ((s : ℕ) → s < 4 → side_pair cs u s ≡ pair_of a b → ⊥) → is_side (nth_cell cs u) a b ≡ false

@@ -1,6 +1,7 @@
 -- Nodes on the lines of an axis, as entries of a row, and the extents of nodes along an axis. Definitions only.
-use Rattle.std.specs.Prelude.{◌≡◌, ℕ, Bool, ◌+◌, ◌-◌, ◌<◌, ◌≤◌, max, ◌&&◌, ◌==◌, nat_lt, if◌then◌else◌, List, [], ◌∷◌, map, length, slice_index, slice_index_or, slice_set, Option, None, Some, MatchOption, IsPermutation, IsSorted}
+use Rattle.std.specs.Prelude.{◌≡◌, ℕ, Bool, ◌+◌, ◌-◌, ◌<◌, ◌≤◌, max, ◌&&◌, ◌==◌, nat_lt, if◌then◌else◌, List, [], ◌∷◌, map, length, slice_index, slice_index_or, slice_set, Option, MatchOption, IsPermutation, IsSorted}
 use Rattle.std.specs.List.{range_with_len}
+use Rattle.std.specs.Option.{option_map_or}
 use Rattle.std.specs.Ordering.{nat_cmp}
 use Rattle.std.specs.Cmp.Lexicographic.{slice_cmp}
 use Rattle.net.specs.Net.{MeshNode, NetCell, Way, nth, turned, next_gap, prev_gap, extent}
@@ -81,8 +82,7 @@ Stepped ns steps =
 
 -- what becomes of extents of which a node's, where there is one, is to be no less than a size
 abbrev pub raised : List ℕ → Option ℕ → ℕ → List ℕ
-raised xs None s = xs
-raised xs (Some k) s = slice_set xs k (max (slice_index xs k) s)
+raised xs node s = option_map_or (λ k. slice_set xs k (max (slice_index xs k) s)) node xs
 
 -- the extents of the nodes one way
 abbrev pub Reaches : Way → List MeshNode → List NetCell → List ℕ → Type 0

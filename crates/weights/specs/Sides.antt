@@ -4,15 +4,12 @@ use Rattle.std.specs.List.{range_with_len}
 use Rattle.std.specs.Ordering.{nat_cmp}
 use Rattle.std.specs.Cmp.Lexicographic.{slice_cmp}
 use Rattle.net_rows.specs.declared.rows.Corners.{Corners}
-use Rattle.net_rows.specs.Nets.{nth_cell}
+use Rattle.net_rows.specs.Nets.{nth_cell, pair_of}
 use Rattle.net.specs.Net.{NetCell}
 
 -- the corners in their order, round the cell
 abbrev pub round : Corners → List ℕ
 round c = c.southwest ∷ c.southeast ∷ c.northeast ∷ c.northwest ∷ []
-
-abbrev pub pair_of : ℕ → ℕ → List ℕ
-pair_of a b = min a b ∷ max a b ∷ []
 
 -- corner s of cell v; side s goes from it to the next one
 abbrev pub corner_of : List NetCell → ℕ → ℕ → ℕ

@@ -1,5 +1,5 @@
 use Rattle.std.proofs.Common.{◌≡◌, ap, sym, ◌∙◌, arith, length}
-use Rattle.net_rows.specs.Written.{written}
+use Rattle.refusals.specs.Said.{written}
 use Rattle.bare_net.proofs.Nets.{nodes-many, cells-many, bare-nodes, bare-edges, bare-cells}
 use Rattle.bare_net.proofs.write_net.Goals as goal
 

@@ -4,14 +4,13 @@ use Rattle.std.proofs.lemmas.List.{ext_get_or, length-map, get_or-map}
 use Rattle.table.specs.Mesh.{at}
 use Rattle.table.specs.Rows.{order_in}
 use Rattle.table.specs.Tables.{cells}
-use Rattle.table.specs.Leaves.{written}
+use Rattle.refusals.specs.Said.{written}
 use Rattle.table.proofs.Listed.{order_in-length}
 use Rattle.places.specs.Leaves.{leaf_entry}
 use Rattle.places.proofs.Board.{order_below}
 use Rattle.places.proofs.list_leaves.Goals as goal
 
 written_at : (ids old out : List ℕ) → out ≡ written ids old → (j : ℕ) → j < length ids → get_or out j 0 ≡ get_or ids j 0
-unfolding written
 written_at ids old out e j h = ap (λ l. get_or l j 0) e ∙ get_or-append ids _ 0 j h
 
 pub leaf_entry-requires : goal.leaf_entry-requires

@@ -1,6 +1,6 @@
 use Rattle.std.proofs.Common.{◌+◌, ◌<◌, ◌≡◌, refl, ap, ◌∙◌, map, take, arith, length}
 use Rattle.std.proofs.lemmas.List.{take_all}
-use Rattle.net_rows.specs.Written.{written}
+use Rattle.refusals.specs.Said.{written}
 use Rattle.net_rows.specs.Nets.{blank_cell}
 use Rattle.net_rows.proofs.Written.{mapped_more}
 use Rattle.power.specs.Powers.{cell_slope, cell_power}

@@ -1,6 +1,6 @@
 -- The powers of the cells passed, and behind them what the row held.
 use Rattle.std.proofs.Common.{◌≤◌, ◌-◌, ◌≡◌, map, length, take}
-use Rattle.net_rows.specs.Written.{written}
+use Rattle.refusals.specs.Said.{written}
 use Rattle.power.specs.Powers.{cell_power}
 use Rattle.power.proofs.fill.Given as goal
 

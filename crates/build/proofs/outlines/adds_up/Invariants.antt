@@ -1,7 +1,6 @@
 -- What is left and the counts passed add up to the total.
-use Rattle.std.proofs.Common.{◌+◌, ◌≡◌}
-use Rattle.build.specs.Board.{sum_to}
+use Rattle.std.proofs.Common.{sum, take, ◌+◌, ◌≡◌}
 use Rattle.build.proofs.outlines.adds_up.Given as goal
 
 abbrev pub invariant-loop-count : goal.invariant-loop-count
-invariant-loop-count l = record { whole : sum_to l.counts l.count-index + l.left ≡ l.total }
+invariant-loop-count l = record { whole : sum (take l.count-index l.counts) + l.left ≡ l.total }

@@ -1,7 +1,6 @@
 use Rattle.std.proofs.Common.{◌+◌, length, arith, refl, sym}
 use Rattle.build.specs.Board.{board_of}
 use Rattle.build.proofs.Boards.{no-roots, length-roots-more, roots-mono, polygon-placed}
-use Rattle.build.proofs.Judging.{sum_none}
 use Rattle.build.proofs.Placing.{placed-none, room-down}
 use Rattle.build.proofs.put.put_all.Goals as goal
 
@@ -10,7 +9,7 @@ loop-p-init c =
     let a = c.args in
     let b = board_of a.board.now.settings a.board.now.list.now a.board.now.outlines in
     let e = no-roots b in
-    record { start = sym (sum_none b.counts); next = rw e refl; put = rw e (sym (placed-none a.t.now 0)) }
+    record { start = refl; next = rw e refl; put = rw e (sym (placed-none a.t.now 0)) }
 
 pub put_strips-k-requires : goal.put_strips-k-requires
 put_strips-k-requires c =

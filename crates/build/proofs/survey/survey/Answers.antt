@@ -1,7 +1,6 @@
 use Rattle.std.proofs.Common.{◌-◌, ◌≡◌, length, arith, rules, refl, sym, ◌∙◌, Err}
 use Rattle.build.specs.Board.{board_of}
 use Rattle.build.proofs.Boards.{no-roots, even-on, even-stop, even-end, count-more}
-use Rattle.build.proofs.Judging.{sum_none}
 use Rattle.build.proofs.Tallying.{none_from_err, some_from_ok}
 use Rattle.build.proofs.survey.survey.Goals as goal
 
@@ -11,7 +10,7 @@ loop-p-init c =
     let b = board_of a.board.now.settings a.board.now.list.now a.board.now.outlines in
     let e : length b.counts - 0 ≡ length b.counts = omega arith in
     record {
-      start = sym (sum_none b.counts);
+      start = refl;
       even = λ o. rw e refl;
       counted = rw (no-roots b) refl;
       fits = omega arith;

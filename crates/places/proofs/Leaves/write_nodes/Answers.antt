@@ -1,13 +1,14 @@
 use Rattle.std.proofs.Common.{◌≡◌, ◌*◌, ◌<◌, sym, ap, ap₂, ◌∙◌, length, get_or, set, map, arith, add-one}
 use Rattle.net_rows.specs.Nodes.{in_ticks}
-use Rattle.net_rows.specs.Written.{written}
+use Rattle.refusals.specs.Said.{written}
 use Rattle.net.specs.Net.{nth}
 use Rattle.net.specs.First.{rank, number_by}
 use Rattle.net.proofs.Weld.{rank-new, rank-old}
 use Rattle.places.specs.Places.{leaves_in, places_in, corner_count, firsts}
 use Rattle.places.proofs.Places.{leaves-length, count_is}
 use Rattle.places.proofs.Firsts.{firsts-length}
-use Rattle.places.proofs.Numbers.{numbers-length, number_at, next-new, next-old, nodes_to, nodes-length, nodes-new, nodes-old, corners_new, written-more}
+use Rattle.net_rows.proofs.Written.{written_more}
+use Rattle.places.proofs.Numbers.{numbers-length, number_at, next-new, next-old, nodes_to, nodes-length, nodes-new, nodes-old, corners_new}
 use Rattle.places.proofs.Leaves.write_nodes.Goals.{then-number-count, else-number-count}
 use Rattle.places.proofs.Leaves.write_nodes.Goals as goal
 
@@ -35,7 +36,7 @@ loop-i-preserved c =
             few = omega arith;
             nodes = w.nodes-is
                 ∙ ap₂ (λ l x. set l c.loop-i.count x) I.nodes (w.in_ticks.ensures ∙ ap in_ticks w.place.ensures)
-                ∙ written-more (nodes_to P i) c.args.nodes.now c.loop-i.count (in_ticks (nth P i)) (k ∙ sym (nodes-length P i)) (omega arith)
+                ∙ written_more (nodes_to P i) c.args.nodes.now c.loop-i.count (in_ticks (nth P i)) (k ∙ sym (nodes-length P i)) (omega arith)
                 ∙ ap (λ l. written l c.args.nodes.now) (sym (ap (nodes_to P) (add-one i) ∙ nodes-new P i new));
           }
       | else-number-count w ↦

@@ -1,6 +1,6 @@
 -- The new ones of the corners so far are written.
 use Rattle.std.proofs.Common.{◌≡◌, ◌≤◌}
-use Rattle.net_rows.specs.Written.{written}
+use Rattle.refusals.specs.Said.{written}
 use Rattle.net.specs.First.{rank}
 use Rattle.places.specs.Places.{places_in, firsts}
 use Rattle.places.proofs.Numbers.{nodes_to}

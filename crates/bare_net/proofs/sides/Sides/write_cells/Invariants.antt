@@ -1,6 +1,6 @@
 use Rattle.std.proofs.Common.{◌≡◌, map}
 use Rattle.std.specs.List.{range_with_len}
-use Rattle.net_rows.specs.Written.{written}
+use Rattle.refusals.specs.Said.{written}
 use Rattle.bare_net.specs.Sides.{cell_at}
 use Rattle.bare_net.proofs.sides.Sides.write_cells.Given as goal
 

@@ -1,12 +1,12 @@
 use Rattle.std.proofs.Common.{◌-◌, ◌≡◌, length, Err, arith, rules, refl, sym, ap, ◌∙◌}
 use Rattle.strips.specs.Said.{fault}
-use Rattle.build.proofs.Judging.{sum_none, judge-on, judge-end}
+use Rattle.build.proofs.Judging.{judge-on, judge-end}
 use Rattle.build.proofs.outlines.Outlines.judge.Goals as goal
 
 pub loop-p-init : goal.loop-p-init
 loop-p-init c =
     let e : length c.args.self.now.counts.now - 0 ≡ length c.args.self.now.counts.now = omega arith in
-    record { start = sym (sum_none c.args.self.now.counts.now); on = λ o. rw e refl }
+    record { start = refl; on = λ o. rw e refl }
 
 pub loop-p-preserved : goal.loop-p-preserved
 loop-p-preserved c =

@@ -13,6 +13,6 @@ returns c =
     ∙ length-take-le count (drop c.args.first o.points.now) (omega (arith, c.requires.starts_here, ends, left)) in
     record {
       points = ring-part o.counts.now o.points.now c.args.polygon _ _ c.requires.starts_here refl;
-      next = omega (arith, n, sum_more o.counts.now c.args.polygon, c.requires.starts_here);
+      next = omega (arith, n, sum_more o.counts.now c.args.polygon c.requires.inside, c.requires.starts_here);
       next_fits = omega (arith, n, ends, c.requires.starts_here);
     }

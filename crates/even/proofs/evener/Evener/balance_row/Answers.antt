@@ -2,7 +2,7 @@ use Rattle.std.proofs.Common.{arith, ap, sym, ◌∙◌}
 use Rattle.std.proofs.lemmas.Result.{err_from_is_err_and}
 use Rattle.table.specs.Mesh.{at, is_leaf}
 use Rattle.coarsest.specs.declared.Engine.TheVariants.{Balancing}
-use Rattle.coarsest.specs.Passes.{difference}
+use Rattle.coarsest.specs.Passes.{difference, with_each}
 use Rattle.coarsest.specs.Sweep.{row}
 use Rattle.coarsest.proofs.Loops.{no-leaf}
 use Rattle.coarsest.proofs.Rows.{row-none, row-shallow}
@@ -31,7 +31,7 @@ returns-then-not-is_leaf c =
     (on-start s))
 
 pub loop-from-init : goal.loop-from-init
-unfolding row
+unfolding row with_each
 loop-from-init c = (omega arith, on-start _)
 
 pub returns-then-stop-c : goal.returns-then-stop-c

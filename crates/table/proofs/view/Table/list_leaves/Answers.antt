@@ -4,7 +4,6 @@ use Rattle.std.proofs.lemmas.Grind.{elements}
 use Rattle.std.proofs.lemmas.Iterator.Consumers.{YieldsList-from_first, YieldsList-from_enumerate, YieldsList-turn, YieldsList-end}
 use Rattle.std.proofs.lemmas.List.{length-map, map-append}
 use Rattle.std.proofs.lemmas.List.FromFn.{length-enumerate_from, get_or-enumerate_from}
-use Rattle.table.specs.Leaves.{written}
 use Rattle.table.specs.Tables.{leaves, leaves_left}
 use Rattle.table.proofs.view.Table.list_leaves.Goals as goal
 
@@ -49,7 +48,6 @@ loop-place-preserved c =
     (YieldsList-turn road l.yielded _ l.yielded_by _ c.next.new.self (c.in-Some.place, c.in-Some.id) c.in-Some.is c.next.ensures.steps)
 
 pub returns : goal.returns
-unfolding written
 returns c =
     let l = c.loop-place in
     let all = leaves c.args.self.now in

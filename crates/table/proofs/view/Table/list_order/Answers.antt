@@ -1,5 +1,5 @@
 use Rattle.std.proofs.Common.{List, ℕ, arith, length, ap, ◌∙◌}
-use Rattle.table.specs.Leaves.{written}
+use Rattle.refusals.specs.Said.{written}
 use Rattle.table.proofs.Ids.{sets-written}
 use Rattle.table.proofs.Listed.{order_ids-in, order_in-length}
 use Rattle.table.proofs.view.Table.list_order.Goals as goal
@@ -13,5 +13,5 @@ pub returns : goal.returns
 returns c =
     let s = c.args.self.now in
     c.append_order.ensures
-    ∙ sets-written _ _ (omega (arith, order_in-length s.row.now s.head s.formed, ap length (order_ids-in s.row.now s.head)))
+    ∙ sets-written c.args.out.now _ (omega (arith, order_in-length s.row.now s.head s.formed, ap length (order_ids-in s.row.now s.head)))
     ∙ ap (λ (ids : List ℕ). written ids c.args.out.now) (order_ids-in s.row.now s.head)
