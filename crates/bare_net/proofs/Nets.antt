@@ -9,7 +9,7 @@ use Rattle.net.specs.Flat.{Leaf, leaves_from, flat_places, corners_in}
 use Rattle.net.proofs.Weld.{Keyed, length-news}
 use Rattle.net.proofs.Flat.{flat-nodes, flat-cells}
 use Rattle.places.specs.declared.Leaves.{Leaves}
-use Rattle.places.specs.Places.{leaves_in, places_in, corner_count, firsts, numbers_of, nodes_in}
+use Rattle.places.specs.Places.{leaves_in, places_in, corner_count, firsts, node_numbers, nodes_in}
 use Rattle.places.proofs.Places.{leaves-length, count_is}
 use Rattle.places.proofs.Firsts.{firsts-keyed}
 use Rattle.places.proofs.Numbers.{number_at, middle_first, nodes-from}
@@ -47,7 +47,7 @@ module _ (b : Leaves) (qs : List Piece) (are : leaves_in b ≡ leaves_from qs 0)
       ap (map in_ticks) (nodes-from qs ∙ ap (λ (z : List Leaf). weld same_node [] (flat_map corners_in z)) (sym are))
 
 module _ (s : Sides) (qs : List Piece) (are : leaves_in s.leaves ≡ leaves_from qs 0)
-    (numbered : s.numbers.now ≡ numbers_of (places_in s.leaves) (corner_count s.leaves)) (placed : s.middles.now ≡ drop (corner_count s.leaves) (firsts (places_in s.leaves))) where
+    (numbered : s.numbers.now ≡ node_numbers (places_in s.leaves) (corner_count s.leaves)) (placed : s.middles.now ≡ drop (corner_count s.leaves) (firsts (places_in s.leaves))) where
   number-here : (i : ℕ) → i < length s.numbers.now → get_or s.numbers.now i 0 ≡ number_by (fs s.leaves qs are) i
   number-here i h =
       let c = count_is s.leaves in

@@ -1,5 +1,5 @@
 -- The parts of the sides, of which the first of each polygon and pair is an edge. Definitions only.
-use Rattle.std.specs.Prelude.{ℕ, ◌*◌, min, max, List, [], ◌∷◌, length, map}
+use Rattle.std.specs.Prelude.{◌≡◌, ℕ, ◌*◌, ◌<◌, min, max, List, [], ◌∷◌, length, slice_index, map}
 use Rattle.std.specs.List.{range_with_len}
 use Rattle.net.specs.Net.{Edge, NetCell, weld}
 use Rattle.net.specs.First.{Part, part, same_part}
@@ -27,3 +27,12 @@ cells_in s = map (cell_at s) (range_with_len 0 (length s.leaves.entries.now))
 -- what tells parts apart: the polygon, and the two nodes, the lesser first
 abbrev pub key_of : (ℕ → Part) → ℕ → List ℕ
 key_of f j = (f j).piece ∷ min (f j).edge.from (f j).edge.to ∷ max (f j).edge.from (f j).edge.to ∷ []
+
+-- numbers of slots
+abbrev pub AreSlots : Sides → List ℕ → Type 0
+AreSlots s slots = (i : ℕ) → i < length slots → slice_index slots i < slot_count s
+
+-- slots whose parts weld to the same as those of all
+pub record AreListed (s : Sides) (slots : List ℕ) : Type 0 where
+  pub known : AreSlots s slots
+  pub alike : weld same_part [] (map (part_at s) slots) ≡ weld same_part [] (parts_in s)

@@ -1,6 +1,6 @@
 -- The sides of the leaves by the rows of the work room: whole, or in two halves where a node so far stands in the middle. Definitions only.
 use Rattle.std.specs.Prelude.{Bool, true, false, ◌&&◌, ℕ, zero, suc, ◌+◌, ◌*◌, ◌/◌}
-use Rattle.std.specs.Prelude.{◌%◌, ◌==◌, nat_lt, nat_le, if◌then◌else◌, length, slice_index, Option, None, Some, Float}
+use Rattle.std.specs.Prelude.{◌%◌, ◌==◌, nat_lt, nat_le, if◌then◌else◌, length, slice_index, Option, None, Some, is_none, Float}
 use Rattle.net.specs.Net.{Edge, NetCell, ◌·◌, ◌÷◌, One, Half, across, upright}
 use Rattle.net.specs.Flat as Flat
 use Rattle.places.specs.Leaves.{leaf_of, leaf_at}
@@ -70,6 +70,10 @@ abbrev pub half_edge : Bool → Option ℕ → ℕ → ℕ → Float → Edge
 half_edge second None a b r = record { from = a; to = b; conductance = One ÷ r }
 half_edge false (Some m) a b r = record { from = a; to = m; conductance = One ÷ (r · Half) }
 half_edge true (Some m) a b r = record { from = m; to = b; conductance = One ÷ (r · Half) }
+
+-- the second slot of a whole side: it has what the first has
+abbrev pub repeats : Sides → Slot → Bool
+repeats s j = j.second && is_none (node_so_far s j.leaf (middle_in s j.leaf j.side))
 
 -- the edge of a slot
 unfoldable pub edge_at : Sides → Slot → Edge

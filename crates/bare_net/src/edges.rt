@@ -1,13 +1,11 @@
 //! The rows of edges and cells.
-ghost use Rattle.std.specs.Prelude.{◌≡◌, ◌*◌, ◌<◌, ◌≤◌, [], length};
+ghost use Rattle.std.specs.Prelude.{◌≡◌, ◌≤◌, length, take};
 ghost use Rattle.refusals.specs.Said.{written};
-ghost use Rattle.sorted.specs.Firsts.{AreFirsts};
-ghost use Rattle.bare_net.specs.Edges.{slot_count, part_at, key_of, edges_in, cells_in};
+ghost use Rattle.bare_net.specs.Edges.{slot_count, edges_in, cells_in, AreListed};
 
-use crate::sides::{Sides, Slot, SlotEntry};
+use crate::parts::{PartEntry, Parts};
+use crate::sides::{Sides, Slot};
 use net_rows::{Edge, NetCell};
-use sorted::firsts::write_firsts;
-use sorted::sort_entries;
 
 impl Sides<'_> {
     pub fn slot_count(&self) -> usize
@@ -16,18 +14,17 @@ impl Sides<'_> {
         Slot::A_LEAF * self.leaves.entries.len()
     }
 
-    // The slots that are their own first. Returns how many there are.
-    fn put_edges(&self, firsts: &[u64], edges: &mut [Edge]) -> usize
-        requires a_first_each { length firsts.now ≡ slot_count self.now }
-        requires are_firsts { AreFirsts (key_of (part_at self.now)) firsts.now }
-        requires room { slot_count self.now ≤ length edges.old }
-        ensures count { result ≡ length (edges_in self.now) }
-        ensures row { edges.new ≡ written (edges_in self.now) edges.old }
+    // The slots into the front of a row, but none that has the whole side that the slot before it has. Returns how many
+    // there are: fewer are to be sorted.
+    fn list_slots(&self, slots: &mut [u64]) -> usize
+        requires room { slot_count self.now ≤ length slots.old }
+        ensures few { result ≤ slot_count self.now }
+        ensures listed { AreListed self.now (take result slots.new) }
     {
         let mut count = 0;
-        for (j, first) in firsts.iter().enumerate() {
-            if *first == j as u64 {
-                edges[count] = self.edge(Slot::of(j));
+        for j in 0..self.slot_count() {
+            if !self.repeats(Slot::of(j)) {
+                slots[count] = j as u64;
                 count += 1;
             }
         }
@@ -35,22 +32,27 @@ impl Sides<'_> {
     }
 
     /// The edges before the weights: the slots that are the first of their polygon and pair. Returns how many there
-    /// are. The entries and their keys are scratch.
+    /// are. The slots, their entries and their keys are scratch.
     pub fn write_edges(
         &self,
+        slots: &mut [u64],
         keys: &mut [u64],
-        entries: &mut [SlotEntry],
+        entries: &mut [PartEntry],
         edges: &mut [Edge],
     ) -> usize
-        requires a_key_each { length keys.old ≡ slot_count self.now }
-        requires an_entry_each { length entries.old ≡ slot_count self.now }
+        requires slots_room { slot_count self.now ≤ length slots.old }
+        requires keys_room { slot_count self.now ≤ length keys.old }
+        requires entries_room { slot_count self.now ≤ length entries.old }
         requires room { slot_count self.now ≤ length edges.old }
         ensures count { result ≡ length (edges_in self.now) }
         ensures row { edges.new ≡ written (edges_in self.now) edges.old }
     {
-        sort_entries(self, keys, entries);
-        write_firsts(self, entries, keys);
-        self.put_edges(keys, edges)
+        let count = self.list_slots(slots);
+        let parts = Parts {
+            sides: self,
+            slots: &slots[..count],
+        };
+        parts.write_edges(&mut keys[..count], &mut entries[..count], edges)
     }
 
     /// The cells, one a leaf.

@@ -10,6 +10,7 @@ ghost use Rattle.places.specs.Leaves.{AreKnown};
 ghost use Rattle.bare_net.specs.Nets.{bare_net, counted};
 
 mod edges;
+mod parts;
 mod sides;
 
 use net_rows::{Edge, NetCell, Node, Polygons};
@@ -66,9 +67,9 @@ pub fn write_net<'a>(
         numbers,
         middles,
     };
-    let (slot_entries, _) = rest.as_chunks_mut::<4>();
-    let slots = &mut slot_entries[..sides.slot_count()];
-    let edge_count = sides.write_edges(keys, slots, edges);
+    let (slots, rest) = rest.split_at_mut(8 * l);
+    let (entries, _) = rest.as_chunks_mut::<4>();
+    let edge_count = sides.write_edges(slots, keys, entries, edges);
     sides.write_cells(cells);
     Counts {
         nodes: node_count,

@@ -6,7 +6,6 @@ ghost use Rattle.places.specs.Places.{corner_count};
 use net_rows::{Corners, Edge, NetCell};
 use places::Leaves;
 use places::nodes::CORNERS_A_LEAF;
-use sorted::Entries;
 
 /// A side of a leaf.
 #[derive(Clone, Copy)]
@@ -36,9 +35,6 @@ pub struct Sides<'a> {
     ghost a_number_each: { length numbers.now ≡ corner_count leaves },
     ghost a_place_each: { length middles.now ≡ corner_count leaves },
 }
-
-/// A slot's polygon, its two nodes, the lesser first, and its number.
-pub type SlotEntry = [u64; 4];
 
 impl Side {
     ghost use Rattle.bare_net.specs.Sides.{index_of, from_corner, to_corner};
@@ -90,9 +86,10 @@ impl Slot {
 
 impl Sides<'_> {
     ghost use Rattle.places.specs.Leaves.{leaf_at, leaf_of};
-    ghost use Rattle.bare_net.specs.Sides.{leaf_in, corner_in, middle_in, node_so_far, resistance, edge_at, cell_at};
+    ghost use Rattle.bare_net.specs.Sides.{leaf_in, corner_in, middle_in, node_so_far, repeats, resistance};
+    ghost use Rattle.bare_net.specs.Sides.{edge_at, cell_at};
 
-    fn polygon(&self, v: usize) -> usize
+    pub fn polygon(&self, v: usize) -> usize
         requires { v < length self.now.leaves.entries.now }
         ensures value { result ≡ (leaf_in self.now v).piece }
         ensures has_sheet { result < length self.now.leaves.sheets.now }
@@ -137,9 +134,17 @@ impl Sides<'_> {
         }
     }
 
-    // The two nodes of a slot's edge.
+    /// Whether a slot has the whole side that the slot before it has.
+    pub fn repeats(&self, slot: Slot) -> bool
+        requires { slot.leaf < length self.now.leaves.entries.now }
+        ensures { result ≡ repeats self.now slot }
+    {
+        slot.second && self.middle(slot.leaf, slot.side).is_none()
+    }
+
+    /// The two nodes of a slot's edge.
     #[tactic(auto, unfolding(crate::specs::Sides::edge_at))]
-    fn ends(&self, slot: Slot) -> (usize, usize)
+    pub fn ends(&self, slot: Slot) -> (usize, usize)
         requires { slot.leaf < length self.now.leaves.entries.now }
         ensures { result ≡ ((edge_at self.now slot).from, (edge_at self.now slot).to) }
     {
@@ -192,25 +197,5 @@ impl Sides<'_> {
             },
             sheet: self.leaves.sheets[self.polygon(v)],
         }
-    }
-}
-
-impl Entries<4> for Sides<'_> {
-    ghost use Rattle.std.specs.Prelude.{◌++◌, [], ◌∷◌};
-    ghost use Rattle.bare_net.specs.Edges.{slot_count, part_at, key_of};
-
-    ghost count = { slot_count };
-
-    ghost entry = { λ s j. key_of (part_at s) j ++ j ∷ [] };
-
-    fn entry(&self, j: usize) -> SlotEntry {
-        let slot = Slot::of(j);
-        let (from, to) = self.ends(slot);
-        [
-            self.polygon(slot.leaf) as u64,
-            from.min(to) as u64,
-            from.max(to) as u64,
-            j as u64,
-        ]
     }
 }

@@ -10,7 +10,8 @@ use Rattle.build.specs.Board.{Board, unit, size_at, strips_at, roots_at, roots_t
 use Rattle.build.specs.Says.{even_from}
 use Rattle.build.specs.Steps.{Sizes, Fit, SameTo, placed}
 use Rattle.build.proofs.Tallying.{length-roots}
-use Rattle.build.proofs.Placing.{flat_map_more, placed-more}
+use Rattle.table.proofs.Ids.{flat_map-range-more}
+use Rattle.build.proofs.Placing.{placed-more}
 
 size-some : (o : Option ℕ) (target : ℕ) → 1 ≤ target → 1 ≤ cell_or o target
 size-some None target h = h
@@ -41,7 +42,7 @@ module _ (b : Board) where
 
   pub roots-more : (p : ℕ) → roots_to b (p + 1) ≡ roots_to b p ++ roots_at b p
   unfolding roots_to
-  roots-more p = flat_map_more (roots_at b) p
+  roots-more p = flat_map-range-more (roots_at b) p
 
   pub length-roots-more : (p : ℕ) → length (roots_to b (p + 1)) ≡ length (roots_to b p) + length (roots_at b p)
   length-roots-more p = ap length (roots-more p) ∙ length-append (roots_to b p) (roots_at b p)

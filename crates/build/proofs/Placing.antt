@@ -1,7 +1,6 @@
 -- Roots placed in the table: their numbers one behind the other, and what is placed later behind what was placed before.
 -- Assumes nothing.
-use Rattle.std.proofs.Common.{ℕ, zero, suc, ◌+◌, ◌*◌, ◌<◌, ◌≤◌, ◌≡◌, refl, sym, ap, ◌∙◌, List, [], ◌∷◌, ◌++◌, append_assoc, append-nil, arith, min, add-one, suc-mul, zero-mul, ⊎_elim, ℤ, pos, length, take, drop, get_or, length-append, take-append-drop, take_at, drop_at, length-take-le, drop-drop}
-use Rattle.std.specs.List.{range_with_len, flat_map}
+use Rattle.std.proofs.Common.{ℕ, zero, suc, ◌+◌, ◌*◌, ◌<◌, ◌≤◌, ◌≡◌, refl, sym, ap, ◌∙◌, List, [], ◌∷◌, ◌++◌, append_assoc, arith, min, add-one, suc-mul, zero-mul, ⊎_elim, ℤ, pos, length, take, drop, get_or, length-append, take-append-drop, take_at, drop_at, length-take-le, drop-drop}
 use Rattle.std.proofs.lemmas.Grind.{flat_map-append}
 use Rattle.std.proofs.lemmas.List.FromFn.{length-map-range_with_len, get_or-map-range_with_len, map-range_with_len_more}
 use Rattle.cell.proofs.Offsets.{below?}
@@ -10,17 +9,12 @@ use Rattle.refusals.specs.Limits.{max_polygons}
 use Rattle.cell.specs.Cells.{no_cell, root_of}
 use Rattle.cell.specs.Ticks.{on}
 use Rattle.table.specs.Slots.{stored, kept, put_cell}
+use Rattle.table.specs.Mesh.{slot_numbers}
+use Rattle.table.proofs.Ids.{flat_map-range-more}
 use Rattle.strips.specs.declared.walk.Strip.{Strip}
-use Rattle.strips.proofs.Picking.{range-more}
 use Rattle.build.specs.declared.grid.Cut.{Cut}
-use Rattle.build.specs.Grid.{Root, boxed, row_of, cell_of, row_to, grid_to, roots_in, numbers_of, flat, cut_of}
+use Rattle.build.specs.Grid.{Root, boxed, row_of, cell_of, row_to, grid_to, roots_in, mesh_root, flat, cut_of}
 use Rattle.build.specs.Steps.{placed}
-
--- the items of one number more
-pub flat_map_more : {A : Type 0} (f : ℕ → List A) (n : ℕ) → flat_map f (range_with_len 0 (n + 1)) ≡ flat_map f (range_with_len 0 n) ++ f n
-flat_map_more {A} f n =
-    ap (flat_map f) (range-more n) ∙ flat_map-append f (range_with_len 0 n) (n ∷ [])
-    ∙ ap (λ (l : List A). flat_map f (range_with_len 0 n) ++ l) (append-nil (f n))
 
 pub length-flat : (rs : List Root) → length (flat rs) ≡ length rs * 8
 unfolding flat
@@ -29,7 +23,7 @@ length-flat (r ∷ rs) = omega (arith, length-flat rs)
 
 pub flat_append : (a b : List Root) → flat (a ++ b) ≡ flat a ++ flat b
 unfolding flat
-flat_append a b = flat_map-append numbers_of a b
+flat_append a b = flat_map-append (λ (r : Root). slot_numbers (mesh_root r)) a b
 
 pub placed-none : (t : List ℤ) (k : ℕ) → placed t k [] ≡ t
 unfolding placed flat
@@ -94,7 +88,7 @@ row-none t k poly r n = sym (placed-none t k)
 
 pub grid-more : (poly : ℕ) (s : Strip) (g : Cut) (j : ℕ) → grid_to poly s g (j + 1) ≡ grid_to poly s g j ++ row_to poly (row_of s g j) g.nx g.nx
 unfolding grid_to
-grid-more poly s g j = flat_map_more (λ (k : ℕ). row_to poly (row_of s g k) g.nx g.nx) j
+grid-more poly s g j = flat_map-range-more (λ (k : ℕ). row_to poly (row_of s g k) g.nx g.nx) j
 
 pub no-grid : (poly : ℕ) (s : Strip) (g : Cut) → grid_to poly s g 0 ≡ []
 unfolding grid_to

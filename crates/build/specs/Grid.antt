@@ -1,11 +1,10 @@
 -- The rules' "Rings to roots", from a strip to its cells.
-use Rattle.std.specs.Prelude.{ℕ, ◌+◌, ◌-◌, ◌*◌, ◌/◌, ◌%◌, min, max, Bool, ◌&&◌, List, [], ◌∷◌, map}
-use Rattle.std.specs.Prelude.{ℤ, pos, Option, None, Some, find, ◌==◌, if◌then◌else◌, slice_index}
+use Rattle.std.specs.Prelude.{ℕ, ◌+◌, ◌-◌, ◌*◌, ◌/◌, ◌%◌, min, max, Bool, ◌&&◌, List, map}
+use Rattle.std.specs.Prelude.{ℤ, Option, None, Some, find, ◌==◌, if◌then◌else◌, slice_index}
 use Rattle.std.specs.Int.{div_ceil}
 use Rattle.std.specs.Option.{option_map}
 use Rattle.std.specs.List.{flat_map, list_all, range_with_len}
-use Rattle.cell.specs.Ticks.{on}
-use Rattle.cell.specs.Cells.{no_cell}
+use Rattle.table.specs.Mesh.{Cell, slot_numbers}
 use Rattle.strips.specs.declared.walk.Strip.{Strip}
 use Rattle.build.specs.declared.grid.Cut.{Cut}
 
@@ -63,13 +62,20 @@ even_strip u g s = evenly u g.nx (width s) && evenly u g.ny (height s)
 unfoldable pub all_even : ℕ → ℕ → ℕ → List Strip → Bool
 all_even u cap c ss = list_all (λ s. even_strip u (cut_of cap c s) s) ss
 
--- the table's eight numbers of a root: a leaf of level 0 with no parent
-abbrev pub numbers_of : Root → List ℤ
-numbers_of r = on r.x0 ∷ on r.y0 ∷ on r.x1 ∷ on r.y1 ∷ pos 0 ∷ pos no_cell ∷ pos no_cell ∷ pos r.poly ∷ []
+-- a root as a cell of the table: a leaf of level 0 with no parent
+abbrev pub mesh_root : Root → Cell
+mesh_root r =
+    record {
+      box = record { x0 = r.x0; y0 = r.y0; x1 = r.x1; y1 = r.y1 };
+      level = 0;
+      parent = None;
+      kids = None;
+      polygon = r.poly;
+    }
 
--- and of roots, one behind the other
+-- the numbers of roots, one behind the other
 unfoldable pub flat : List Root → List ℤ
-flat rs = flat_map numbers_of rs
+flat rs = flat_map (λ r. slot_numbers (mesh_root r)) rs
 
 -- the cell that the layer list gives a layer, if it has the layer
 abbrev pub listed_at : List (List ℕ) → ℕ → Option ℕ

@@ -5,11 +5,11 @@ use lib.ListN.{length-replicate, get_or-replicate}
 use Rattle.std.proofs.lemmas.Grind.{flat_map-append}
 use Rattle.cell.specs.Cells.{no_cell}
 use Rattle.table.specs.Slots.{cell_at}
-use Rattle.table.specs.Mesh.{Cell, opt, mesh_cell, table}
+use Rattle.table.specs.Mesh.{Cell, opt, marked, slot_numbers, mesh_cell, table}
 use Rattle.table.specs.Formed.{WellFormed}
 use Rattle.table.proofs.Cells.{table_more}
 use Rattle.table.proofs.Exact.{Exact, exact}
-use Rattle.even.specs.Rows.{marked, numbers_of, flat, row_of}
+use Rattle.even.specs.Rows.{flat, row_of}
 
 -- ---- one number, there and back
 
@@ -36,13 +36,13 @@ run_is l b k (suc m) h =
     ∙ ap (λ (r : List ℤ). get_or l (b + k) (pos 0) ∷ r) (run_is l b (k + 1) m (omega arith))
 
 module _ (t : List ℤ) (i : ℕ) (w : Exact t i) where
-  numbers-run : numbers_of (mesh_cell (cell_at t i)) ≡ run t (i * 8) 0 8
+  numbers-run : slot_numbers (mesh_cell (cell_at t i)) ≡ run t (i * 8) 0 8
   numbers-run =
       λ x.
       (w.x0 ∙ ap (λ (j : ℕ). get_or t j (pos 0)) (sym (add-zero (i * 8)))) x ∷ w.y0 x ∷ w.x1 x ∷ w.y1 x ∷ w.level x
       ∷ (marked-opt (cell_at t i).parent ∙ w.parent) x ∷ (marked-opt (cell_at t i).first ∙ w.first) x ∷ w.poly x ∷ []
 
-  numbers-are : i * 8 + 8 ≤ length t → numbers_of (mesh_cell (cell_at t i)) ≡ take 8 (drop (i * 8) t)
+  numbers-are : i * 8 + 8 ≤ length t → slot_numbers (mesh_cell (cell_at t i)) ≡ take 8 (drop (i * 8) t)
   numbers-are h =
       numbers-run ∙ sym (run_is t (i * 8) 0 8 (omega arith)) ∙ ap (λ (j : ℕ). take 8 (drop j t)) (add-zero (i * 8))
 
@@ -50,11 +50,11 @@ module _ (t : List ℤ) (i : ℕ) (w : Exact t i) where
 
 flat_append : (a b : List Cell) → flat (a ++ b) ≡ flat a ++ flat b
 unfolding flat
-flat_append = flat_map-append numbers_of
+flat_append = flat_map-append slot_numbers
 
-flat-one : (c : Cell) → flat (c ∷ []) ≡ numbers_of c
+flat-one : (c : Cell) → flat (c ∷ []) ≡ slot_numbers c
 unfolding flat
-flat-one c = append-nil (numbers_of c)
+flat-one c = append-nil (slot_numbers c)
 
 module _ (t : List ℤ) (n M : ℕ) (w : WellFormed t n M) where
   room : n * 8 ≤ length t

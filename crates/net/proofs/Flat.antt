@@ -33,17 +33,14 @@ alike_same : (k : ℕ) (a : List Edge) → Alike k a a
 alike_same k a = record { by = λ l. refl }
 
 -- a thing twice
-alike_twice : (k : ℕ) (e : Edge) → Alike k (e ∷ []) (e ∷ e ∷ [])
-alike_twice k edge =
-    record {
-      by = λ l. grind (arith, welding, positions, length-append l (x ∷ []), self);
-    }
+pub weld_twice : (l : List Part) (x : Part) → weld same_part l (x ∷ []) ≡ weld same_part l (x ∷ x ∷ [])
+weld_twice l x = grind (arith, welding, positions, length-append l (x ∷ []), self)
   where
-    x : Part
-    x = part k edge
-
     self : same_part x x ≡ true
     self = rw (eq-eqb x.piece x.piece refl, eq-eqb x.edge.from x.edge.from refl, eq-eqb x.edge.to x.edge.to refl)
+
+alike_twice : (k : ℕ) (e : Edge) → Alike k (e ∷ []) (e ∷ e ∷ [])
+alike_twice k edge = record { by = λ l. weld_twice l (part k edge) }
 
 each_map : {A B C : Type 0} (f : B → List C) (g : A → B) (l : List A) → flat_map f (map g l) ≡ flat_map (λ (a : A). f (g a)) l
 each_map f g [] = refl

@@ -16,7 +16,7 @@ use Rattle.net.proofs.Flat.{flat-nodes}
 use Rattle.net.proofs.Positions.{test}
 use Rattle.net.proofs.Numbers.{rank-in}
 use Rattle.net.proofs.Weld.{news-new, news-old, length-news, rank_below, first-new, first-at-most, welded}
-use Rattle.places.specs.Places.{firsts, numbers_of}
+use Rattle.places.specs.Places.{firsts, node_numbers}
 use Rattle.places.proofs.Places.{corners-length, places-length}
 use Rattle.places.proofs.Firsts.{first_at, first-most, first-node, firsts-length, firsts-at, firsts-keyed, first-of}
 
@@ -41,10 +41,10 @@ module _ (P : List MeshNode) where
   abbrev fs : List ℕ
   fs = firsts P
 
-  pub numbers-length : (n : ℕ) → n ≤ length P → length (numbers_of P n) ≡ n
+  pub numbers-length : (n : ℕ) → n ≤ length P → length (node_numbers P n) ≡ n
   numbers-length n l = let m = firsts-length P in length-map (take n fs) (rank fs) ∙ length-take-le n fs (omega arith)
 
-  pub number_at : (n i : ℕ) → n ≤ length P → i < n → get_or (numbers_of P n) i 0 ≡ number_by fs i
+  pub number_at : (n i : ℕ) → n ≤ length P → i < n → get_or (node_numbers P n) i 0 ≡ number_by fs i
   number_at n i l h =
       let m = firsts-length P in
       get_or-map (rank fs) (take n fs) i 0 0 (omega (arith, length-take-le n fs (omega arith)))
@@ -111,10 +111,10 @@ module _ (P : List MeshNode) (n : ℕ) (l : n ≤ length P) where
   ranked : (j : ℕ) → j ≤ n → rank_in front j ≡ rank (firsts P) j
   ranked j h = rank-in (firsts P) front j (λ i k. front_at i (omega arith) ∙ sym (first-of P i (omega arith) ∙ firsts-at P i (omega arith)))
 
-  pub front-ranked : map (rank_in front) front ≡ numbers_of P n
+  pub front-ranked : map (rank_in front) front ≡ node_numbers P n
   front-ranked =
       let m = front-length in
-      ext_get_or 0 (map (rank_in front) front) (numbers_of P n) (length-map front (rank_in front) ∙ sym (length-map front (rank (firsts P)))) (λ i h.
+      ext_get_or 0 (map (rank_in front) front) (node_numbers P n) (length-map front (rank_in front) ∙ sym (length-map front (rank (firsts P)))) (λ i h.
       let k = length-map front (rank_in front) in
       let f = front_at i (omega arith) in
       let g = first-most P i in

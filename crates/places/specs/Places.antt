@@ -33,8 +33,8 @@ unfoldable pub firsts : List MeshNode → List ℕ
 firsts places = map (position_of same_node places) places
 
 -- of each of the first n places the number of its node: how many places before its first one are first places
-abbrev pub numbers_of : List MeshNode → ℕ → List ℕ
-numbers_of places n = let fs = firsts places in map (rank fs) (take n fs)
+abbrev pub node_numbers : List MeshNode → ℕ → List ℕ
+node_numbers places n = let fs = firsts places in map (rank fs) (take n fs)
 
 -- the nodes of the net: each corner that is not yet one
 abbrev pub nodes_in : Leaves → List MeshNode

@@ -8,12 +8,12 @@ ghost use Rattle.net.specs.Flat.{place_x, place_y};
 ghost use Rattle.net.specs.Laws.{IsWithin, widest};
 ghost use Rattle.places.specs.Leaves.{leaf_at, box_of, IsSound};
 ghost use Rattle.places.specs.Places.{leaves_in, places_in, place_at, place_entry, place_count, corner_count};
-ghost use Rattle.places.specs.Places.{firsts, numbers_of, nodes_in};
+ghost use Rattle.places.specs.Places.{firsts, node_numbers, nodes_in};
 
 use crate::{Leaf, Leaves};
 use net_rows::{MeshNode, Node};
 use sorted::firsts::write_firsts;
-use sorted::{Entries, sort_entries};
+use sorted::{Entries, Span, sort_entries_within};
 
 /// How many corners a leaf has, and how many places with the middles of its sides.
 pub const CORNERS_A_LEAF: usize = 4;
@@ -106,6 +106,22 @@ impl Leaves<'_> {
         }
     }
 
+    // The spans of the columns of the places' entries, by leaf: a middle lies between two corners.
+    fn spans(&self) -> [Span; 5] {
+        let mut layer = Span::EMPTY;
+        let mut component = Span::EMPTY;
+        let mut x = Span::EMPTY;
+        let mut y = Span::EMPTY;
+        for v in 0..self.entries.len() {
+            let leaf = self.leaf(v);
+            layer = layer.and(u64::from(self.polygons.layers[leaf.polygon]));
+            component = component.and(u64::from(self.polygons.components[leaf.polygon]));
+            x = x.and(leaf.x0).and(leaf.x1);
+            y = y.and(leaf.y0).and(leaf.y1);
+        }
+        [layer, component, x, y, Span::below(self.place_count())]
+    }
+
     /// Numbers the places: the number of each corner's node, and of each middle the first place that is the same node.
     /// Returns how many nodes the corners are. The entries and their keys are scratch. Internal: the rows have room.
     pub fn number_places(
@@ -119,11 +135,11 @@ impl Leaves<'_> {
         requires a_place_each { length middles.old ≡ corner_count self.now }
         requires a_key_each { length keys.old ≡ place_count self.now }
         requires an_entry_each { length entries.old ≡ place_count self.now }
-        ensures numbers { numbers.new ≡ numbers_of (places_in self.now) (corner_count self.now) }
+        ensures numbers { numbers.new ≡ node_numbers (places_in self.now) (corner_count self.now) }
         ensures middles { middles.new ≡ drop (corner_count self.now) (firsts (places_in self.now)) }
         ensures count { result ≡ rank (firsts (places_in self.now)) (corner_count self.now) }
     {
-        sort_entries(self, keys, entries);
+        sort_entries_within(self, &self.spans(), keys, entries);
         // The keys have served.
         write_firsts(self, entries, keys);
         let corners = self.corner_count();
@@ -136,7 +152,7 @@ impl Leaves<'_> {
     /// corners are numbered, and the row has room.
     #[tactic(auto, unfolding(net::specs::First::rank, net::specs::First::news))]
     pub fn write_nodes(&self, numbers: &[u64], nodes: &mut [Node])
-        requires numbered { numbers.now ≡ numbers_of (places_in self.now) (corner_count self.now) }
+        requires numbered { numbers.now ≡ node_numbers (places_in self.now) (corner_count self.now) }
         requires room { corner_count self.now ≤ length nodes.old }
         ensures { nodes.new ≡ written (map in_ticks (nodes_in self.now)) nodes.old }
     {

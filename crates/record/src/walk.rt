@@ -60,8 +60,7 @@ fn read_layers(reader: &mut Reader<'_>, limits: Limits) -> Result<usize, Refusal
     Ok(count)
 }
 
-/// The points of a ring. Never inlined: within all of `read` the loop would have its counts on the stack.
-#[inline(never)]
+/// The points of a ring.
 fn read_ring(reader: &mut Reader<'_>, count: u16) -> Result<(), Refusal>
     ensures { ReadsAll result reader.new (times point count reader.old) }
 {

@@ -3,8 +3,8 @@
 use Rattle.std.proofs.Common.{ℕ, zero, suc, ◌+◌, ◌<◌, ◌≤◌, ◌≡◌, refl, sym, ap, ◌∙◌, zero-add, filter, cond, subst, Bool, true, false, List, [], ◌∷◌, ◌++◌, append-nil, ⊎_elim, arith, add-zero, add-one, length, drop, length-append}
 use lib.Seq.{sets, sets-eq}
 use Rattle.std.specs.List.{range_with_len, flat_map}
+use Rattle.std.proofs.lemmas.List.{flat_map_more}
 use Rattle.std.proofs.lemmas.List.Elements.{filter-append}
-use Rattle.std.proofs.lemmas.Grind.{flat_map-append}
 use Rattle.refusals.specs.Said.{written}
 use Rattle.table.proofs.All.{top?}
 
@@ -19,11 +19,11 @@ range_more a (suc n) =
 pub range-last : (n : ℕ) → range_with_len 0 (suc n) ≡ range_with_len 0 n ++ (n ∷ [])
 range-last n = range_more 0 n ∙ ap (λ (k : ℕ). range_with_len 0 n ++ (k ∷ [])) (zero-add n)
 
-pub flat_map_more : (f : ℕ → List ℕ) (n : ℕ) → flat_map f (range_with_len 0 (suc n)) ≡ flat_map f (range_with_len 0 n) ++ f n
-flat_map_more f n =
-    ap (flat_map f) (range-last n)
-    ∙ flat_map-append f (range_with_len 0 n) (n ∷ [])
-    ∙ ap (λ (l : List ℕ). flat_map f (range_with_len 0 n) ++ l) (append-nil (f n))
+pub flat_map-range-more : {A : Type 0} (f : ℕ → List A) (n : ℕ) → flat_map f (range_with_len 0 (n + 1)) ≡ flat_map f (range_with_len 0 n) ++ f n
+flat_map-range-more f n =
+    ap (λ (k : ℕ). flat_map f (range_with_len 0 k)) (add-one n)
+    ∙ ap (flat_map f) (range-last n)
+    ∙ sym (flat_map_more f [] (range_with_len 0 n) n)
 
 -- ---- the ids below n that pass a test: opaque, so that a longer list is not taken apart
 

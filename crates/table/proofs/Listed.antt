@@ -1,12 +1,12 @@
 -- The lists that the code's loops make are those that the definitions name. Assumes nothing.
-use Rattle.std.proofs.Common.{ℕ, zero, suc, ◌≡◌, refl, sym, ap, ap₂, ◌∙◌, Bool, true, false, ◌&&◌, cond, eqb, List, [], ◌∷◌, ◌++◌, ℤ, length, filter}
+use Rattle.std.proofs.Common.{ℕ, zero, suc, ◌≡◌, refl, sym, ap, ap₂, ◌∙◌, Bool, true, false, ◌&&◌, cond, add-one, eqb, List, [], ◌∷◌, ◌++◌, ℤ, length, filter}
 use Rattle.std.specs.List.{range_with_len, flat_map}
 use Rattle.refusals.specs.Limits.{max_polygons}
 use Rattle.table.specs.declared.Head.{Head}
 use Rattle.table.specs.Mesh.{at, is_leaf}
 use Rattle.table.specs.Rows.{IsTable, cells_in, leaves_in, order_in}
 use Rattle.table.specs.Leaves.{leaf_at, leaf_of, polygon_ids, order_to, order_ids}
-use Rattle.table.proofs.Ids.{ids_to, ids-same, flat_map_more}
+use Rattle.table.proofs.Ids.{ids_to, ids-same, flat_map-range-more}
 use Rattle.table.proofs.Order.{order-suc, order-length}
 use Rattle.table.proofs.Shape.{formed-poly}
 use Rattle.table.proofs.Tables.{leaf_read, polygon_read}
@@ -42,7 +42,7 @@ module _ (row : List ℤ) (head : Head) where
   polygons (suc p) =
       order-suc row head.count p
       ∙ ap₂ (λ (x y : List ℕ). x ++ y) (polygons p) (one-polygon p)
-      ∙ sym (flat_map_more of_polygon p)
+      ∙ sym (rw (add-one p) at (flat_map-range-more of_polygon p))
 
   pub order_ids-in : order_ids row head.count ≡ order_in row head
   unfolding order_ids order_in

@@ -1,14 +1,21 @@
 -- The call that splits a leaf: when it is accepted, and that it then leaves a well-formed table, with that leaf split.
 -- Assumes nothing.
-use Rattle.std.proofs.Common.{ℕ, ◌+◌, ◌/◌, ◌<◌, ◌≤◌, ◌≡◌, refl, Bool, true, false, cond, [], ◌∷◌, List, ltb, leb, ℤ, length, lt-ltb, le-leb, ltb-true, leb-true}
+use Rattle.std.proofs.Common.{ℕ, ◌+◌, ◌/◌, ◌<◌, ◌≤◌, ◌≡◌, refl, ◌∙◌, arith, Bool, true, false, cond, [], ◌∷◌, List, ltb, leb, ℤ, length, lt-ltb, le-leb, ltb-true, leb-true}
 use mathlib.Core.Bool.{false≢true}
+use Rattle.refusals.specs.Limits.{widest_level}
 use Rattle.refusals.specs.Said.{accepted, refusal, is_accepted}
 use Rattle.refusals.specs.declared.Refusal.TheVariants.{BadTable, NoSuchCell, AlreadySplit, FinestLevel, NoRoom}
 use Rattle.table.specs.declared.Head.{Head}
-use Rattle.table.specs.Mesh.{at, is_leaf}
+use Rattle.table.specs.Slots.{cell_at}
+use Rattle.table.specs.Mesh.{at, is_leaf, split, table}
 use Rattle.table.specs.Formed.{well_formed}
 use Rattle.table.specs.Rows.{IsTable, cells_in}
-use Rattle.table.specs.Refine.{refine_says}
+use Rattle.table.specs.Leaves.{leaf_at}
+use Rattle.table.specs.Refine.{split_row, refine_says}
+use Rattle.table.proofs.Shape.{formed-shape}
+use Rattle.table.proofs.Splits.{refine-formed, split-table}
+use Rattle.table.proofs.Tables.{level_read, leaf_read}
+use Rattle.table.proofs.Wellformed.{formed-facts}
 
 pub record Refinable (row : List ℤ) (head : Head) (id : ℕ) : Type 0 where
   pub formed : IsTable row head
@@ -17,9 +24,30 @@ pub record Refinable (row : List ℤ) (head : Head) (id : ℕ) : Type 0 where
   pub finer : (at (cells_in row head) id).level < head.max_level
   pub room : head.count + 4 ≤ length row / 8
 
+pub refinable : (row : List ℤ) (head : Head) (id : ℕ) → IsTable row head → id < head.count → is_leaf (cells_in row head) id ≡ true
+    → (at (cells_in row head) id).level < head.max_level → head.count + 4 ≤ length row / 8 → Refinable row head id
+refinable row head id formed inside leaf finer room = record { formed = formed; inside = inside; leaf = leaf; finer = finer; room = room }
+
 module _ (row : List ℤ) (head : Head) (id : ℕ) where
   abbrev level : ℕ
   level = (at (cells_in row head) id).level
+
+  -- what is split then: a table whose cells are those of the split
+  module _ (r : Refinable row head id) where
+    held-leaf : leaf_at row id ≡ true
+    held-leaf = leaf_read row head.count id r.inside ∙ r.leaf
+
+    held-finer : (cell_at row id).level < head.max_level
+    held-finer = rw (level_read row head.count id r.inside) r.finer
+
+    pub held-below : (cell_at row id).level < widest_level
+    held-below = let s = formed-shape row head.count head.max_level r.formed in omega (arith, s.range, held-finer)
+
+    pub refined-formed : well_formed (split_row row head.count id) (head.count + 4) head.max_level ≡ true
+    refined-formed = refine-formed row head.count head.max_level id r.formed r.inside held-leaf held-finer r.room
+
+    pub refined-cells : table (split_row row head.count id) (head.count + 4) ≡ split (cells_in row head) id
+    refined-cells = split-table row head.count head.max_level id (formed-facts row head.count head.max_level r.formed) r.inside held-leaf held-finer r.room
 
   pub accepted-facts : is_accepted (refine_says row head id) ≡ true → Refinable row head id
   accepted-facts e =

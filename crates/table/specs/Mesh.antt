@@ -1,12 +1,13 @@
 -- The cells that a table holds, as the rules speak of them: no parent and no child are `none`, and there is no limit on
 -- room.
-use Rattle.std.specs.Prelude.{ℕ, suc, Bool, List, [], ◌∷◌, ◌++◌, map, ℤ, length, Option, None, Some, ◌==◌}
-use Rattle.std.specs.Prelude.{slice_index_or, slice_set, if◌then◌else◌}
+use Rattle.std.specs.Prelude.{ℕ, suc, Bool, List, [], ◌∷◌, ◌++◌, map, ℤ, pos, length, Option, None, Some, unwrap_or}
+use Rattle.std.specs.Prelude.{◌==◌, slice_index_or, slice_set, if◌then◌else◌}
 use Rattle.std.specs.List.{range_with_len}
 pub use Rattle.std.specs.Prelude.{is_none}
 use Rattle.cell.specs.Boxes.{Box, Quad, sw, se, nw, ne, quadrant}
 use Rattle.cell.specs.declared.Cell as Held
 use Rattle.cell.specs.Cells.{no_cell, box_of}
+use Rattle.cell.specs.Ticks.{on}
 use Rattle.table.specs.Slots.{cell_at}
 
 -- `parent` is none at a root, and `kids`, the first child's id, none at a leaf
@@ -42,12 +43,21 @@ split t i = slice_set t i (with_kids (at t i) (length t)) ++ brood i (at t i)
 abbrev pub is_leaf : List Cell → ℕ → Bool
 is_leaf t i = is_none (at t i).kids
 
--- the row's NO_CELL is `none`
+-- the row's NO_CELL is `none`; and the way back
 abbrev pub opt : ℕ → Option ℕ
 opt v = if v == no_cell then None else Some v
 
+abbrev pub marked : Option ℕ → ℤ
+marked o = pos (unwrap_or o no_cell)
+
 abbrev pub mesh_cell : Held.Cell → Cell
 mesh_cell c = record { box = box_of c; level = c.level; parent = opt c.parent; kids = opt c.first; polygon = c.poly }
+
+-- the eight numbers of a cell's slot: x0 y0 x1 y1 level parent first-child polygon
+abbrev pub slot_numbers : Cell → List ℤ
+slot_numbers c =
+    on c.box.x0 ∷ on c.box.y0 ∷ on c.box.x1 ∷ on c.box.y1
+    ∷ pos c.level ∷ marked c.parent ∷ marked c.kids ∷ pos c.polygon ∷ []
 
 -- the cells of the row's first n slots
 unfoldable pub table : List ℤ → ℕ → List Cell

@@ -8,9 +8,8 @@ ghost use Rattle.table.specs.Rows.{IsTable, cells_in};
 ghost use Rattle.table.specs.Refine.{put_kid, split_row, refined_said, refine_says, refined_row};
 
 use crate::Head;
-use crate::edit::TableMut;
-use crate::formed::well_formed;
 use crate::slots::{cell_at, put_cell, put_first};
+use crate::view::Table;
 use cell::{Cell, Quadrant};
 use refusals::Refusal;
 
@@ -41,30 +40,28 @@ pub fn split_cell(t: &mut [i64], n: usize, i: usize)
 }
 
 /// Splits the leaf with this id; the head answered has the new count.
-#[tactic(auto, using(crate::proofs::Tables::table_bounds))]
 pub fn refine(row: &mut [i64], head: Head, id: usize) -> Result<Head, Refusal>
     ensures answer { refined_said result ≡ refine_says row.old head id }
     ensures row_after { row.new ≡ refined_row row.old head id }
     ensures table_after { IfOk result (λ h. IsTable row.new h) }
     ensures cells_after { IfOk result (λ h. cells_in row.new h ≡ split (cells_in row.old head) id) }
 {
-    if !well_formed(row, head) {
+    let Some(cells) = Table::new(row, head) else {
         return Err(Refusal::BadTable);
-    }
-    let mut table = TableMut::new(row, head);
+    };
     if head.count <= id {
         return Err(Refusal::NoSuchCell(id));
     }
-    let cells = table.view();
     if !cells.is_leaf(id) {
         return Err(Refusal::AlreadySplit(id));
     }
     if head.max_level <= cells.level(id) {
         return Err(Refusal::FinestLevel(id));
     }
-    if !table.has_room() {
+    let count = head.count + 4;
+    if row.len() / 8 < count {
         return Err(Refusal::NoRoom);
     }
-    table.split(id);
-    Ok(table.head)
+    split_cell(row, head.count, id);
+    Ok(Head { count, ..head })
 }

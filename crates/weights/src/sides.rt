@@ -7,7 +7,7 @@ ghost use Rattle.weights.specs.Sides.{Sided, FirstCellIs};
 
 use crate::axes::Entry;
 use crate::lent::BareNet;
-use sorted::{Entries, sort_entries};
+use sorted::{Entries, Span, sort_entries_within};
 
 // The entries of the cells' sides, four to a cell.
 #[derive(Clone, Copy)]
@@ -38,7 +38,10 @@ pub fn sort_sides(net: &BareNet, keys: &mut [u64], row: &mut [Entry])
     requires an_entry_each { length row.old ≡ 4 * length net.now.cells.now }
     ensures { Sided net.now.cells.now row.new }
 {
-    sort_entries(&SideEntries { net }, keys, row);
+    let nodes = Span::below(net.nodes.len());
+    let cells = Span::below(net.cells.len());
+    let spans = [nodes, nodes, cells, Span::below(4)];
+    sort_entries_within(&SideEntries { net }, &spans, keys, row);
 }
 
 /// The first cell that has two nodes as the ends of a side.
