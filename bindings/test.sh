@@ -101,6 +101,22 @@ done
 leaves=$(grep -c '<title>leaf ' "$folder/neck.svg")
 [ "$leaves" -ge 1500 ] || fail "the neck has $leaves leaves"
 
+say "two layers joined by vias: currents, pictures and a file"
+(cd rust && cargo run --offline --release --quiet --example layers -- "$folder") | diff rust/examples/layers.txt -
+for file in layers.svg layers-power.svg layers.vtk; do
+    [ -s "$folder/$file" ] || fail "no $file"
+done
+leaves=$(grep -c '<title>leaf ' "$folder/layers.svg")
+[ "$leaves" -ge 1500 ] || fail "the two layers have $leaves leaves"
+"$bin/board" net <../boards/vias.txt >"$folder/vias.net"
+head -n 1 "$folder/vias.net" | grep -q ' links [1-9]' || fail "no links in the text of vias"
+"$bin/relax" <"$folder/vias.net" >"$folder/vias.volts"
+"$bin/draw" --record ../boards/vias.txt --potentials "$folder/vias.volts" <"$folder/vias.net" >"$folder/vias.svg"
+if "$bin/board" pack <../boards/vias.txt >"$folder/vias.record" 2>"$folder/said"; then
+    fail "links went into a record"
+fi
+grep -qF "a record has no links" "$folder/said" || fail "board pack said: $(cat "$folder/said")"
+
 say "pictures of all sample boards"
 for board in ../boards/*.txt; do
     rust/draw.sh "$board" "$folder/$(basename "$board" .txt)" >/dev/null

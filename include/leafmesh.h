@@ -1,4 +1,4 @@
-/* leafmesh: a quadtree mesh of copper outlines, and its net of conductances.
+/* leafmesh: a quadtree mesh of copper outlines, and its net of conductances, across layers too.
  *
  * Link with the static library that `bindings/library.sh` makes (crates/leafmesh/out/libleafmesh.a); `install.sh
  * PREFIX` puts header, library and a file for pkg-config where compilers look. C11 and C++17; the library is for
@@ -40,9 +40,9 @@ extern "C" {
 #endif
 
 /* The version of this header and its library; CHANGELOG.md says what changed. */
-#define LEAFMESH_VERSION "0.3.0"
+#define LEAFMESH_VERSION "0.4.0"
 #define LEAFMESH_VERSION_MAJOR 0
-#define LEAFMESH_VERSION_MINOR 3
+#define LEAFMESH_VERSION_MINOR 4
 #define LEAFMESH_VERSION_PATCH 0
 
 /* Ranges. */
@@ -58,6 +58,9 @@ extern "C" {
 #define LEAFMESH_SHEET_LOW 0x1p-40 /* ohms a square */
 #define LEAFMESH_SHEET_HIGH 0x1p40 /* ohms a square */
 #define LEAFMESH_POTENTIAL 0x1p20  /* volts */
+#define LEAFMESH_RESISTANCE_LOW 0x1p-40 /* ohms, of a via or a channel */
+#define LEAFMESH_RESISTANCE_HIGH 0x1p40 /* ohms */
+#define LEAFMESH_HALF 68719476736LL     /* half sizes of a footprint lie from 0 to this: 2^36 ticks */
 #define LEAFMESH_TICK 0x1p-38      /* metres */
 
 /* A table has eight numbers a slot. */
@@ -78,7 +81,8 @@ enum {
 enum { LEAFMESH_SW, LEAFMESH_SE, LEAFMESH_NE, LEAFMESH_NW };
 #define LEAFMESH_CORNERS 4
 
-/* Room that leafmesh_network needs for each leaf: nodes, edges, cells, and work numbers of 64 bits. */
+/* Room that leafmesh_network needs for each leaf: nodes, edges, cells, and work numbers of 64 bits; and one edge more
+ * for each link that it makes, which leafmesh_edge_rows counts. */
 #define LEAFMESH_NODES_A_LEAF 4
 #define LEAFMESH_EDGES_A_LEAF 8
 #define LEAFMESH_CELLS_A_LEAF 1
@@ -93,7 +97,7 @@ enum { LEAFMESH_SW, LEAFMESH_SE, LEAFMESH_NE, LEAFMESH_NW };
 /* Lengths of rows that are always enough, in entries of the row's type; they can size static rows. */
 #define LEAFMESH_TABLE_LENGTH(slots) (LEAFMESH_SLOT * (size_t)(slots))
 #define LEAFMESH_NODES_LENGTH(leaves) (LEAFMESH_NODES_A_LEAF * (size_t)(leaves))
-#define LEAFMESH_EDGES_LENGTH(leaves) (LEAFMESH_EDGES_A_LEAF * (size_t)(leaves))
+#define LEAFMESH_EDGES_LENGTH(leaves) (LEAFMESH_EDGES_A_LEAF * (size_t)(leaves)) /* without links */
 #define LEAFMESH_CELLS_LENGTH(leaves) (LEAFMESH_CELLS_A_LEAF * (size_t)(leaves))
 #define LEAFMESH_WORK_LENGTH(leaves) (LEAFMESH_WORK_A_LEAF * (size_t)(leaves))
 /* For a check that takes n log n steps; with less it takes the plain walk. */
@@ -191,6 +195,36 @@ typedef struct {
     double sheet;
 } leafmesh_cell;
 
+/* Two polygons that touch, by number. Where one isn't there, or has no leaf, nothing is joined. */
+typedef struct {
+    uint64_t from, to;
+} leafmesh_contact_pair;
+
+/* A rectangle by its centre and its half sizes, in ticks; a point where one of these is 0. */
+typedef struct {
+    int64_t x, y, half_width, half_height;
+} leafmesh_footprint;
+
+/* A via: the layers that it joins, its component, where it stands, and its resistance in ohms. */
+typedef struct {
+    uint16_t bottom, top;
+    uint32_t component;
+    leafmesh_footprint footprint;
+    double resistance;
+} leafmesh_via;
+
+/* An end of a channel: a component, and a place in ticks. */
+typedef struct {
+    uint32_t component;
+    int64_t x, y;
+} leafmesh_terminal;
+
+/* A channel between two components of one layer, and its resistance in ohms. */
+typedef struct {
+    leafmesh_terminal drain, source;
+    double resistance;
+} leafmesh_channel;
+
 /* What the library takes them for. */
 #ifdef __cplusplus
 #define LEAFMESH_ASSERT static_assert
@@ -202,6 +236,13 @@ LEAFMESH_ASSERT(sizeof(leafmesh_node) == 24 && offsetof(leafmesh_node, component
                 "a node has 24 bytes");
 LEAFMESH_ASSERT(sizeof(leafmesh_edge) == 24, "an edge has 24 bytes");
 LEAFMESH_ASSERT(sizeof(leafmesh_cell) == 40, "a cell has 40 bytes");
+LEAFMESH_ASSERT(sizeof(leafmesh_contact_pair) == 16, "a contact has 16 bytes");
+LEAFMESH_ASSERT(sizeof(leafmesh_via) == 48 && offsetof(leafmesh_via, component) == 4 &&
+                    offsetof(leafmesh_via, footprint) == 8 && offsetof(leafmesh_via, resistance) == 40,
+                "a via has 48 bytes");
+LEAFMESH_ASSERT(sizeof(leafmesh_channel) == 56 && offsetof(leafmesh_channel, source) == 24 &&
+                    offsetof(leafmesh_channel, resistance) == 48,
+                "a channel has 56 bytes");
 
 /* number 0: accepted, with the call's value. Otherwise the refusal and its place. In every outcome a field that
  * does not apply is 0. */
@@ -224,13 +265,14 @@ typedef struct {
     uint64_t splits;
 } leafmesh_read_outcome;
 
-/* How many nodes, edges and cells a net has. */
+/* How many nodes, edges and cells a net has; the last `links` of the edges are its links. */
 typedef struct {
     uint64_t number;
     uint64_t place;
     uint64_t nodes;
     uint64_t edges;
     uint64_t cells;
+    uint64_t links;
 } leafmesh_net_outcome;
 
 /* A check: broken is 1 where `node` stands at the middle of the leaf edge from `from` to `to` and lacks a half. */
@@ -286,17 +328,42 @@ leafmesh_outcome leafmesh_balance(int64_t *table, size_t table_length, size_t co
  * Refuses 7, 6. */
 leafmesh_outcome leafmesh_conform(int64_t *table, size_t table_length, size_t count, uint64_t max_level);
 
-/* The net of a table's leaves: how many nodes, edges and cells. Cell i is the i-th leaf of leafmesh_leaf_order. The
- * work room is zero afterwards. layers, components and sheets (ohms a square) have one entry a polygon, nodes_length
- * counts nodes, edges_length edges, cells_length cells, work_length numbers; LEAFMESH_.._LENGTH says how many are
- * enough. Refuses 7 (a bad table, a cell of a polygon that isn't there, polygons' rows of unequal length), 3 (more
- * than 256 polygons; a sheet resistance, place: its polygon), 6. */
+/* The net of a table's leaves: how many nodes, edges, cells and links. Cell i is the i-th leaf of leafmesh_leaf_order.
+ * Behind the leaves' edges stand the links that contacts, vias and channels make, in this order:
+ *
+ * - a contact: one edge of 1 S from the first node of polygon `from` to the node of `to` that is nearest to it;
+ * - a via: on each of its layers the nodes of its component inside its footprint, or the one nearest to its centre
+ *   where none is inside; every pair is an edge, and they share 1/resistance equally;
+ * - a channel: one edge of 1/resistance between the nodes of `channel_layer` that are nearest to drain and source, each
+ *   of its own component.
+ *
+ * What finds no node on one side makes no link and is no refusal; with no rows of links, which may be null, the net is
+ * the leaves' alone, whatever channel_layer is.
+ *
+ * The work room is zero afterwards. layers, components and sheets (ohms a square) have one entry a polygon,
+ * contacts_length counts contacts, vias_length vias, channels_length channels, nodes_length nodes, edges_length edges,
+ * cells_length cells, work_length numbers; LEAFMESH_.._LENGTH says how many are enough, and of edges
+ * leafmesh_edge_rows, where there are links. Refuses 7 (a bad table, a cell of a polygon that isn't there, polygons'
+ * rows of unequal length), 3 (more than 256 polygons; a sheet resistance, place: its polygon; then a resistance, a half
+ * size or a place of a link, also of one that would join nothing), 6. */
 leafmesh_net_outcome leafmesh_network(const int64_t *table, size_t table_length, size_t count, uint64_t max_level,
                                       const uint16_t *layers, size_t layers_length, const uint32_t *components,
                                       size_t components_length, const double *sheets, size_t sheets_length,
+                                      const leafmesh_contact_pair *contacts, size_t contacts_length,
+                                      const leafmesh_via *vias, size_t vias_length, uint16_t channel_layer,
+                                      const leafmesh_channel *channels, size_t channels_length,
                                       leafmesh_node *nodes, size_t nodes_length, leafmesh_edge *edges,
                                       size_t edges_length, leafmesh_cell *cells, size_t cells_length,
                                       uint64_t *work, size_t work_length);
+
+/* How many edges leafmesh_network asks for: LEAFMESH_EDGES_A_LEAF for each leaf, and one for each link. SIZE_MAX also
+ * stands for more than that. Lengths as there. Refuses 7, 3. */
+leafmesh_outcome leafmesh_edge_rows(const int64_t *table, size_t table_length, size_t count, uint64_t max_level,
+                                    const uint16_t *layers, size_t layers_length, const uint32_t *components,
+                                    size_t components_length, const double *sheets, size_t sheets_length,
+                                    const leafmesh_contact_pair *contacts, size_t contacts_length,
+                                    const leafmesh_via *vias, size_t vias_length, uint16_t channel_layer,
+                                    const leafmesh_channel *channels, size_t channels_length);
 
 /* A net, here and in the two checks, is bad if a node's coordinates are out of range, an edge or a cell names a node
  * that isn't there, or a cell's nodes aren't SW, SE, NE, NW of a rectangle with positive sides: 7. */

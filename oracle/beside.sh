@@ -3,6 +3,8 @@
 #
 #   beside.sh OLD [NEW]    two static libraries of this header; NEW is crates/leafmesh/out/libleafmesh.a if not named
 #
+# OLD may also be one whose network takes no links, from before version 0.4.0.
+#
 # The builds are linked in two orders, and the least time of both counts: where the linker places a loop makes up to a
 # fifth of a short call. What takes less than 20 us in both is left out.
 set -eu
@@ -24,7 +26,10 @@ awk '{ print $1, "before_" $1 }' "$folder/names" >"$folder/renamed"
 objcopy --keep-global-symbols="$folder/names" "$folder/whole.o" "$folder/kept.o"
 objcopy --redefine-syms="$folder/renamed" "$folder/kept.o" "$folder/old.o"
 
-cc -std=gnu11 -O2 -Wall -Wextra -Werror -I "$here/../include" -c "$here/beside/beside.c" -o "$folder/beside.o"
+links=
+grep -qx leafmesh_edge_rows "$folder/names" || links=-DWITHOUT_LINKS
+# shellcheck disable=SC2086
+cc -std=gnu11 -O2 -Wall -Wextra -Werror $links -I "$here/../include" -c "$here/beside/beside.c" -o "$folder/beside.o"
 cc "$folder/beside.o" "$folder/old.o" "$new" -o "$folder/old_first"
 ld -r --whole-archive "$new" -o "$folder/new.o"
 cc "$folder/beside.o" "$folder/new.o" "$folder/old.o" -o "$folder/new_first"

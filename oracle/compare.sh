@@ -2,7 +2,7 @@
 # Holds the port and the original side by side.
 #
 #   compare.sh [CALLS [COUNT [SEED]]]    CALLS: contact, table, even, large, strips, build, record, power,
-#                                        network, checks, leafnet, or all
+#                                        network, links, checks, leafnet, or all
 #   compare.sh bench [CALLS]             times of both
 #   compare.sh heap [CALLS]              the heap that each takes for the benchmarks' calls
 #

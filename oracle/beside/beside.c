@@ -40,7 +40,41 @@ extern __typeof__(leafmesh_leaf_order) before_leafmesh_leaf_order;
 extern __typeof__(leafmesh_refine) before_leafmesh_refine;
 extern __typeof__(leafmesh_balance) before_leafmesh_balance;
 extern __typeof__(leafmesh_conform) before_leafmesh_conform;
+#ifdef WITHOUT_LINKS
+/* As it was before version 0.4.0. */
+typedef struct {
+    uint64_t number, place, nodes, edges, cells;
+} outcome_without_links;
+outcome_without_links before_leafmesh_network(const int64_t *table, size_t table_length, size_t count,
+                                              uint64_t max_level, const uint16_t *layers, size_t layers_length,
+                                              const uint32_t *components, size_t components_length,
+                                              const double *sheets, size_t sheets_length, leafmesh_node *nodes,
+                                              size_t nodes_length, leafmesh_edge *edges, size_t edges_length,
+                                              leafmesh_cell *cells, size_t cells_length, uint64_t *work,
+                                              size_t work_length);
+
+/* No call here has links. */
+static leafmesh_net_outcome before_network(const int64_t *table, size_t table_length, size_t count, uint64_t max_level,
+                                           const uint16_t *layers, size_t layers_length, const uint32_t *components,
+                                           size_t components_length, const double *sheets, size_t sheets_length,
+                                           const leafmesh_contact_pair *contacts, size_t contacts_length,
+                                           const leafmesh_via *vias, size_t vias_length, uint16_t channel_layer,
+                                           const leafmesh_channel *channels, size_t channels_length,
+                                           leafmesh_node *nodes, size_t nodes_length, leafmesh_edge *edges,
+                                           size_t edges_length, leafmesh_cell *cells, size_t cells_length,
+                                           uint64_t *work, size_t work_length)
+{
+    (void)contacts, (void)vias, (void)channels, (void)channel_layer;
+    (void)contacts_length, (void)vias_length, (void)channels_length;
+    const outcome_without_links o = before_leafmesh_network(
+        table, table_length, count, max_level, layers, layers_length, components, components_length, sheets,
+        sheets_length, nodes, nodes_length, edges, edges_length, cells, cells_length, work, work_length);
+    return (leafmesh_net_outcome){o.number, o.place, o.nodes, o.edges, o.cells, 0};
+}
+#else
 extern __typeof__(leafmesh_network) before_leafmesh_network;
+#define before_network before_leafmesh_network
+#endif
 extern __typeof__(leafmesh_power) before_leafmesh_power;
 extern __typeof__(leafmesh_check_network_conforming) before_leafmesh_check_network_conforming;
 extern __typeof__(leafmesh_check_by_layer) before_leafmesh_check_by_layer;
@@ -52,7 +86,7 @@ static const library builds[2] = {
      leafmesh_conform, leafmesh_network, leafmesh_power, leafmesh_check_network_conforming, leafmesh_check_by_layer,
      leafmesh_read, leafmesh_write},
     {before_leafmesh_strips, before_leafmesh_build, before_leafmesh_leaf_count, before_leafmesh_leaf_order,
-     before_leafmesh_refine, before_leafmesh_balance, before_leafmesh_conform, before_leafmesh_network,
+     before_leafmesh_refine, before_leafmesh_balance, before_leafmesh_conform, before_network,
      before_leafmesh_power, before_leafmesh_check_network_conforming, before_leafmesh_check_by_layer,
      before_leafmesh_read, before_leafmesh_write},
 };
@@ -156,9 +190,9 @@ static void conform(const library *l, rows *r)
 static void network(const library *l, rows *r)
 {
     SAY(l->network(r->table, sizeof r->table / 8, board.count, board.max_level, board.layers, board.polygons,
-                   board.components, board.polygons, board.sheets, board.polygons, r->nodes,
-                   sizeof r->nodes / sizeof *r->nodes, r->edges, sizeof r->edges / sizeof *r->edges, r->cells,
-                   sizeof r->cells / sizeof *r->cells, work, LEAFMESH_WORK_LENGTH(LEAFMESH_SLOTS)));
+                   board.components, board.polygons, board.sheets, board.polygons, NULL, 0, NULL, 0, 0, NULL, 0,
+                   r->nodes, sizeof r->nodes / sizeof *r->nodes, r->edges, sizeof r->edges / sizeof *r->edges,
+                   r->cells, sizeof r->cells / sizeof *r->cells, work, LEAFMESH_WORK_LENGTH(LEAFMESH_SLOTS)));
 }
 
 static void power(const library *l, rows *r)

@@ -92,6 +92,10 @@ static leafmesh_edge edges[LEAFMESH_EDGES_LENGTH(SLOTS)];
 static leafmesh_cell cells[LEAFMESH_CELLS_LENGTH(SLOTS)];
 static uint64_t work[WORK];
 static double potentials[LEAFMESH_NODES_LENGTH(SLOTS)], powers[SLOTS];
+static leafmesh_contact_pair contacts[2];
+static leafmesh_via vias[2];
+static leafmesh_channel channels[2];
+static size_t link_count, edge_room = LEAFMESH_EDGES_LENGTH(SLOTS);
 static size_t work_length, edge_count, byte_count;
 static uint8_t bytes[1 << 15];
 static leafmesh_outcome outcome;
@@ -149,8 +153,16 @@ static void conform(void)
 static void network(void)
 {
     net = CALL(leafmesh_network)(table, LEAFMESH_SLOT * SLOTS, count, max_level, layers, polygon_count, components,
-                                 polygon_count, sheets, polygon_count, nodes, LEAFMESH_NODES_LENGTH(SLOTS), edges,
-                                 LEAFMESH_EDGES_LENGTH(SLOTS), cells, LEAFMESH_CELLS_LENGTH(SLOTS), work, work_length);
+                                 polygon_count, sheets, polygon_count, contacts, link_count, vias, link_count, 1,
+                                 channels, link_count, nodes, LEAFMESH_NODES_LENGTH(SLOTS), edges, edge_room, cells,
+                                 LEAFMESH_CELLS_LENGTH(SLOTS), work, work_length);
+}
+
+static void edge_rows(void)
+{
+    outcome = CALL(leafmesh_edge_rows)(table, LEAFMESH_SLOT * SLOTS, count, max_level, layers, polygon_count,
+                                       components, polygon_count, sheets, polygon_count, contacts, link_count, vias,
+                                       link_count, 1, channels, link_count);
 }
 
 static void power(void)
@@ -438,6 +450,49 @@ static void measure_both_checks(void)
     print_row("check_by_layer, without work room");
 }
 
+/* A link of each kind that joins, and one that doesn't; the board is of one layer. Footprints hold nodes and none. */
+static void with_links(void)
+{
+    const uint16_t layer = layers[0];
+    const int64_t far = table[LEAFMESH_SLOT * (count - 1) + LEAFMESH_X1];
+    for (int n = 0; n < 2; n++) {
+        contacts[n].to = (uint64_t)n;
+        vias[n].bottom = vias[n].top = layer;
+        vias[n].component = components[0];
+        vias[n].footprint.x = far / 2;
+        vias[n].footprint.y = far / 2;
+        vias[n].footprint.half_width = vias[n].footprint.half_height = n == 0 ? far / 8 : 1;
+        vias[n].resistance = 1;
+        channels[n].drain.component = channels[n].source.component = components[0] + (uint32_t)n;
+        channels[n].drain.x = far;
+        channels[n].resistance = 1;
+    }
+    link_count = 2;
+}
+
+static void measure_links(void)
+{
+    board_with_net(60, 3);
+    with_links();
+    MEASURE(leafmesh_edge_rows, edge_rows);
+    MEASURE(leafmesh_network, network);
+    accepted("leafmesh_network with links", net.number);
+    callee = (void (*)(void))leafmesh_edge_rows;
+    edge_rows();
+    accepted("leafmesh_edge_rows", outcome.number);
+    /* Exactly the rows that it needs, then one less. */
+    edge_room = outcome.value;
+    MEASURE(leafmesh_network, network);
+    edge_room--;
+    MEASURE(leafmesh_network, network);
+    vias[1].resistance = 0;
+    MEASURE(leafmesh_edge_rows, edge_rows);
+    MEASURE(leafmesh_network, network);
+    print_row("network with links, edge_rows");
+    edge_room = LEAFMESH_EDGES_LENGTH(SLOTS);
+    link_count = 0;
+}
+
 static void measure_net(void)
 {
     board_with_net(1, 3);
@@ -449,6 +504,7 @@ static void measure_net(void)
     sheets[0] = 0;
     MEASURE(leafmesh_network, network);
     print_row("network");
+    measure_links();
     board_with_net(60, 3);
     MEASURE(leafmesh_power, power);
     room = 0;

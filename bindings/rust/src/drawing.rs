@@ -1,9 +1,10 @@
 //! A mesh as a picture (SVG): leaves by level, or by a value on a logarithmic scale; one panel a layer, the nodes
-//! that stand at the middle of a leaf's side marked, a scale bar and a legend.
+//! that stand at the middle of a leaf's side marked, a scale bar and a legend. Links are shown where they end.
 
+use crate::marks::{self, Marks};
 use crate::printed::Printed;
 use crate::sides::hanging;
-use crate::{Board, Mesh, NetRows, Rect, Refusal, TICK};
+use crate::{Board, Links, Mesh, Net, NetRows, Rect, Refusal, TICK};
 use std::collections::{BTreeMap, BTreeSet};
 use std::fmt::{self, Write};
 
@@ -31,6 +32,7 @@ pub struct Picture {
     nodes: Vec<Place>,
     hanging: BTreeSet<Place>,
     values: Option<Values>,
+    marks: Marks,
 }
 
 /// One value a cell, and what it is.
@@ -93,7 +95,15 @@ impl Picture {
             hanging: hanging(net).into_iter().map(|node| nodes[node]).collect(),
             nodes,
             values: None,
+            marks: Marks::default(),
         })
+    }
+
+    /// Marks the links of a net where they end, and the footprints of the vias that made them.
+    pub fn with_links(mut self, net: &Net, links: Links) -> Self {
+        let panel = i64::from;
+        self.marks = Marks::of(&net.nodes, net.links(), panel).with_footprints(links, panel);
+        self
     }
 
     /// What leafnet printed. Without the board all layers stand in one panel.
@@ -136,6 +146,7 @@ impl Picture {
             nodes,
             hanging,
             values: None,
+            marks: Marks::of(&printed.nodes, printed.links(), |_| 0),
         })
     }
 
@@ -236,6 +247,22 @@ impl Layout {
         ]
     }
 
+    /// What of a rectangle lies in a layer's panel: x0, y0, x1, y1 of the picture.
+    fn clipped(&self, layer: i64, [x0, y0, x1, y1]: Rect) -> Option<[f64; 4]> {
+        self.layers.binary_search(&layer).ok()?;
+        let [left, top] = self.corner(layer);
+        let [west, north] = self.place([layer, x0, y1]);
+        let [east, south] = self.place([layer, x1, y0]);
+        let (right, bottom) = (left + self.size[0], top + self.size[1] - HEADING);
+        let [x0, y0, x1, y1] = [
+            west.max(left),
+            north.max(top),
+            east.min(right),
+            south.min(bottom),
+        ];
+        (x0 < x1 && y0 < y1).then_some([x0, y0, x1, y1])
+    }
+
     /// Below the last panel.
     fn bottom(&self) -> f64 {
         let rows = self.layers.len().div_ceil(self.columns).max(1);
@@ -248,6 +275,7 @@ fn put(picture: &Picture, text: &mut String) -> fmt::Result {
     let mut body = String::new();
     put_cells(picture, &layout, &mut body)?;
     put_nodes(picture, &layout, &mut body)?;
+    put_marks(picture, &layout, &mut body)?;
     let mut y = put_scale_bar(&layout, &mut body)?;
     if let Some(values) = &picture.values {
         y = put_colour_bar(values, y, &mut body)?;
@@ -354,6 +382,37 @@ fn put_nodes(picture: &Picture, layout: &Layout, text: &mut String) -> fmt::Resu
     }
     Ok(())
 }
+
+/// Links: footprints below, then what is joined within a layer, then ends.
+fn put_marks(picture: &Picture, layout: &Layout, text: &mut String) -> fmt::Result {
+    let marks = &picture.marks;
+    for &(layer, rect) in &marks.footprints {
+        if let Some(shown) = layout.clipped(layer, rect) {
+            marks::put_footprint(shown, text)?;
+        }
+    }
+    for &pair in &marks.pairs {
+        marks::put_pair(pair.map(|place| layout.place(place)), text)?;
+    }
+    let sides = sides_at(picture, layout.unit);
+    for &place in &marks.ends {
+        let side = sides.get(&place).copied().unwrap_or(0.0);
+        let least = if marks.is_covered(place) {
+            SMALLEST_END
+        } else {
+            LONE_END
+        };
+        let half = (0.2 * side).clamp(least, LARGEST_END);
+        marks::put_end(layout.place(place), half, text)?;
+    }
+    Ok(())
+}
+
+/// An end of a link is seen also where cells are small. Inside a footprint, which shows where to look, it leaves the
+/// cells their colours.
+const LONE_END: f64 = 2.6;
+const SMALLEST_END: f64 = 1.0;
+const LARGEST_END: f64 = 4.5;
 
 /// White with a black rim: seen on pale and on dark cells.
 fn put_hanging([x, y]: [f64; 2], radius: f64, text: &mut String) -> fmt::Result {
@@ -538,10 +597,47 @@ fn put_legend(
         )?;
         x += entry_width(words);
     }
-    let words = format!("{} leaves", picture.cells.len());
+    [x, y] = put_marks_legend(&picture.marks, [x, y], width, text)?;
+    let mut words = format!("{} leaves", picture.cells.len());
+    if picture.marks.links > 0 {
+        let _ = write!(words, ", {} links", picture.marks.links);
+    }
     [x, y] = wrapped([x, y], width, &words);
     writeln!(text, "<text x=\"{x:.0}\" y=\"{y:.0}\">{words}</text>")?;
     Ok(y)
+}
+
+fn put_marks_legend(
+    marks: &Marks,
+    [mut x, mut y]: [f64; 2],
+    width: f64,
+    text: &mut String,
+) -> Result<[f64; 2], fmt::Error> {
+    type Swatch = fn([f64; 2], &mut String) -> fmt::Result;
+    let entries: [(bool, &str, Swatch); 3] = [
+        (
+            !marks.footprints.is_empty(),
+            marks::FOOTPRINT,
+            |[x, y], text| marks::put_footprint([x, y - 11.0, x + 14.0, y + 3.0], text),
+        ),
+        (!marks.pairs.is_empty(), marks::PAIR, |[x, y], text| {
+            marks::put_pair([[x, y - 4.0], [x + 14.0, y - 4.0]], text)
+        }),
+        (!marks.ends.is_empty(), marks::END, |[x, y], text| {
+            marks::put_end([x + 7.0, y - 4.0], LARGEST_END, text)
+        }),
+    ];
+    for (_, words, put) in entries.into_iter().filter(|entry| entry.0) {
+        [x, y] = wrapped([x, y], width, words);
+        put([x, y], text)?;
+        writeln!(
+            text,
+            "<text x=\"{:.0}\" y=\"{y:.0}\">{words}</text>",
+            x + 19.0
+        )?;
+        x += entry_width(words);
+    }
+    Ok([x, y])
 }
 
 fn entry_width(words: &str) -> f64 {

@@ -10,7 +10,7 @@
 
 #![allow(missing_docs)] // the header has the words
 
-use crate::{Cell, Edge, Node, Point, Rect};
+use crate::{Cell, Channel, Contact, Edge, Node, Point, Rect, Via};
 
 /// What most calls answer. Number 0 is accepted, others are the refusals. What has no meaning is 0: the
 /// place of an accepted call, the value of a refused one.
@@ -37,7 +37,8 @@ pub struct ReadOutcome {
     pub splits: u64,
 }
 
-/// How many nodes, edges and cells a net has; zeros behind a refusal.
+/// How many nodes, edges and cells a net has, and how many of the edges are links, the last ones; zeros behind a
+/// refusal.
 #[repr(C)]
 #[derive(Clone, Copy, Debug, Default, PartialEq, Eq)]
 pub struct NetOutcome {
@@ -46,6 +47,7 @@ pub struct NetOutcome {
     pub nodes: u64,
     pub edges: u64,
     pub cells: u64,
+    pub links: u64,
 }
 
 /// Broken is 1 where a node hangs; zeros where none does, and behind a refusal.
@@ -148,6 +150,13 @@ extern "C" {
         components_length: usize,
         sheets: *const f64,
         sheets_length: usize,
+        contacts: *const Contact,
+        contacts_length: usize,
+        vias: *const Via,
+        vias_length: usize,
+        channel_layer: u16,
+        channels: *const Channel,
+        channels_length: usize,
         nodes: *mut Node,
         nodes_length: usize,
         edges: *mut Edge,
@@ -157,6 +166,25 @@ extern "C" {
         work: *mut u64,
         work_length: usize,
     ) -> NetOutcome;
+    pub fn leafmesh_edge_rows(
+        table: *const i64,
+        table_length: usize,
+        count: usize,
+        max_level: u64,
+        layers: *const u16,
+        layers_length: usize,
+        components: *const u32,
+        components_length: usize,
+        sheets: *const f64,
+        sheets_length: usize,
+        contacts: *const Contact,
+        contacts_length: usize,
+        vias: *const Via,
+        vias_length: usize,
+        channel_layer: u16,
+        channels: *const Channel,
+        channels_length: usize,
+    ) -> Outcome;
     pub fn leafmesh_power(
         nodes: *const Node,
         nodes_length: usize,

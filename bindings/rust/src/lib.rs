@@ -4,9 +4,10 @@
 //! millimetres there and back. Sheet resistance is in ohms a square, potential in volts, power in watts, conductance in
 //! siemens. Every call takes any input and answers `Ok`, or `Err` with a [`Refusal`]; a refused call changes nothing
 //! that it was lent. No call of the library allocates or keeps anything, so any number of threads may call at once;
-//! what is lent stands in the caller's rows. [`Mesh`], [`read`], [`network`] and the two checks take rows from the heap;
-//! [`network_with`], [`check_network_conforming_with`] and [`check_by_layer_with`] take lent ones. [`limits`] has the
-//! ranges, [`columns`] the places of numbers in a slot and of corners in a cell.
+//! what is lent stands in the caller's rows. [`Mesh`], [`read`], [`network`], [`linked_network`] and the two checks take
+//! rows from the heap; [`network_with`], [`check_network_conforming_with`] and [`check_by_layer_with`] take lent ones.
+//! [`limits`] has the ranges, [`columns`] the places of numbers in a slot and of corners in a cell. [`Links`] are what
+//! joins polygons and layers: contacts, vias and channels.
 //!
 //! **The net's conductances are the original's, bit for bit, and not the copper's at a change of level**, beside other
 //! copper of the layer and where two polygons of a component meet: see docs/CONDUCTANCES.md. [`solving`] shows
@@ -55,6 +56,8 @@
 
 pub mod drawing;
 pub mod ffi;
+mod links;
+mod marks;
 mod mesh;
 mod net;
 mod pitch;
@@ -68,12 +71,13 @@ pub mod tool;
 mod unmeshed;
 pub mod vtk;
 
+pub use links::{Channel, Contact, Footprint, Link, Links, OwnedLinks, Terminal, Via};
 pub use mesh::{Mesh, Polygons};
 pub use net::{Cell, Counts, Edge, Net, NetRoom, NetRows, Node};
 pub use pitch::{Misfit, Pitch, Why};
 use refusal::{judged, judged_net, judged_read};
 pub use refusal::{Reason, Refusal};
-pub use unmeshed::{Loose, TooLong, Unmeshed};
+pub use unmeshed::{Idle, Loose, TooLong, Unmeshed};
 
 /// x and y in ticks.
 pub type Point = [i64; 2];
@@ -349,19 +353,61 @@ fn grown(splits: u64, head: Head) -> (usize, Head) {
     )
 }
 
-/// The net of a table's leaves, in rows from the heap. Of the outlines layers, components and sheets are read. Cell i
-/// is [`leaf_order`]'s i-th leaf.
+/// The net of a table's leaves, without links, in rows from the heap. Of the outlines layers, components and sheets are
+/// read. Cell i is [`leaf_order`]'s i-th leaf.
 ///
 /// # Errors
 ///
 /// [`Reason::BadTable`] for polygons' rows of unequal length too, [`Reason::OutOfRange`] for a sheet resistance or more
 /// than 256 polygons.
 pub fn network(table: &[i64], head: Head, outlines: Outlines) -> Result<Net, Refusal> {
+    linked_network(table, head, outlines, Links::default())
+}
+
+/// The same with links behind the leaves' edges: those of the contacts, then those of the vias, then those of the
+/// channels. What finds no node on one side makes no link.
+///
+/// ```
+/// use leafmesh::{build, linked_network, Footprint, Links, Outlines, Settings, Via};
+///
+/// // The same square of 4 by 4 ticks on two layers.
+/// let square = [[0, 0], [4, 0], [4, 4], [0, 4]];
+/// let outlines = Outlines {
+///     layers: &[1, 2],
+///     components: &[0, 0],
+///     sheets: &[1.0, 1.0],
+///     counts: &[4, 4],
+///     points: &[square, square].concat(),
+/// };
+/// let mut table = vec![0; 8 * 2];
+/// let head = build(Settings { max_level: 1, cap: 256, target: 4 }, &[], outlines, &mut table)?;
+///
+/// // A via of 1 ohm over the east side: two nodes on each layer, four pairs.
+/// let footprint = Footprint { x: 4, y: 2, half_width: 1, half_height: 2 };
+/// let vias = [Via { bottom: 1, top: 2, component: 0, footprint, resistance: 1.0 }];
+/// let net = linked_network(&table, head, outlines, Links { vias: &vias, ..Links::default() })?;
+/// assert_eq!((net.edges.len(), net.links), (8 + 4, 4));
+/// assert!(net.links().iter().all(|link| link.conductance == 0.25));
+/// # Ok::<(), leafmesh::Refusal>(())
+/// ```
+///
+/// # Errors
+///
+/// Those of [`network`]; [`Reason::OutOfRange`] for a resistance, a half size or a place of a link too, also of one that
+/// would join nothing; [`Reason::NoRoom`] where the heap has too little, since a via of large footprint can make
+/// billions of edges.
+pub fn linked_network(
+    table: &[i64],
+    head: Head,
+    outlines: Outlines,
+    links: Links,
+) -> Result<Net, Refusal> {
     let leaves = leaf_count(table, head)?;
     let mut net = Net {
         nodes: vec![Node::default(); limits::NODES_A_LEAF * leaves],
-        edges: vec![Edge::default(); limits::EDGES_A_LEAF * leaves],
+        edges: edges_lent(edge_rows(table, head, outlines, links)?)?,
         cells: vec![Cell::default(); limits::CELLS_A_LEAF * leaves],
+        links: 0,
     };
     let room = NetRoom {
         nodes: &mut net.nodes,
@@ -369,22 +415,36 @@ pub fn network(table: &[i64], head: Head, outlines: Outlines) -> Result<Net, Ref
         cells: &mut net.cells,
         work: &mut vec![0; limits::WORK_A_LEAF * leaves],
     };
-    let counts = network_with(table, head, outlines, room)?;
+    let counts = network_with(table, head, outlines, links, room)?;
     net.nodes.truncate(counts.nodes);
     net.edges.truncate(counts.edges);
     net.cells.truncate(counts.cells);
+    net.links = counts.links;
     Ok(net)
+}
+
+/// So many edges from the heap, if it has them.
+fn edges_lent(rows: usize) -> Result<Vec<Edge>, Refusal> {
+    let no_room = Refusal {
+        reason: Reason::NoRoom,
+        place: 0,
+    };
+    let mut edges = Vec::new();
+    edges.try_reserve_exact(rows).map_err(|_| no_room)?;
+    edges.resize(rows, Edge::default());
+    Ok(edges)
 }
 
 /// The same into the front of lent rows; the work room is zero afterwards.
 ///
 /// # Errors
 ///
-/// Those of [`network`], then [`Reason::NoRoom`].
+/// Those of [`linked_network`], then [`Reason::NoRoom`].
 pub fn network_with(
     table: &[i64],
     head: Head,
     outlines: Outlines,
+    links: Links,
     room: NetRoom,
 ) -> Result<Counts, Refusal> {
     let outcome = unsafe {
@@ -399,6 +459,13 @@ pub fn network_with(
             outlines.components.len(),
             outlines.sheets.as_ptr(),
             outlines.sheets.len(),
+            links.contacts.as_ptr(),
+            links.contacts.len(),
+            links.vias.as_ptr(),
+            links.vias.len(),
+            links.channel_layer,
+            links.channels.as_ptr(),
+            links.channels.len(),
             room.nodes.as_mut_ptr(),
             room.nodes.len(),
             room.edges.as_mut_ptr(),
@@ -410,6 +477,42 @@ pub fn network_with(
         )
     };
     judged_net(outcome)
+}
+
+/// How many edge rows [`network_with`] asks for: [`limits::EDGES_A_LEAF`] for each leaf, and one for each link.
+/// `usize::MAX` also stands for more than that.
+///
+/// # Errors
+///
+/// Those of [`linked_network`].
+pub fn edge_rows(
+    table: &[i64],
+    head: Head,
+    outlines: Outlines,
+    links: Links,
+) -> Result<usize, Refusal> {
+    let outcome = unsafe {
+        ffi::leafmesh_edge_rows(
+            table.as_ptr(),
+            table.len(),
+            head.count,
+            head.max_level,
+            outlines.layers.as_ptr(),
+            outlines.layers.len(),
+            outlines.components.as_ptr(),
+            outlines.components.len(),
+            outlines.sheets.as_ptr(),
+            outlines.sheets.len(),
+            links.contacts.as_ptr(),
+            links.contacts.len(),
+            links.vias.as_ptr(),
+            links.vias.len(),
+            links.channel_layer,
+            links.channels.as_ptr(),
+            links.channels.len(),
+        )
+    };
+    Ok(judged(outcome)? as usize)
 }
 
 /// The power of each cell of a net in watts, from the potential of each node in volts, into the front of `answers`.

@@ -36,10 +36,19 @@ pub const SHEET_HIGH: f64 = 1_099_511_627_776.0;
 /// Potentials lie from minus this to this, in volts.
 pub const POTENTIAL: f64 = 1_048_576.0;
 
+/// The least resistance of a via or a channel in ohms, 2^-40.
+pub const RESISTANCE_LOW: f64 = SHEET_LOW;
+
+/// The largest resistance of a via or a channel in ohms, 2^40.
+pub const RESISTANCE_HIGH: f64 = SHEET_HIGH;
+
+/// Half sizes of a footprint lie from 0 to this, in ticks.
+pub const HALF: i64 = COORDINATE;
+
 /// Nodes that a net may need for each leaf.
 pub const NODES_A_LEAF: usize = 4;
 
-/// Edges that a net may need for each leaf.
+/// Edges that a net may need for each leaf, besides its links.
 pub const EDGES_A_LEAF: usize = 8;
 
 /// Cells that a net needs for each leaf.

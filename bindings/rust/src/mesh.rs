@@ -2,13 +2,14 @@
 
 use crate::columns::{FIRST_CHILD, LEVEL, POLYGON, X0, Y1};
 use crate::sides::{loose, Inside};
-use crate::unmeshed::{refused, Loose, TooLong, Unmeshed};
+use crate::unmeshed::{refused, Idle, Loose, TooLong, Unmeshed};
 use crate::{
-    balance, build, check_by_layer, leaf_count, leaf_order, network, refine, Board, Hanging, Head,
-    Net, NetRows, Outlines, Point, Reason, Rect, Refusal, Settings, NO_CELL, SLOT, SLOTS,
+    balance, build, check_by_layer, edge_rows, leaf_count, leaf_order, limits, linked_network,
+    refine, Board, Hanging, Head, Links, Net, NetRows, Outlines, Point, Reason, Rect, Refusal,
+    Settings, NO_CELL, SLOT, SLOTS,
 };
 
-/// Polygons by rows, owned: what [`build`] and [`network`] take as [`Outlines`].
+/// Polygons by rows, owned: what [`build`] and [`network`](crate::network) take as [`Outlines`].
 #[derive(Clone, Debug, Default, PartialEq)]
 pub struct Polygons {
     /// The layer of each polygon.
@@ -165,27 +166,62 @@ impl Mesh {
         Ok(ids.into_iter().map(|id| id as usize).collect())
     }
 
-    /// The net of the leaves.
+    /// The net of the leaves, without links.
     ///
     /// # Errors
     ///
-    /// Those of [`network`]; [`Unmeshed::TooLong`] or [`Unmeshed::Loose`] where the net would be wrong, since
-    /// [`sides::loose`](crate::sides::loose) finds a node inside a leaf's side.
+    /// Those of [`network`](crate::network); [`Unmeshed::TooLong`] or [`Unmeshed::Loose`] where the net would be wrong,
+    /// since [`sides::loose`](crate::sides::loose) finds a node inside a leaf's side.
     pub fn net(&self) -> Result<Net, Unmeshed> {
-        let net = self.unjudged_net()?;
-        match loose(net.rows()) {
-            Some(inside) => Err(self.why_loose(&net, inside)?),
+        self.linked_net(Links::default())
+    }
+
+    /// The net of the leaves and of links between them.
+    ///
+    /// # Errors
+    ///
+    /// Those of [`linked_network`] and of [`Mesh::net`]; [`Unmeshed::Idle`] for the first link that joins nothing.
+    pub fn linked_net(&self, links: Links) -> Result<Net, Unmeshed> {
+        let net = self.unjudged_linked_net(links)?;
+        if let Some(inside) = loose(net.rows()) {
+            return Err(self.why_loose(&net, inside)?);
+        }
+        let edges = self.edges_of_links(links)?;
+        match links.each().zip(edges).find(|&(_, edges)| edges == 0) {
+            Some(((link, _), _)) => Err(Unmeshed::Idle(Idle { link })),
             None => Ok(net),
         }
     }
 
-    /// The net of the leaves, whatever stands inside their sides: as [`network`] makes it.
+    /// The net of the leaves, without links, whatever stands inside their sides: as [`network`](crate::network) makes it.
     ///
     /// # Errors
     ///
-    /// Those of [`network`].
+    /// Those of [`network`](crate::network).
     pub fn unjudged_net(&self) -> Result<Net, Refusal> {
-        network(&self.table, self.head, self.polygons.outlines())
+        self.unjudged_linked_net(Links::default())
+    }
+
+    /// The net of leaves and links, whatever stands inside the leaves' sides, and whether the links join anything: as
+    /// [`linked_network`] makes it.
+    ///
+    /// # Errors
+    ///
+    /// Those of [`linked_network`].
+    pub fn unjudged_linked_net(&self, links: Links) -> Result<Net, Refusal> {
+        linked_network(&self.table, self.head, self.polygons.outlines(), links)
+    }
+
+    /// How many edges each link makes, in the order of [`Links::each`]: that of the net's links.
+    ///
+    /// # Errors
+    ///
+    /// Those of [`edge_rows`].
+    pub fn edges_of_links(&self, links: Links) -> Result<Vec<usize>, Refusal> {
+        let own = limits::EDGES_A_LEAF * leaf_count(&self.table, self.head)?;
+        let outlines = self.polygons.outlines();
+        let count = |(_, one)| Ok(edge_rows(&self.table, self.head, outlines, one)? - own);
+        links.each().map(count).collect()
     }
 
     /// The first node at the middle of a leaf's side that lacks a half, among nodes of the leaf's own layer and

@@ -45,15 +45,17 @@ pub struct Cell {
 const _: () =
     assert!(size_of::<Node>() == 24 && size_of::<Edge>() == 24 && size_of::<Cell>() == 40);
 
-/// A net with rows of its own.
+/// A net with rows of its own. Its last edges are links.
 #[derive(Clone, Debug, Default, PartialEq)]
 pub struct Net {
     /// Each is named by its place in this row.
     pub nodes: Vec<Node>,
-    /// By polygon, as docs/RULES.md has their order.
+    /// By polygon, as docs/RULES.md has their order; then the links.
     pub edges: Vec<Edge>,
     /// Cell i is [`leaf_order`](crate::leaf_order)'s i-th leaf.
     pub cells: Vec<Cell>,
+    /// How many of the edges are links.
+    pub links: usize,
 }
 
 impl Net {
@@ -64,6 +66,11 @@ impl Net {
             edges: &self.edges,
             cells: &self.cells,
         }
+    }
+
+    /// The edges that contacts, vias and channels make, in this order.
+    pub fn links(&self) -> &[Edge] {
+        &self.edges[self.edges.len() - self.links..]
     }
 }
 
@@ -91,7 +98,7 @@ impl NetRows<'_> {
 pub struct NetRoom<'a> {
     /// [`NODES_A_LEAF`](limits::NODES_A_LEAF) for each leaf.
     pub nodes: &'a mut [Node],
-    /// [`EDGES_A_LEAF`](limits::EDGES_A_LEAF) for each leaf.
+    /// [`EDGES_A_LEAF`](limits::EDGES_A_LEAF) for each leaf, and one for each link: [`edge_rows`](crate::edge_rows).
     pub edges: &'a mut [Edge],
     /// [`CELLS_A_LEAF`](limits::CELLS_A_LEAF) for each leaf.
     pub cells: &'a mut [Cell],
@@ -99,7 +106,7 @@ pub struct NetRoom<'a> {
     pub work: &'a mut [u64],
 }
 
-/// How many nodes, edges and cells a net has.
+/// How many nodes, edges and cells a net has, and how many of the edges are links.
 #[derive(Clone, Copy, Debug, PartialEq, Eq)]
 pub struct Counts {
     /// In front of the nodes' row.
@@ -108,4 +115,6 @@ pub struct Counts {
     pub edges: usize,
     /// In front of the cells' row.
     pub cells: usize,
+    /// The last of the edges.
+    pub links: usize,
 }

@@ -131,6 +131,24 @@ impl Pitch {
         Ok([self.ticks(x)?, self.ticks(y)?])
     }
 
+    /// The nearest tick to a length that needn't be a multiple of the pitch, as that of a link.
+    ///
+    /// # Errors
+    ///
+    /// [`Why::TooFar`] for one past 2^36 ticks, or no number.
+    pub fn nearest_tick(self, millimetres: f64) -> Result<i64, Misfit> {
+        let ticks = (millimetres / self.millimetres * self.ticks as f64).round();
+        let most = COORDINATE as f64;
+        if (-most..=most).contains(&ticks) {
+            return Ok(ticks as i64);
+        }
+        Err(Misfit {
+            given: millimetres,
+            nearest: self.millimetres(ticks.max(-most).min(most) as i64),
+            why: Why::TooFar,
+        })
+    }
+
     /// Ticks in millimetres of the board; of a split cell's corner fractions of a pitch.
     pub fn millimetres(self, ticks: i64) -> f64 {
         ticks as f64 / self.ticks as f64 * self.millimetres

@@ -29,6 +29,15 @@ pub struct Printed {
     pub nodes: Vec<Node>,
     /// In the order of the net.
     pub edges: Vec<Edge>,
+    /// How many of the edges are links, the last ones. What leafnet itself prints has none.
+    pub links: usize,
+}
+
+impl Printed {
+    /// The edges that are links.
+    pub fn links(&self) -> &[Edge] {
+        &self.edges[self.edges.len() - self.links..]
+    }
 }
 
 /// Reads leafnet's output.
@@ -43,7 +52,11 @@ pub fn read(text: &str) -> Result<Printed, String> {
         Some((_, line)) => totals_of(line)?,
         None => return Err("no text of leafnet: it is empty".to_string()),
     };
-    let mut printed = Printed::default();
+    let (totals, links) = totals;
+    let mut printed = Printed {
+        links,
+        ..Printed::default()
+    };
     for (index, line) in lines {
         take_line(&mut printed, line)
             .ok_or_else(|| format!("line {}: not a line of leafnet: {line}", index + 1))?;
@@ -60,6 +73,9 @@ pub fn read(text: &str) -> Result<Printed, String> {
             ));
         }
     }
+    if links > printed.edges.len() {
+        return Err(format!("line 1: more links than edges: {links}"));
+    }
     let mut ends = printed.edges.iter().flat_map(|edge| [edge.from, edge.to]);
     match ends.find(|&end| end >= printed.nodes.len()) {
         Some(end) => Err(format!(
@@ -69,21 +85,27 @@ pub fn read(text: &str) -> Result<Printed, String> {
     }
 }
 
-/// Leaves, nodes and edges that the first line promises.
-fn totals_of(line: &str) -> Result<[usize; 3], String> {
+/// Leaves, nodes and edges that the first line promises; and links, if it says any.
+fn totals_of(line: &str) -> Result<([usize; 3], usize), String> {
     if line.starts_with("refused ") {
         return Err(format!("leafnet answered: {line}"));
     }
     let words: Vec<&str> = line.split(' ').collect();
     let number = |word: &str| word.parse::<usize>().ok();
-    let totals = match words.as_slice() {
+    let (own, links) = match words.as_slice() {
+        [own @ .., "links", links] => (own, number(links).filter(|&links| links > 0)),
+        own => (own, Some(0)),
+    };
+    let totals = match own {
         ["cells", _, "leaves", leaves, "nodes", nodes, "edges", edges, "splits", _] => {
             [leaves, nodes, edges].map(|word| number(word))
         }
         _ => [None; 3],
     };
-    match totals {
-        [Some(leaves), Some(nodes), Some(edges)] => Ok([leaves, nodes, edges]),
+    match (totals, links) {
+        ([Some(leaves), Some(nodes), Some(edges)], Some(links)) => {
+            Ok(([leaves, nodes, edges], links))
+        }
         _ => Err(format!("line 1: not leafnet's totals: {line}")),
     }
 }
@@ -147,7 +169,8 @@ pub fn show(board: &Board) -> Result<String, Unmeshed> {
     show_mesh(board, &mesh, &mesh.net()?)
 }
 
-/// The same of a mesh and a net that were made of the board already.
+/// The same of a mesh and a net that were made of the board already. Where the net has links, the first line ends with
+/// how many.
 ///
 /// # Errors
 ///
@@ -158,8 +181,12 @@ pub fn show_mesh(board: &Board, mesh: &Mesh, net: &Net) -> Result<String, Unmesh
         .head
         .count;
     let splits = (mesh.head.count - before) / 4 - board.splits.len();
+    let links = match net.links {
+        0 => String::new(),
+        links => format!(" links {links}"),
+    };
     let mut text = format!(
-        "cells {} leaves {} nodes {} edges {} splits {splits}\n",
+        "cells {} leaves {} nodes {} edges {} splits {splits}{links}\n",
         mesh.head.count,
         order.len(),
         net.nodes.len(),
@@ -274,7 +301,16 @@ pub fn read_sound(text: &str) -> Result<Printed, String> {
 ///
 /// In words: the board is refused, or it has another mesh.
 pub fn belongs_to(printed: &Printed, board: &Board) -> Result<(), String> {
-    let own = read(&show(board).map_err(|why| why.to_string())?)?;
+    is_of(printed, &show(board).map_err(|why| why.to_string())?)
+}
+
+/// Whether a text is another one, to the last bit.
+///
+/// # Errors
+///
+/// In words: it isn't.
+pub fn is_of(printed: &Printed, text: &str) -> Result<(), String> {
+    let own = read(text)?;
     if own == *printed {
         Ok(())
     } else {

@@ -133,6 +133,7 @@ pub fn judged_net(outcome: NetOutcome) -> Result<Counts, Refusal> {
         nodes: outcome.nodes as usize,
         edges: outcome.edges as usize,
         cells: outcome.cells as usize,
+        links: outcome.links as usize,
     })
 }
 

@@ -4,11 +4,11 @@
 //! Two systems are made of the same net. [`System::of_net`] takes the net's conductances, which are the
 //! original's and not the copper's at a change of level (docs/CONDUCTANCES.md). [`System::of_cells`] takes
 //! the cells alone as bilinear elements, and ties a node at the middle of a cell's
-//! side to the mean of the side's ends.
+//! side to the mean of the side's ends; [`System::of_linked_cells`] puts the net's links between them.
 
 use crate::columns::{NE, SW};
 use crate::sides::{inside, Inside};
-use crate::{NetRows, Node};
+use crate::{Edge, Net, NetRows, Node};
 use std::collections::BTreeMap;
 use std::error::Error;
 use std::fmt;
@@ -109,6 +109,15 @@ fn free(number: usize) -> Parts {
     vec![(number, 1.0)]
 }
 
+/// Edges by their conductances: row, column, value.
+fn entries_of(edges: &[Edge]) -> Vec<(usize, usize, f64)> {
+    let entries = |edge: &Edge| {
+        let (a, b, g) = (edge.from, edge.to, edge.conductance);
+        [(a, a, g), (b, b, g), (a, b, -g), (b, a, -g)]
+    };
+    edges.iter().flat_map(entries).collect()
+}
+
 impl System {
     /// A system of entries (row, column, value), to be summed, with nodes tied as `parts` says.
     fn of_entries(parts: Vec<Parts>, all: &[(usize, usize, f64)]) -> Self {
@@ -144,12 +153,8 @@ impl System {
 
     /// The net's own conductances; no node is tied.
     pub fn of_net(net: NetRows) -> Self {
-        let mut all = Vec::new();
-        for edge in net.edges {
-            let (a, b, g) = (edge.from, edge.to, edge.conductance);
-            all.extend([(a, a, g), (b, b, g), (a, b, -g), (b, a, -g)]);
-        }
-        System::of_entries((0..net.nodes.len()).map(free).collect(), &all)
+        let parts = (0..net.nodes.len()).map(free).collect();
+        System::of_entries(parts, &entries_of(net.edges))
     }
 
     /// The cells as bilinear elements, hanging nodes tied.
@@ -159,7 +164,20 @@ impl System {
     /// [`NoFit`] where a node stands inside a cell's side and not at its middle: the table that the net was
     /// made of isn't balanced, or its coordinates are no multiples of the base cell.
     pub fn of_cells(net: NetRows) -> Result<Self, NoFit> {
-        let mut all = Vec::new();
+        System::of_cells_and(net, &[])
+    }
+
+    /// The cells as bilinear elements, hanging nodes tied, and the links by their conductances.
+    ///
+    /// # Errors
+    ///
+    /// Those of [`System::of_cells`].
+    pub fn of_linked_cells(net: &Net) -> Result<Self, NoFit> {
+        System::of_cells_and(net.rows(), net.links())
+    }
+
+    fn of_cells_and(net: NetRows, links: &[Edge]) -> Result<Self, NoFit> {
+        let mut all = entries_of(links);
         for cell in net.cells {
             let [low, high] = [SW, NE].map(|corner| net.nodes[cell.corners[corner]]);
             let matrix = element((high.x - low.x) as f64, (high.y - low.y) as f64, cell.sheet);
@@ -253,14 +271,19 @@ fn add(to: &mut [f64], share: f64, what: &[f64]) {
 
 /// 1 V along the top and 0 V along the bottom of each layer's components, the other nodes free.
 pub fn across(nodes: &[Node]) -> Vec<Option<f64>> {
-    let copper = |node: &Node| (node.layer, node.component);
+    across_linked(nodes, &[])
+}
+
+/// The same where links join components and layers: 1 V along the top and 0 V along the bottom of all that is joined.
+pub fn across_linked(nodes: &[Node], links: &[Edge]) -> Vec<Option<f64>> {
+    let joined = Joined::of(nodes, links);
     let mut ends = BTreeMap::new();
     for node in nodes {
-        let (low, high) = ends.entry(copper(node)).or_insert((node.y, node.y));
+        let (low, high) = ends.entry(joined.group(node)).or_insert((node.y, node.y));
         (*low, *high) = ((*low).min(node.y), (*high).max(node.y));
     }
     let held = |node: &Node| {
-        let (low, high) = ends[&copper(node)];
+        let (low, high) = ends[&joined.group(node)];
         match node.y {
             y if y == low => Some(0.0),
             y if y == high => Some(1.0),
@@ -268,4 +291,39 @@ pub fn across(nodes: &[Node]) -> Vec<Option<f64>> {
         }
     };
     nodes.iter().map(held).collect()
+}
+
+/// A layer and a component.
+type Copper = (u16, u32);
+
+/// What links join: of each copper another of its group, or itself.
+struct Joined {
+    next: BTreeMap<Copper, Copper>,
+}
+
+impl Joined {
+    fn of(nodes: &[Node], links: &[Edge]) -> Self {
+        let own = nodes.iter().map(|node| (copper(node), copper(node)));
+        let mut joined = Joined {
+            next: own.collect(),
+        };
+        for link in links {
+            let [a, b] = [link.from, link.to].map(|end| joined.group(&nodes[end]));
+            joined.next.insert(a, b);
+        }
+        joined
+    }
+
+    /// The one that stands for a node's group.
+    fn group(&self, node: &Node) -> Copper {
+        let mut at = copper(node);
+        while self.next[&at] != at {
+            at = self.next[&at];
+        }
+        at
+    }
+}
+
+fn copper(node: &Node) -> Copper {
+    (node.layer, node.component)
 }

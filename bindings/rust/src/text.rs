@@ -18,8 +18,33 @@
 //! # Ok::<(), leafmesh::text::Unclear>(())
 //! ```
 //!
+//! A text can have links, which a record can't; so [`parse_whole`] reads them, and [`parse`] refuses them:
+//!
+//! ```
+//! let whole = leafmesh::text::parse_whole("
+//! target 8
+//! polygon 1 0 0.5
+//! 0 0
+//! 16 0
+//! 16 16
+//! 0 16
+//! polygon 2 0 0.5
+//! 0 0
+//! 16 0
+//! 16 16
+//! 0 16
+//! contact 0 1                # polygons by their number, from 0 on
+//! via 1 2 0 8 8 4 4 0.001    # layers, component, centre, half width and half height, ohms
+//! channels 2                 # the layer of all channels
+//! channel 0 0 8 0 16 8 0.5   # component and place of drain and source, ohms
+//! ")?;
+//! let links = whole.links.rows();
+//! assert_eq!((links.contacts.len(), links.vias.len(), links.channels.len()), (1, 1, 1));
+//! # Ok::<(), leafmesh::text::Unclear>(())
+//! ```
+//!
 //! With a `pitch` in millimetres all lengths behind it are in millimetres and must be multiples of it, and it is the
-//! target (see [`Pitch`]):
+//! target (see [`Pitch`]); only links may stand anywhere, at the nearest tick:
 //!
 //! ```
 //! let board = leafmesh::text::parse("level 3\npitch 0.25\npolygon 1 0 0.0005\n0 0\n1.5 0\n1.5 2\n0 2\n")?;
@@ -28,10 +53,12 @@
 //! ```
 
 use crate::limits::{
-    CAP, CELL, LAYER_ENTRIES, POLYGONS, RING_POINTS, SHEET_HIGH, SHEET_LOW, SPLITS,
+    CAP, CELL, HALF, LAYER_ENTRIES, POLYGONS, RESISTANCE_HIGH, RESISTANCE_LOW, RING_POINTS,
+    SHEET_HIGH, SHEET_LOW, SPLITS,
 };
 use crate::{
-    read, record_length, write, Board, Pitch, Point, Reason, Unmeshed, COORDINATE, MAX_LEVEL,
+    read, record_length, write, Board, Channel, Contact, Footprint, Link, Links, OwnedLinks, Pitch,
+    Point, Reason, Terminal, Unmeshed, Via, COORDINATE, MAX_LEVEL,
 };
 use std::error::Error;
 use std::fmt::{self, Write};
@@ -82,12 +109,25 @@ pub struct Lines {
     pub points: Vec<usize>,
     /// Of each cell to be split.
     pub splits: Vec<usize>,
+    /// Of each contact.
+    pub contacts: Vec<usize>,
+    /// Of each via.
+    pub vias: Vec<usize>,
+    /// Of `channels`.
+    pub channel_layer: usize,
+    /// Of each channel.
+    pub channels: Vec<usize>,
 }
 
-/// A board being read.
-struct Reading {
-    board: Board,
-    lines: Lines,
+/// All that a text says.
+#[derive(Clone, Debug, Default, PartialEq)]
+pub struct Whole {
+    /// What a record can hold.
+    pub board: Board,
+    /// What it can't.
+    pub links: OwnedLinks,
+    /// Where each part stands.
+    pub lines: Lines,
 }
 
 /// ```
@@ -99,7 +139,8 @@ struct Reading {
 ///
 /// # Errors
 ///
-/// The first line that makes no sense. Whether a record can hold the values [`pack`] says.
+/// The first line that makes no sense, and the first with a link, which no record has. Whether a record can hold the
+/// values [`pack`] says.
 pub fn parse(text: &str) -> Result<Board, Unclear> {
     Ok(parse_with_lines(text)?.0)
 }
@@ -110,15 +151,28 @@ pub fn parse(text: &str) -> Result<Board, Unclear> {
 ///
 /// Those of [`parse`].
 pub fn parse_with_lines(text: &str) -> Result<(Board, Lines), Unclear> {
+    let whole = parse_whole(text)?;
+    match whole.lines.first_link() {
+        Some(line) => unclear(line, "a record has no links".to_string()),
+        None => Ok((whole.board, whole.lines)),
+    }
+}
+
+/// All that a text says, links too.
+///
+/// # Errors
+///
+/// The first line that makes no sense, or with a link whose values are out of range.
+pub fn parse_whole(text: &str) -> Result<Whole, Unclear> {
     let board = Board {
         max_level: MEANS_DEFAULT,
         cap: CAP,
         target: 1,
         ..Board::default()
     };
-    let mut reading = Reading {
+    let mut reading = Whole {
         board,
-        lines: Lines::default(),
+        ..Whole::default()
     };
     for (index, words) in text.lines().enumerate() {
         let meant = words.split('#').next().unwrap_or("");
@@ -130,7 +184,7 @@ pub fn parse_with_lines(text: &str) -> Result<(Board, Lines), Unclear> {
                 words: why.unwrap_or_else(|| format!("cannot make sense of \"{}\"", words.trim())),
             })?;
     }
-    Ok((reading.board, reading.lines))
+    Ok(reading)
 }
 
 /// Why a line is refused, where there is more to say than that it makes no sense.
@@ -140,7 +194,16 @@ fn number<T: FromStr>(word: &str) -> Result<T, Why> {
     word.parse().map_err(|_| None)
 }
 
-impl Reading {
+/// A number of a link, in its range.
+fn ranged<T>(word: &str, name: &str, range: RangeInclusive<T>) -> Result<T, Why>
+where
+    T: FromStr + PartialOrd + fmt::Display,
+{
+    let value = number(word)?;
+    in_words(name, value, range).map_err(Some)
+}
+
+impl Whole {
     fn take_line(&mut self, line: usize, words: &[&str]) -> Result<(), Why> {
         match words {
             [] => {}
@@ -165,6 +228,20 @@ impl Reading {
                     self.lines.splits.push(line);
                 }
             }
+            ["contact", from, to] => {
+                let [from, to] = [number(from)?, number(to)?];
+                self.links.contacts.push(Contact { from, to });
+                self.lines.contacts.push(line);
+            }
+            ["via", words @ ..] => {
+                self.links.vias.push(self.via(words)?);
+                self.lines.vias.push(line);
+            }
+            ["channels", layer] => self.take_channel_layer(line, layer)?,
+            ["channel", words @ ..] => {
+                self.links.channels.push(self.channel(words)?);
+                self.lines.channels.push(line);
+            }
             [x, y] => {
                 let point = [self.length(x)?, self.length(y)?];
                 self.board.polygons.last_mut().ok_or(None)?[2] += 1;
@@ -187,8 +264,11 @@ impl Reading {
     }
 
     fn take_pitch(&mut self, line: usize, millimetres: f64) -> Result<(), Why> {
-        if !self.lines.layers.is_empty() || !self.lines.polygons.is_empty() {
-            return Err(Some("pitch stands before layers and polygons".to_string()));
+        let lines = &self.lines;
+        if !lines.layers.is_empty() || !lines.polygons.is_empty() || lines.first_link().is_some() {
+            return Err(Some(
+                "pitch stands before layers, polygons and links".to_string(),
+            ));
         }
         let level = match self.board.max_level {
             MEANS_DEFAULT => DEFAULT_LEVEL,
@@ -200,6 +280,77 @@ impl Reading {
         Ok(())
     }
 
+    /// Layers, component, centre, half sizes and ohms.
+    fn via(&self, words: &[&str]) -> Result<Via, Why> {
+        let [bottom, top, component, x, y, half_width, half_height, ohms] = words else {
+            return Err(None);
+        };
+        Ok(Via {
+            bottom: layer(bottom)?,
+            top: layer(top)?,
+            component: component_of(component)?,
+            footprint: Footprint {
+                x: self.place(x)?,
+                y: self.place(y)?,
+                half_width: self.half(half_width)?,
+                half_height: self.half(half_height)?,
+            },
+            resistance: resistance(ohms)?,
+        })
+    }
+
+    /// Component and place of both ends, and ohms.
+    fn channel(&self, words: &[&str]) -> Result<Channel, Why> {
+        let [drain, dx, dy, source, sx, sy, ohms] = words else {
+            return Err(None);
+        };
+        let end = |component: &str, x: &str, y: &str| -> Result<Terminal, Why> {
+            Ok(Terminal {
+                component: component_of(component)?,
+                x: self.place(x)?,
+                y: self.place(y)?,
+            })
+        };
+        Ok(Channel {
+            drain: end(drain, dx, dy)?,
+            source: end(source, sx, sy)?,
+            resistance: resistance(ohms)?,
+        })
+    }
+
+    fn take_channel_layer(&mut self, line: usize, word: &str) -> Result<(), Why> {
+        let own = layer(word)?;
+        if self.lines.channel_layer > 0 && own != self.links.channel_layer {
+            let before = self.links.channel_layer;
+            return Err(Some(format!(
+                "all channels are on one layer, here {before}"
+            )));
+        }
+        (self.links.channel_layer, self.lines.channel_layer) = (own, line);
+        Ok(())
+    }
+
+    /// A coordinate of a link: on no pitch, but at the nearest tick.
+    fn place(&self, word: &str) -> Result<i64, Why> {
+        in_words("coordinate", self.tick(word)?, -COORDINATE..=COORDINATE).map_err(Some)
+    }
+
+    fn half(&self, word: &str) -> Result<i64, Why> {
+        match self.tick(word)? {
+            below if below < 0 => Err(Some(format!("half size {word} is below 0"))),
+            half => in_words("half size", half, 0..=HALF).map_err(Some),
+        }
+    }
+
+    fn tick(&self, word: &str) -> Result<i64, Why> {
+        match self.lines.pitch {
+            Some(pitch) => pitch
+                .nearest_tick(number(word)?)
+                .map_err(|why| Some(why.to_string())),
+            None => number(word),
+        }
+    }
+
     /// Ticks, or millimetres where there is a pitch.
     fn length(&self, word: &str) -> Result<i64, Why> {
         match self.lines.pitch {
@@ -209,6 +360,20 @@ impl Reading {
             None => number(word),
         }
     }
+}
+
+fn layer(word: &str) -> Result<u16, Why> {
+    let layer = ranged(word, "layer", 0..=u64::from(u16::MAX))?;
+    Ok(layer as u16)
+}
+
+fn component_of(word: &str) -> Result<u32, Why> {
+    let component = ranged(word, "component", 0..=u64::from(u32::MAX))?;
+    Ok(component as u32)
+}
+
+fn resistance(word: &str) -> Result<f64, Why> {
+    ranged(word, "resistance", RESISTANCE_LOW..=RESISTANCE_HIGH)
 }
 
 /// The record of a board's text. It is read back, and what it says is compared with the text.
@@ -237,6 +402,25 @@ pub fn pack_board(board: &Board, lines: &Lines) -> Result<Vec<u8>, Unclear> {
 }
 
 impl Lines {
+    /// The first line with a link.
+    pub fn first_link(&self) -> Option<usize> {
+        let all = [&self.contacts, &self.vias, &self.channels];
+        all.into_iter()
+            .filter_map(|lines| lines.first())
+            .min()
+            .copied()
+    }
+
+    /// The line of a link.
+    fn link(&self, link: Link) -> usize {
+        let line = match link {
+            Link::Contact(at) => self.contacts.get(at),
+            Link::Via(at) => self.vias.get(at),
+            Link::Channel(at) => self.channels.get(at),
+        };
+        line.copied().unwrap_or(0)
+    }
+
     /// Why a board has no mesh, with the line of its text to blame.
     pub fn blame(&self, board: &Board, why: &Unmeshed) -> String {
         match why {
@@ -267,6 +451,7 @@ impl Lines {
                      middle: make all coordinates multiples of the base cell, and draw copper once"
                 )
             }
+            Unmeshed::Idle(idle) => format!("line {}: {}", self.link(idle.link), idle.words()),
         }
     }
 
@@ -331,14 +516,19 @@ fn within<T>(line: usize, name: &str, value: T, range: RangeInclusive<T>) -> Res
 where
     T: PartialOrd + fmt::Display,
 {
+    in_words(name, value, range).map_or_else(|words| unclear(line, words), |_| Ok(()))
+}
+
+/// The value, or that it is out of its range.
+fn in_words<T>(name: &str, value: T, range: RangeInclusive<T>) -> Result<T, String>
+where
+    T: PartialOrd + fmt::Display,
+{
     if range.contains(&value) {
-        return Ok(());
+        return Ok(value);
     }
     let (low, high) = range.into_inner();
-    unclear(
-        line,
-        format!("{name} {value} is out of range: {low} to {high}"),
-    )
+    Err(format!("{name} {value} is out of range: {low} to {high}"))
 }
 
 /// The line of the first part too many.
@@ -379,9 +569,43 @@ fn same<T: PartialEq + fmt::Debug>(own: &[T], again: &[T], lines: &[usize]) -> R
 
 /// The text of a board, in ticks: [`parse`] gives the same board.
 pub fn show(board: &Board) -> String {
+    show_linked(board, Links::default())
+}
+
+/// The text of a board and its links, in ticks: [`parse_whole`] gives the same.
+pub fn show_linked(board: &Board, links: Links) -> String {
     let mut text = String::new();
     put(board, &mut text).expect("a string takes all text");
+    put_links(links, &mut text).expect("a string takes all text");
     text
+}
+
+fn put_links(links: Links, text: &mut String) -> fmt::Result {
+    for Contact { from, to } in links.contacts {
+        writeln!(text, "contact {from} {to}")?;
+    }
+    for via in links.vias {
+        let Footprint {
+            x,
+            y,
+            half_width,
+            half_height,
+        } = via.footprint;
+        writeln!(
+            text,
+            "via {} {} {} {x} {y} {half_width} {half_height} {:?}",
+            via.bottom, via.top, via.component, via.resistance
+        )?;
+    }
+    if !links.channels.is_empty() {
+        writeln!(text, "channels {}", links.channel_layer)?;
+    }
+    for channel in links.channels {
+        let [drain, source] = [channel.drain, channel.source]
+            .map(|end| format!("{} {} {}", end.component, end.x, end.y));
+        writeln!(text, "channel {drain} {source} {:?}", channel.resistance)?;
+    }
+    Ok(())
 }
 
 fn put(board: &Board, text: &mut String) -> fmt::Result {

@@ -1,8 +1,8 @@
 //! What the tools have in common: words, input, output and how they end. A tool that can't write all it has says so
 //! and ends with 1; an output that was closed before the start looks like an empty file to it.
 
-use crate::text::{self, Lines};
-use crate::{read, Board, Mesh, Net, Unmeshed};
+use crate::text::{self, Lines, Whole};
+use crate::{read, Board, Mesh, Net, OwnedLinks, Unmeshed};
 use std::fs;
 use std::io::{self, Read, Write};
 use std::process::ExitCode;
@@ -55,9 +55,10 @@ pub fn text(bytes: Vec<u8>) -> Result<String, String> {
     String::from_utf8(bytes).map_err(|why| why.to_string())
 }
 
-/// A board that was given by its record or its text.
+/// A board that was given by its record or its text. Only a text has links.
 pub struct Given {
     pub board: Board,
+    pub links: OwnedLinks,
     /// None of a record.
     lines: Option<Lines>,
 }
@@ -67,21 +68,31 @@ impl Given {
     pub fn of_bytes(bytes: Vec<u8>) -> Result<Self, String> {
         if bytes.first() == Some(&1) {
             let board = read(&bytes).map_err(|why| why.to_string())?;
-            return Ok(Given { board, lines: None });
+            return Ok(Given {
+                board,
+                links: OwnedLinks::default(),
+                lines: None,
+            });
         }
-        let (board, lines) =
-            text::parse_with_lines(&self::text(bytes)?).map_err(|why| why.to_string())?;
+        let Whole {
+            board,
+            links,
+            lines,
+        } = text::parse_whole(&self::text(bytes)?).map_err(|why| why.to_string())?;
         let record = text::pack_board(&board, &lines).map_err(|why| why.to_string())?;
         Ok(Given {
             board: read(&record).map_err(|why| why.to_string())?,
+            links,
             lines: Some(lines),
         })
     }
 
-    /// Its mesh and its net, or why there is none, with the line of a text.
+    /// Its mesh and its net with links, or why there is none, with the line of a text.
     pub fn mesh(&self) -> Result<(Mesh, Net), String> {
         let mesh = Mesh::unjudged(&self.board).map_err(|why| self.blame(&why))?;
-        let net = mesh.net().map_err(|why| self.blame(&why))?;
+        let net = mesh
+            .linked_net(self.links.rows())
+            .map_err(|why| self.blame(&why))?;
         Ok((mesh, net))
     }
 

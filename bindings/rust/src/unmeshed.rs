@@ -1,6 +1,6 @@
 //! Why a board has no mesh, or a mesh no net that could be used.
 
-use crate::{strips, Outlines, Point, Reason, Rect, Refusal, Settings};
+use crate::{strips, Link, Outlines, Point, Reason, Rect, Refusal, Settings};
 use std::error::Error;
 use std::fmt;
 
@@ -14,6 +14,15 @@ pub enum Unmeshed {
     TooLong(TooLong),
     /// A node stands inside a leaf's side and not at its middle, where no side is cut: the net would be wrong there.
     Loose(Loose),
+    /// A link joins nothing: the library passes it over.
+    Idle(Idle),
+}
+
+/// A link that finds no node at one of its ends.
+#[derive(Clone, Copy, Debug, PartialEq, Eq)]
+pub struct Idle {
+    /// Which one.
+    pub link: Link,
 }
 
 /// A strip that is longer than as many base cells as it may have.
@@ -58,11 +67,36 @@ impl fmt::Display for Unmeshed {
             Unmeshed::Refused(refusal) => refusal.fmt(f),
             Unmeshed::TooLong(long) => long.fmt(f),
             Unmeshed::Loose(loose) => loose.fmt(f),
+            Unmeshed::Idle(idle) => idle.fmt(f),
         }
     }
 }
 
 impl Error for Unmeshed {}
+
+impl Idle {
+    /// What is missing.
+    pub(crate) fn words(&self) -> &'static str {
+        match self.link {
+            Link::Contact(_) => "joins nothing: there is no such polygon, or it has no leaf",
+            Link::Via(_) => "joins nothing: one of its layers has no copper of its component",
+            Link::Channel(_) => {
+                "joins nothing: the channels' layer has no copper of one of its components"
+            }
+        }
+    }
+}
+
+impl fmt::Display for Idle {
+    fn fmt(&self, f: &mut fmt::Formatter<'_>) -> fmt::Result {
+        let (name, at) = match self.link {
+            Link::Contact(at) => ("contact", at),
+            Link::Via(at) => ("via", at),
+            Link::Channel(at) => ("channel", at),
+        };
+        write!(f, "{name} {at} {}", self.words())
+    }
+}
 
 impl fmt::Display for TooLong {
     fn fmt(&self, f: &mut fmt::Formatter<'_>) -> fmt::Result {

@@ -1,9 +1,9 @@
 //! A mesh as a file that ParaView reads: VTK's legacy form, as text. Leaves are quads in metres, each layer at a
 //! height of its own; level, polygon, layer, component and ohms a square stand with the cells, hanging nodes with
-//! the points.
+//! the points. Links are lines between their nodes, behind the leaves.
 
 use crate::sides::hanging;
-use crate::{Mesh, NetRows, Node, Refusal, TICK};
+use crate::{Edge, Mesh, Net, NetRows, Node, Refusal, TICK};
 use std::collections::BTreeSet;
 use std::fmt::{self, Write};
 
@@ -23,9 +23,23 @@ pub enum Field<'a> {
 ///
 /// Those of [`leaf_order`](crate::leaf_order).
 pub fn of_mesh(mesh: &Mesh, net: NetRows, fields: &[Field]) -> Result<String, Refusal> {
+    of_rows(mesh, net, &[], fields)
+}
+
+/// The same with the net's links as lines behind the leaves, and their conductances as the field siemens. Where links
+/// have no value, as no level, they have -1; of the caller's own fields they have 0.
+///
+/// # Errors
+///
+/// Those of [`of_mesh`].
+pub fn of_linked_mesh(mesh: &Mesh, net: &Net, fields: &[Field]) -> Result<String, Refusal> {
+    of_rows(mesh, net.rows(), net.links(), fields)
+}
+
+fn of_rows(mesh: &Mesh, net: NetRows, links: &[Edge], fields: &[Field]) -> Result<String, Refusal> {
     let order = mesh.order()?;
     let mut text = String::new();
-    put(mesh, &order, net, fields, &mut text).expect("a string takes all text");
+    put(mesh, &order, net, links, fields, &mut text).expect("a string takes all text");
     Ok(text)
 }
 
@@ -33,23 +47,24 @@ fn put(
     mesh: &Mesh,
     order: &[usize],
     net: NetRows,
+    links: &[Edge],
     fields: &[Field],
     text: &mut String,
 ) -> fmt::Result {
     let (nodes, cells) = (net.nodes.len(), net.cells.len());
-    put_grid(net, text)?;
-    writeln!(text, "CELL_DATA {cells}")?;
-    put_leaves(mesh, order, net, text)?;
-    put_own(fields, true, cells, text)?;
+    put_grid(net, links, text)?;
+    writeln!(text, "CELL_DATA {}", cells + links.len())?;
+    put_leaves(mesh, order, net, links, text)?;
+    put_own(fields, true, [cells, links.len()], text)?;
     writeln!(text, "POINT_DATA {nodes}")?;
     let hangs = hanging(net);
     let hangs = |at: usize| f64::from(u8::from(hangs.binary_search(&at).is_ok()));
     put_field("hanging", &mut (0..nodes).map(hangs), text)?;
-    put_own(fields, false, nodes, text)
+    put_own(fields, false, [nodes, 0], text)
 }
 
-/// Nodes in metres, and leaves as quads.
-fn put_grid(net: NetRows, text: &mut String) -> fmt::Result {
+/// Nodes in metres, leaves as quads, links as lines.
+fn put_grid(net: NetRows, links: &[Edge], text: &mut String) -> fmt::Result {
     let cells = net.cells.len();
     writeln!(
         text,
@@ -63,17 +78,28 @@ fn put_grid(net: NetRows, text: &mut String) -> fmt::Result {
         let [x, y] = [node.x, node.y].map(|ticks| ticks as f64 * TICK);
         writeln!(text, "{x} {y} {height}")?;
     }
-    writeln!(text, "CELLS {cells} {}", 5 * cells)?;
+    let all = cells + links.len();
+    writeln!(text, "CELLS {all} {}", 5 * cells + 3 * links.len())?;
     for cell in net.cells {
         let [sw, se, ne, nw] = cell.corners;
         writeln!(text, "4 {sw} {se} {ne} {nw}")?;
     }
-    writeln!(text, "CELL_TYPES {cells}")?;
-    (0..cells).try_for_each(|_| writeln!(text, "9"))
+    for link in links {
+        writeln!(text, "2 {} {}", link.from, link.to)?;
+    }
+    writeln!(text, "CELL_TYPES {all}")?;
+    (0..cells).try_for_each(|_| writeln!(text, "9"))?;
+    links.iter().try_for_each(|_| writeln!(text, "3"))
 }
 
-/// What every leaf has.
-fn put_leaves(mesh: &Mesh, order: &[usize], net: NetRows, text: &mut String) -> fmt::Result {
+/// What every leaf has, and every link.
+fn put_leaves(
+    mesh: &Mesh,
+    order: &[usize],
+    net: NetRows,
+    links: &[Edge],
+    text: &mut String,
+) -> fmt::Result {
     let polygon = |at: usize| mesh.polygon(order[at]);
     let numbers: [(&str, &dyn Fn(usize) -> f64); 6] = [
         ("leaf", &|at| order[at] as f64),
@@ -86,9 +112,15 @@ fn put_leaves(mesh: &Mesh, order: &[usize], net: NetRows, text: &mut String) -> 
         ("r_sheet", &|at| net.cells[at].sheet),
     ];
     for (name, number) in numbers {
-        put_field(name, &mut (0..net.cells.len()).map(number), text)?;
+        let leaves = (0..net.cells.len()).map(number);
+        put_field(name, &mut leaves.chain(links.iter().map(|_| -1.0)), text)?;
     }
-    Ok(())
+    if links.is_empty() {
+        return Ok(());
+    }
+    let leaves = net.cells.iter().map(|_| 0.0);
+    let conductances = links.iter().map(|link| link.conductance);
+    put_field("siemens", &mut leaves.chain(conductances), text)
 }
 
 /// A twentieth of the board's larger side, in metres.
@@ -100,7 +132,14 @@ fn layers_apart(net: NetRows) -> f64 {
     along(|node| node.x).max(along(|node| node.y)) as f64 * TICK / 20.0
 }
 
-fn put_own(fields: &[Field], of_cells: bool, count: usize, text: &mut String) -> fmt::Result {
+/// Values for so many, and zeros for so many more.
+fn put_own(
+    fields: &[Field],
+    of_cells: bool,
+    [count, more]: [usize; 2],
+    text: &mut String,
+) -> fmt::Result {
+    let zeros = || std::iter::repeat(0.0).take(more);
     for field in fields {
         let (name, all, fits) = match field {
             Field::Cells(name, all) => (name, all, of_cells),
@@ -109,7 +148,7 @@ fn put_own(fields: &[Field], of_cells: bool, count: usize, text: &mut String) ->
         if fits && all.len() == count {
             put_field(
                 &name.replace(char::is_whitespace, "_"),
-                &mut all.iter().copied(),
+                &mut all.iter().copied().chain(zeros()),
                 text,
             )?;
         }

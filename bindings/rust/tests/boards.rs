@@ -1,4 +1,4 @@
-//! The sample boards: their text and their records are the same boards.
+//! The sample boards: their text and their records are the same boards. One with links has no record.
 
 use leafmesh::{read, record_length, text, write};
 use std::fs;
@@ -10,11 +10,21 @@ fn folder() -> PathBuf {
 
 #[test]
 fn texts_and_records_agree() {
-    let mut seen = 0;
+    let (mut seen, mut linked) = (0, 0);
     for entry in fs::read_dir(folder()).expect("boards") {
         let path = entry.expect("an entry").path();
         if path.extension().is_some_and(|kind| kind == "txt") {
-            let board = text::parse(&fs::read_to_string(&path).expect("text")).expect("a board");
+            let words = fs::read_to_string(&path).expect("text");
+            let whole = text::parse_whole(&words).expect("a board");
+            let shown = text::show_linked(&whole.board, whole.links.rows());
+            let again = text::parse_whole(&shown).expect("a board");
+            assert_eq!((&again.board, &again.links), (&whole.board, &whole.links));
+            if !whole.links.rows().is_empty() {
+                assert!(!path.with_extension("record").exists());
+                linked += 1;
+                continue;
+            }
+            let board = text::parse(&words).expect("a board");
             let mut record = vec![0; record_length(&board)];
             assert_eq!(write(&board, &mut record), Ok(record.len()));
             assert_eq!(
@@ -26,7 +36,7 @@ fn texts_and_records_agree() {
             seen += 1;
         }
     }
-    assert!(seen >= 4);
+    assert!(seen >= 4 && linked >= 1);
 }
 
 #[test]

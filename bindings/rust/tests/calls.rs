@@ -165,13 +165,14 @@ fn a_net_in_lent_rows_is_the_same() {
             cells: &mut cells,
             work: &mut work,
         };
-        let counts = network_with(&table, head, outlines(), room);
+        let counts = network_with(&table, head, outlines(), Links::default(), room);
         (
             counts,
             Net {
                 nodes,
                 edges,
                 cells,
+                links: 0,
             },
             work,
         )
@@ -181,7 +182,11 @@ fn a_net_in_lent_rows_is_the_same() {
         nodes,
         edges,
         cells,
-    } = counts.expect("room");
+        links: 0,
+    } = counts.expect("room")
+    else {
+        panic!("links of no rows");
+    };
     assert_eq!(rows.nodes[..nodes], net.nodes);
     assert_eq!(rows.edges[..edges], net.edges);
     assert_eq!(rows.cells[..cells], net.cells);

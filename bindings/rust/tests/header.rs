@@ -1,6 +1,6 @@
 //! The header's constants and the crate's are the same.
 
-use leafmesh::{columns, limits, Cell, Edge, Node, NO_CELL, SLOT, SLOTS};
+use leafmesh::{columns, limits, Cell, Channel, Contact, Edge, Node, Via, NO_CELL, SLOT, SLOTS};
 use std::fs;
 use std::mem::size_of;
 use std::path::Path;
@@ -27,6 +27,7 @@ fn the_headers_constants_are_the_crates() {
         ("MAX_LEVEL", limits::MAX_LEVEL as usize),
         ("CAP", limits::CAP as usize),
         ("CELL", limits::CELL as usize),
+        ("HALF", limits::HALF as usize),
         ("LAYER_ENTRIES", limits::LAYER_ENTRIES),
         ("POLYGONS", limits::POLYGONS),
         ("RING_POINTS", limits::RING_POINTS),
@@ -48,6 +49,9 @@ fn the_headers_constants_are_the_crates() {
         ("node", size_of::<Node>()),
         ("edge", size_of::<Edge>()),
         ("cell", size_of::<Cell>()),
+        ("contact_pair", size_of::<Contact>()),
+        ("via", size_of::<Via>()),
+        ("channel", size_of::<Channel>()),
     ] {
         assert!(header.contains(&format!(
             "LEAFMESH_ASSERT(sizeof(leafmesh_{name}) == {size}"

@@ -2,7 +2,7 @@
 
 use leafmesh::drawing::{densities, Picture, LEVELS};
 use leafmesh::vtk::{self, Field};
-use leafmesh::{sides, text, Mesh};
+use leafmesh::{sides, text, Mesh, Net, OwnedLinks};
 use std::fs;
 use std::path::Path;
 
@@ -200,4 +200,92 @@ fn a_vtk_file_has_all_cells_nodes_and_fields() {
     );
     assert_eq!(lines[at + nodes + 2], "SCALARS volts double 1");
     assert_eq!(lines.len(), at + 2 * (nodes + 2));
+}
+
+/// A board of thousands of leaves with all kinds of links.
+fn linked_board() -> (Mesh, Net, OwnedLinks) {
+    let file = Path::new(env!("CARGO_MANIFEST_DIR")).join("../../boards/vias.txt");
+    let words = fs::read_to_string(file).expect("a sample");
+    let whole = text::parse_whole(&words).expect("a board");
+    let mesh = Mesh::of_board(&whole.board).expect("a mesh");
+    let net = mesh.linked_net(whole.links.rows()).expect("a net");
+    assert!(net.cells.len() >= 1_500);
+    (mesh, net, whole.links)
+}
+
+#[test]
+fn links_are_seen_where_they_end() {
+    let (mesh, net, links) = linked_board();
+    let picture = Picture::of_mesh("A board", &mesh, net.rows()).expect("a picture");
+    let bare = picture.svg();
+    let svg = picture.with_links(&net, links.rows()).svg();
+    // One more of each in the legend. Ten footprints, on two layers each.
+    let count = |words: &str| svg.matches(words).count();
+    assert_eq!(count("stroke-dasharray"), 2 * 10 + 1);
+    // Ten pads of 25 nodes and two points, on two layers each, and where the sense line touches the plate.
+    assert_eq!(count("fill=\"#0a58ff\""), 2 * (10 * 25 + 2) + 1 + 1);
+    // Four switches; each line lies on a white one.
+    assert_eq!(count("stroke=\"#0a58ff\" stroke-width=\"2\""), 4 + 1);
+    let leaves = format!("{} leaves, {} links", net.cells.len(), net.links);
+    for words in [
+        "footprint of a via",
+        "link within a layer",
+        "link across layers, or at one place",
+        &leaves,
+    ] {
+        assert!(svg.contains(words), "{words}");
+        assert!(!bare.contains(words), "{words}");
+    }
+    assert_uncut(&svg);
+}
+
+#[test]
+fn a_vtk_file_has_links_as_lines() {
+    let (mesh, net, _) = linked_board();
+    let (cells, links) = (net.cells.len(), net.links);
+    let (watts, volts) = (vec![0.5; cells], vec![0.25; net.nodes.len()]);
+    let own = [Field::Cells("watts", &watts), Field::Nodes("volts", &volts)];
+    let file = vtk::of_linked_mesh(&mesh, &net, &own).expect("a file");
+    let lines: Vec<&str> = file.lines().collect();
+    let after = |words: String| {
+        lines
+            .iter()
+            .position(|line| **line == words)
+            .expect("a section")
+            + 1
+    };
+    let all = cells + links;
+    let at = after(format!("CELLS {all} {}", 5 * cells + 3 * links));
+    for (line, link) in lines[at + cells..].iter().zip(net.links()) {
+        assert_eq!(**line, format!("2 {} {}", link.from, link.to));
+    }
+    let at = after(format!("CELL_TYPES {all}"));
+    assert!(lines[at..at + cells].iter().all(|line| *line == "9"));
+    assert!(lines[at + cells..at + all].iter().all(|line| *line == "3"));
+    let at = after(format!("CELL_DATA {all}"));
+    let fields = [
+        ("leaf", "-1.0"),
+        ("level", "-1.0"),
+        ("polygon", "-1.0"),
+        ("layer", "-1.0"),
+        ("component", "-1.0"),
+        ("r_sheet", "-1.0"),
+        ("siemens", "1.0"),
+        ("watts", "0.0"),
+    ];
+    for (place, (name, of_a_link)) in fields.iter().enumerate() {
+        let start = at + place * (all + 2);
+        assert_eq!(lines[start], format!("SCALARS {name} double 1"));
+        // The contact's.
+        assert_eq!(lines[start + 2 + cells], *of_a_link);
+    }
+    assert_eq!(lines[at + 6 * (all + 2) + 2], "0.0");
+    assert_eq!(
+        lines[at + fields.len() * (all + 2)],
+        format!("POINT_DATA {}", net.nodes.len())
+    );
+    // Without links the file is the one of the leaves alone.
+    let bare = Net { links: 0, ..net };
+    let alone = vtk::of_mesh(&mesh, bare.rows(), &own).expect("a file");
+    assert_eq!(vtk::of_linked_mesh(&mesh, &bare, &own), Ok(alone));
 }

@@ -243,6 +243,152 @@ fn two_squares_out_of_step() {
     assert!(net.edges.iter().map(parts).eq(expected));
 }
 
+/// Layers 1 and 2 with the same square of 4 by 4 ticks.
+const TWO_SQUARES: &str =
+    "level 1\ntarget 4\npolygon 1 0 1\n0 0\n4 0\n4 4\n0 4\npolygon 2 0 1\n0 0\n4 0\n4 4\n0 4\n";
+
+/// The links that the two squares have, in rows of just enough length; in one less they are refused.
+fn links_of(links: Links) -> Vec<([usize; 2], f64)> {
+    let mesh = meshed(TWO_SQUARES).0;
+    let (table, head, outlines) = (&mesh.table, mesh.head, mesh.polygons.outlines());
+    let rows = edge_rows(table, head, outlines, links).expect("in range");
+    let mut net = Net {
+        nodes: vec![Node::default(); 8],
+        edges: vec![Edge::default(); rows],
+        cells: vec![Cell::default(); 2],
+        links: 0,
+    };
+    let (mut short, mut work) = (net.edges[1..].to_vec(), vec![7; 128]);
+    let mut call = |edges: &mut [Edge], work: &mut [u64]| {
+        let (nodes, cells) = (&mut net.nodes[..], &mut net.cells[..]);
+        let room = NetRoom {
+            nodes,
+            edges,
+            cells,
+            work,
+        };
+        network_with(table, head, outlines, links, room).map_err(number_of)
+    };
+    assert_eq!(call(&mut short, &mut work), Err(refused(6, 0)));
+    assert!(work.iter().all(|&w| w == 7));
+    let counts = call(&mut net.edges, &mut work).expect("room");
+    assert_eq!(
+        (counts.nodes, counts.edges, counts.links),
+        (8, rows - 8, rows - 16)
+    );
+    assert!(net.edges[..8].iter().all(|edge| edge.conductance == 0.5));
+    net.edges[8..counts.edges].iter().map(parts).collect()
+}
+
+#[test]
+fn vias_of_two_squares() {
+    let of = |[bottom, top]: [u16; 2], [x, y]: Point, half: [i64; 2], resistance| {
+        let footprint = Footprint {
+            x,
+            y,
+            half_width: half[0],
+            half_height: half[1],
+        };
+        let vias = [Via {
+            bottom,
+            top,
+            component: 0,
+            footprint,
+            resistance,
+        }];
+        links_of(Links {
+            vias: &vias,
+            ..Links::default()
+        })
+    };
+    assert_eq!(of([1, 2], [0, 0], [0, 0], 2.0), [([0, 4], 0.5)]);
+    assert_eq!(of([1, 2], [4, 2], [0, 2], 1.0), [([1, 5], 1.0)]);
+    let four = [[1, 5], [1, 6], [2, 5], [2, 6]].map(|ends| (ends, 0.25));
+    assert_eq!(of([1, 2], [4, 2], [1, 2], 1.0), four);
+    assert_eq!(of([1, 2], [2, 2], [1, 1], 3.0), [([0, 4], 1.0 / 3.0)]);
+    let within = [([0, 0], 0.25), ([0, 1], 0.5), ([1, 0], 0.5), ([1, 1], 0.25)];
+    assert_eq!(of([1, 1], [2, 0], [2, 1], 1.0), within);
+    assert_eq!(of([1, 3], [0, 0], [0, 0], 1.0), []);
+}
+
+#[test]
+fn contacts_and_channels_of_two_squares() {
+    for (from, to, expected) in [
+        (0, 1, vec![([0, 4], 1.0)]),
+        (1, 0, vec![([4, 0], 1.0)]),
+        (0, 0, vec![([0, 0], 1.0)]),
+        (0, 2, vec![]),
+    ] {
+        let contacts = [Contact { from, to }];
+        let links = Links {
+            contacts: &contacts,
+            ..Links::default()
+        };
+        assert_eq!(links_of(links), expected);
+    }
+    for (source, expected) in [([4, 4], ([0, 2], 0.25)), ([4, 0], ([0, 1], 0.5))] {
+        let at = |[x, y]: Point| Terminal { component: 0, x, y };
+        let channels = [Channel {
+            drain: at([0, 0]),
+            source: at(source),
+            resistance: 4.0,
+        }];
+        let links = Links {
+            channel_layer: 1,
+            channels: &channels,
+            ..Links::default()
+        };
+        assert_eq!(links_of(links), [expected]);
+        let elsewhere = Links {
+            channel_layer: 3,
+            ..links
+        };
+        assert_eq!(links_of(elsewhere), []);
+    }
+}
+
+/// Where exact squares would choose another node.
+#[test]
+fn the_nearest_goes_by_rounded_squares() {
+    let a = (1 << 28) + 1;
+    let roots = [
+        ([0, 0, 2, 2], 0),
+        ([a, 2, a + 2, 4], 1),
+        ([a, 0, a + 2, 2], 1),
+    ];
+    let mut table = vec![0; 3 * SLOT];
+    for (slot, (root, polygon)) in table.chunks_exact_mut(SLOT).zip(roots) {
+        slot[..4].copy_from_slice(&root);
+        slot[columns::PARENT] = NO_CELL;
+        slot[columns::FIRST_CHILD] = NO_CELL;
+        slot[columns::POLYGON] = polygon;
+    }
+    let head = Head {
+        count: 3,
+        max_level: 0,
+    };
+    let outlines = Outlines {
+        layers: &[1, 1],
+        components: &[0, 0],
+        sheets: &[1.0, 1.0],
+        counts: &[],
+        points: &[],
+    };
+    let links = Links {
+        contacts: &[Contact { from: 0, to: 1 }],
+        ..Links::default()
+    };
+    let net = linked_network(&table, head, outlines, links).expect("a net");
+    assert_eq!(
+        net.links().iter().map(parts).collect::<Vec<_>>(),
+        [([0, 4], 1.0)]
+    );
+    let place = |node: usize| [net.nodes[node].x, net.nodes[node].y];
+    assert_eq!([place(0), place(4)], [[0, 0], [a, 2]]);
+    let nearer = |x: i64, y: i64| x * x + y * y;
+    assert_eq!(nearer(a, 2) - nearer(a, 0), 4);
+}
+
 #[test]
 fn powers() {
     for (wide, high, sheet, volts, expected) in [

@@ -1,7 +1,7 @@
 //! The worked solver: on boards with a known resistance, and where cells don't fit together.
 
-use leafmesh::solving::{across, System};
-use leafmesh::{sides, text, Mesh, Net};
+use leafmesh::solving::{across, across_linked, System};
+use leafmesh::{sides, text, Edge, Mesh, Net};
 
 fn net_of(board: &str) -> Net {
     let board = text::parse(board).expect("a board");
@@ -52,4 +52,34 @@ fn bands_that_do_not_meet_are_no_elements() {
     let node = net.nodes[loose.node];
     assert_eq!([node.x, node.y], [4, 2]);
     assert_eq!(sides::loose(net_of(STRIP).rows()), None);
+}
+
+/// Two strips one above the other on layers 1 and 2, each one square long twice, joined where one ends and the other
+/// begins: by a via over both ends, then by one at a corner.
+#[test]
+fn what_a_via_joins_is_one_resistance() {
+    let strips = "level 1\ntarget 8\npolygon 1 0 1\n0 0\n8 0\n8 16\n0 16\npolygon 2 0 1\n0 16\n8 16\n8 32\n0 32\n";
+    let via = |half: i64| format!("{strips}via 1 2 0 4 16 {half} {half} 0.5\n");
+    let solved = |text: &str| {
+        let whole = text::parse_whole(text).expect("a board");
+        let mesh = Mesh::of_board(&whole.board).expect("a mesh");
+        let net = mesh.linked_net(whole.links.rows()).expect("a net");
+        let held = across_linked(&net.nodes, net.links());
+        let system = System::of_linked_cells(&net).expect("aligned");
+        let volts = system.solve(&held).expect("a solution");
+        let amperes = |link: &Edge| link.conductance * (volts[link.to] - volts[link.from]);
+        let through: f64 = net.links().iter().map(amperes).sum();
+        (net.links, 1.0 / system.watts(&volts), through)
+    };
+    let (links, ohms, through) = solved(&via(4));
+    assert_eq!(links, 4);
+    assert!((ohms - 4.5).abs() < 1e-9 && (through - 1.0 / 4.5).abs() < 1e-9);
+    // Only one node of each strip takes the current: more resistance.
+    let (links, ohms, through) = solved(&via(0));
+    assert_eq!(links, 1);
+    assert!(ohms > 4.6 && (through * ohms - 1.0).abs() < 1e-9);
+    // Not joined, each strip has its own volt.
+    let (links, ohms, _) = solved(strips);
+    assert_eq!(links, 0);
+    assert!((ohms - 1.0).abs() < 1e-9);
 }

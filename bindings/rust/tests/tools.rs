@@ -415,3 +415,115 @@ fn slanted_and_uneven_polygons_are_told_by_their_line() {
         "line 3: refused 5 0: a base cell's side is no multiple of 2^(max_level+1) ticks\n"
     );
 }
+
+/// Two squares over each other, in millimetres; lines from 13 on are links.
+const TWO_LAYERS: &str =
+    "level 1\npitch 0.5\npolygon 1 0 0.001\n0 0\n2 0\n2 2\n0 2\npolygon 2 0 0.001\n0 0\n2 0\n2 2\n0 2\n";
+
+#[test]
+fn links_of_a_text_are_in_its_net_and_its_pictures() {
+    let board = format!("{TWO_LAYERS}via 1 2 0 1 1 0.6 0.6 0.01\ncontact 0 1\n");
+    let net = made(BOARD, &["net"], board.as_bytes());
+    let printed = printed::read(&String::from_utf8(net.clone()).expect("text")).expect("a net");
+    // Nine nodes of each layer are inside the via.
+    assert_eq!((printed.links, printed.links().len()), (82, 82));
+    assert_eq!(printed.links()[0].conductance, 1.0);
+    assert!(String::from_utf8_lossy(&net)
+        .lines()
+        .next()
+        .expect("totals")
+        .ends_with(" links 82"));
+
+    let folder = std::env::temp_dir().join(format!("leafmesh-links-{}", std::process::id()));
+    fs::create_dir_all(&folder).expect("a folder");
+    let file = folder.join("board.txt");
+    fs::write(&file, &board).expect("a file");
+    let name = file.to_str().expect("a name");
+    let volts = folder.join("volts");
+    fs::write(&volts, made(RELAX, &[], &net)).expect("a file");
+    let volts = volts.to_str().expect("a name");
+    for (words, input) in [
+        (vec!["--board", name], &b""[..]),
+        (vec!["--board", name, "--power"], b""),
+        (vec!["--record", name], &net),
+        (vec!["--record", name, "--potentials", volts], &net),
+        (vec![], &net),
+    ] {
+        let picture = String::from_utf8(made(DRAW, &words, input)).expect("text");
+        assert!(picture.contains("32 leaves, 82 links"), "{words:?}");
+    }
+    // The same board without its links has another net.
+    fs::write(&file, TWO_LAYERS).expect("a file");
+    let said = refused(DRAW, &["--record", name], &net);
+    assert_eq!(said, "the text is of another board than the record\n");
+    let vtk = String::from_utf8(made(BOARD, &["vtk"], board.as_bytes())).expect("text");
+    assert!(vtk.contains("SCALARS siemens double 1"));
+    fs::remove_dir_all(&folder).expect("a folder");
+}
+
+#[test]
+fn links_that_cannot_be_are_told_by_their_line() {
+    let far = "250.1 mm is past the range of a coordinate";
+    for (link, words) in [
+        ("via 1 2 0 1 1 0.6 0.6", "cannot make sense of"),
+        ("via 1 2 0 1 1 0.6 0.6 0.01 1", "cannot make sense of"),
+        (
+            "via 65536 2 0 1 1 0 0 1",
+            "layer 65536 is out of range: 0 to 65535",
+        ),
+        (
+            "via 1 65536 0 1 1 0 0 1",
+            "layer 65536 is out of range: 0 to 65535",
+        ),
+        (
+            "via 1 2 4294967296 1 1 0 0 1",
+            "component 4294967296 is out of range: 0 to 4294967295",
+        ),
+        ("via 1 2 0 250.1 1 0 0 1", far),
+        ("via 1 2 0 1 1 250.1 0 1", far),
+        ("via 1 2 0 1 1 -0.1 0 1", "half size -0.1 is below 0"),
+        ("via 1 2 0 1 1 0 0 0", "resistance 0 is out of range"),
+        ("via 1 2 0 1 1 0 0 NaN", "resistance NaN is out of range"),
+        ("channels 65536", "layer 65536 is out of range: 0 to 65535"),
+        (
+            "channels 1\nchannels 1\nchannels 2",
+            "all channels are on one layer, here 1",
+        ),
+        ("channel 0 1 1 0 1 1", "cannot make sense of"),
+        (
+            "channel 0 1 1 0 -250.1 1 1",
+            "-250.1 mm is past the range of a coordinate",
+        ),
+        ("channel 0 1 1 0 1 1 -1", "resistance -1 is out of range"),
+        ("contact 0", "cannot make sense of"),
+        ("contact 0 -1", "cannot make sense of"),
+        (
+            "contact 0 2",
+            "joins nothing: there is no such polygon, or it has no leaf",
+        ),
+        (
+            "via 1 3 0 1 1 0 0 1",
+            "joins nothing: one of its layers has no copper of its component",
+        ),
+        (
+            "via 1 2 1 1 1 0 0 1",
+            "joins nothing: one of its layers has no copper of its component",
+        ),
+        (
+            "channel 0 1 1 0 1 1 1",
+            "joins nothing: the channels' layer has no copper of one of its components",
+        ),
+    ] {
+        let board = format!("{TWO_LAYERS}contact 0 1\n{link}\n");
+        let line = 14 + link.matches('\n').count();
+        for tool in ["net", "vtk"] {
+            let said = refused(BOARD, &[tool], board.as_bytes());
+            assert!(said.starts_with(&format!("line {line}: {words}")), "{said}");
+        }
+    }
+    let board = format!("{TWO_LAYERS}contact 0 1\n");
+    let said = refused(BOARD, &["pack"], board.as_bytes());
+    assert_eq!(said, "line 13: a record has no links\n");
+    let said = refused(BOARD, &["net"], b"contact 0 1\npitch 1\n");
+    assert!(said.starts_with("line 2: pitch stands before layers, polygons and links"));
+}

@@ -1,26 +1,30 @@
 -- The rows of a made net are sound. Assumes nothing.
-use Rattle.std.proofs.Common.{◌≡◌, List, map, ℕ, suc, ◌-◌, ◌^◌, ◌<◌, ◌≤◌, ◌+◌, min, arith, pos, negsuc, length, get_or, lt-ltb, le-ltb, IsTrue, int_lt}
+use Rattle.std.proofs.Common.{◌≡◌, List, map, ℕ, suc, ◌-◌, ◌^◌, ◌<◌, ◌≤◌, ◌+◌, min, arith, pos, negsuc, length, get_or, lt-ltb, le-ltb, IsTrue, int_lt, ℤ}
 use Rattle.std.proofs.lemmas.Bool.Decides.{nat_tests}
 use Rattle.std.proofs.lemmas.List.{length-map}
 use Rattle.std.proofs.lemmas.List.Elements.{All-map}
 use lib.IntN.{sub_ℕ}
 use Rattle.refusals.specs.Limits.{coordinate}
 use Rattle.cell.specs.Ticks.{on}
-use Rattle.table.specs.Rows.{cells_in}
+use Rattle.table.specs.declared.Head.{Head}
+use Rattle.table.specs.Rows.{IsTable, cells_in}
 use Rattle.table.proofs.Stores.{on-range}
 use Rattle.table.proofs.Wellformed.{formed-facts}
 use Rattle.net_rows.specs.Nodes.{in_ticks}
 use Rattle.net_rows.specs.Nets.{sound_net}
 use Rattle.net_rows.specs.Facts.{IsSoundNode, IsRectangle}
 use Rattle.net_rows.proofs.Sound.{facts_sound}
-use Rattle.net.specs.Net.{Poly, MeshNode, Edge, NetCell, nth, nowhere, pieces, Cornered, Ends}
+use Rattle.net.specs.Net.{Poly, MeshNode, Edge, NetCell, nth, nowhere, pieces, weighed, bare, weigh, network, Cornered, Ends}
+use Rattle.links.specs.Made as Made
+use Rattle.links.specs.Made.{linked_network}
+use Rattle.links.proofs.Ends.{linked-ends}
 use Rattle.net.specs.Laws.{HasArea}
-use Rattle.net.proofs.All.{All, all-at}
+use Rattle.net.proofs.All.{All, all-at, all-map-by}
 use Rattle.net.proofs.Faces.{Within}
 use Rattle.net.proofs.Every.{ends, cells}
 use Rattle.laws.proofs.Placed.{cell-positive}
-use Rattle.laws.specs.Made.{no_poly, HasRoom}
-use Rattle.laws.specs.MadeNets.{made, MadeNetsAreSound, MadeNodesHaveRoom}
+use Rattle.laws.specs.Made.{no_poly, HasRoom, node_row}
+use Rattle.laws.specs.MadeNets.{made, linked, MadeNetsAreSound, LinkedNetsAreSound, MadeNodesHaveRoom}
 use Rattle.laws.proofs.Places.{top, row_at}
 use Rattle.laws.proofs.Pieces.{pieces-polys, pieces-leaves, nodes-polys, nodes-are, low}
 
@@ -69,10 +73,23 @@ module _ (ns : List MeshNode) (low : All (Within top) ns) where
 
 -- ---- the laws that src/made.rt promises of a made net
 
-pub made-sound : MadeNetsAreSound
-made-sound t head ps formed =
+-- of any edges that join its nodes
+pub edges-sound : (t : List ℤ) (head : Head) (ps : List Poly) (es : List Edge) → IsTable t head → All (Ends (length (made t head ps).nodes)) es
+    → IsTrue (sound_net (node_row (made t head ps)) es (made t head ps).cells)
+edges-sound t head ps es formed joined =
     let positive = pieces-leaves HasArea (cells_in t head) ps 0 (cell-positive head.max_level (cells_in t head) (formed-facts t head.count head.max_level formed).cells) in
-    net-sound (made t head ps).nodes (low t head.count ps) (made t head ps).edges (made t head ps).cells (ends (cells_in t head) ps) (cells (cells_in t head) ps positive)
+    net-sound (made t head ps).nodes (low t head.count ps) es (made t head ps).cells joined (cells (cells_in t head) ps positive)
+
+pub made-sound : MadeNetsAreSound
+made-sound t head ps formed = edges-sound t head ps (made t head ps).edges formed (ends (cells_in t head) ps)
+
+pub linked-sound : LinkedNetsAreSound
+unfolding linked_network Made.linked network weigh weighed
+linked-sound t head ps l formed =
+    let qs = pieces (cells_in t head) ps 0 in
+    edges-sound t head ps (linked t head ps l).edges formed
+    (all-map-by (Ends (length (bare qs).nodes)) (Ends (length (bare qs).nodes)) (weighed (bare qs).nodes (bare qs).cells) (Made.linked qs l).edges
+    (λ e h. record { from = h.from; to = h.to }) (linked-ends qs l))
 
 pub made-room : MadeNodesHaveRoom
 made-room t head ps range =
@@ -82,4 +99,4 @@ made-room t head ps range =
     (pieces-polys (λ (p : Poly). P p.layer p.component) (cells_in t head) ps 0 (λ k h. (let r = range k no_poly h in (r.layer, r.component))))) in
     All-map HasRoom in_ticks (made t head ps).nodes (λ k d h. (let f = all-at _ d (made t head ps).nodes k fits h in record { layer = f.0; component = f.1 }))
 
-pub ruleset sound = (made-sound, made-room)
+pub ruleset sound = (made-sound, linked-sound, made-room)

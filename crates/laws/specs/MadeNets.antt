@@ -8,11 +8,17 @@ use Rattle.net_rows.specs.Nets.{sound_net}
 use Rattle.net_rows.specs.Polygons.{polygons_below}
 use Rattle.checks.specs.Checks.{conforming_says, layers_says, layer_fault}
 use Rattle.net.specs.Net.{Poly, Net, network, One}
+use Rattle.links.specs.declared.rows.Links.{Links}
+use Rattle.links.specs.Made.{linked_network}
 use Rattle.laws.specs.Made.{layers_of, components_of, AllApart, InRange, HasRoom, node_row}
 
 -- the net that is made of a table
 abbrev pub made : List ℤ → Head → List Poly → Net
 made t head ps = network (cells_in t head) ps
+
+-- and the same with links
+abbrev pub linked : List ℤ → Head → List Poly → Links → Net
+linked t head ps l = linked_network (cells_in t head) ps l
 
 -- every call that takes a net takes a made one
 abbrev pub MadeNetsAreSound : Type 0
@@ -20,34 +26,54 @@ MadeNetsAreSound =
     (t : List ℤ) (head : Head) (ps : List Poly) → IsTable t head
     → IsTrue (sound_net (node_row (made t head ps)) (made t head ps).edges (made t head ps).cells)
 
+abbrev pub LinkedNetsAreSound : Type 0
+LinkedNetsAreSound =
+    (t : List ℤ) (head : Head) (ps : List Poly) (l : Links) → IsTable t head
+    → IsTrue (sound_net (node_row (linked t head ps l)) (linked t head ps l).edges (linked t head ps l).cells)
+
 -- and its nodes have room in a row
 abbrev pub MadeNodesHaveRoom : Type 0
 MadeNodesHaveRoom = (t : List ℤ) (head : Head) (ps : List Poly) → All InRange ps → All HasRoom (node_row (made t head ps))
 
--- what the two checks answer for a made net
-abbrev pub made_layers_says : List ℤ → Head → List Poly → Said
-made_layers_says t head ps =
-    layers_says t head (node_row (made t head ps)) (made t head ps).edges (made t head ps).cells (layers_of ps) (components_of ps)
+-- what the two checks answer for a net of a table
+abbrev pub net_layers_says : List ℤ → Head → List Poly → Net → Said
+net_layers_says t head ps n = layers_says t head (node_row n) n.edges n.cells (layers_of ps) (components_of ps)
 
-abbrev pub made_conforming_says : List ℤ → Head → List Poly → Said
-made_conforming_says t head ps = conforming_says t head (node_row (made t head ps)) (made t head ps).edges (made t head ps).cells
+abbrev pub net_conforming_says : List ℤ → Head → Net → Said
+net_conforming_says t head n = conforming_says t head (node_row n) n.edges n.cells
 
 -- where no two polygons share layer and component, the by-layer check answers 'none', whatever the table
 abbrev pub ApartPolygonsPass : Type 0
 ApartPolygonsPass =
     (t : List ℤ) (head : Head) (ps : List Poly) → IsTable t head → AllApart ps → IsTrue (polygons_below (length ps) (cells_in t head))
-    → made_layers_says t head ps ≡ accepted []
+    → net_layers_says t head ps (made t head ps) ≡ accepted []
 
 -- and where there is one polygon, so does the check by x and y alone
 abbrev pub OnePolygonPasses : Type 0
 OnePolygonPasses =
     (t : List ℤ) (head : Head) (p : Poly) → IsTable t head → IsTrue (polygons_below 1 (cells_in t head))
-    → made_layers_says t head (p ∷ []) ≡ accepted []
+    → net_layers_says t head (p ∷ []) (made t head (p ∷ [])) ≡ accepted []
 
 abbrev pub OnePolygonConforms : Type 0
 OnePolygonConforms =
     (t : List ℤ) (head : Head) (p : Poly) → IsTable t head → IsTrue (polygons_below 1 (cells_in t head))
-    → made_conforming_says t head (p ∷ []) ≡ accepted []
+    → net_conforming_says t head (made t head (p ∷ [])) ≡ accepted []
+
+-- links make no difference
+abbrev pub LinkedApartPolygonsPass : Type 0
+LinkedApartPolygonsPass =
+    (t : List ℤ) (head : Head) (ps : List Poly) (l : Links) → IsTable t head → AllApart ps → IsTrue (polygons_below (length ps) (cells_in t head))
+    → net_layers_says t head ps (linked t head ps l) ≡ accepted []
+
+abbrev pub LinkedOnePolygonPasses : Type 0
+LinkedOnePolygonPasses =
+    (t : List ℤ) (head : Head) (p : Poly) (l : Links) → IsTable t head → IsTrue (polygons_below 1 (cells_in t head))
+    → net_layers_says t head (p ∷ []) (linked t head (p ∷ []) l) ≡ accepted []
+
+abbrev pub LinkedOnePolygonConforms : Type 0
+LinkedOnePolygonConforms =
+    (t : List ℤ) (head : Head) (p : Poly) (l : Links) → IsTable t head → IsTrue (polygons_below 1 (cells_in t head))
+    → net_conforming_says t head (linked t head (p ∷ []) l) ≡ accepted []
 
 -- two polygons of one layer and component, whose squares overlap: the second one's corner is the middle of the first one's south side, which
 -- stays whole

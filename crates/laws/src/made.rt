@@ -1,13 +1,15 @@
 //! What the calls that take a net say of one that was made. No function here does anything: each promises a law,
 //! which its specs state and its proof file proves.
 
-ghost use Rattle.laws.specs.MadeNets.{MadeNetsAreSound, MadeNodesHaveRoom};
+ghost use Rattle.laws.specs.MadeNets.{MadeNetsAreSound, LinkedNetsAreSound, MadeNodesHaveRoom};
 ghost use Rattle.laws.specs.MadeNets.{ApartPolygonsPass, OnePolygonPasses, OnePolygonConforms, AlikePolygonsMayHang};
+ghost use Rattle.laws.specs.MadeNets.{LinkedApartPolygonsPass, LinkedOnePolygonPasses, LinkedOnePolygonConforms};
 
 /// No call refuses a made net, and its rows can hold it.
 #[tactic(auto, using(crate::proofs::Sound::sound))]
 pub fn made_nets_are_sound()
     ensures sound { MadeNetsAreSound }
+    ensures linked { LinkedNetsAreSound }
     ensures nodes_have_room { MadeNodesHaveRoom }
 {}
 
@@ -17,6 +19,14 @@ pub fn made_nets_pass()
     ensures polygons_apart { ApartPolygonsPass }
     ensures one_polygon { OnePolygonPasses }
     ensures one_polygon_by_place { OnePolygonConforms }
+{}
+
+/// Nor do they in a net with links.
+#[tactic(auto, using(crate::proofs::Clean::linked_pass))]
+pub fn linked_nets_pass()
+    ensures polygons_apart { LinkedApartPolygonsPass }
+    ensures one_polygon { LinkedOnePolygonPasses }
+    ensures one_polygon_by_place { LinkedOnePolygonConforms }
 {}
 
 /// Two polygons that share layer and component may make a net in which one does.

@@ -4,10 +4,10 @@ use Rattle.refusals.specs.Said.{Said, accepted, refused}
 use Rattle.leafmesh.specs.declared.nets.NetOutcome.{NetOutcome}
 use Rattle.leafmesh.specs.declared.nets.CheckOutcome.{CheckOutcome}
 
--- how many nodes, edges and cells
+-- how many nodes, edges and cells, and how many links
 abbrev pub net_outcome_of : Said → NetOutcome
-net_outcome_of (accepted vs) = record { number = 0; place = 0; nodes = slice_index vs 0; edges = slice_index vs 1; cells = slice_index vs 2 }
-net_outcome_of (refused n p) = record { number = n; place = p; nodes = 0; edges = 0; cells = 0 }
+net_outcome_of (accepted vs) = record { number = 0; place = 0; nodes = slice_index vs 0; edges = slice_index vs 1; cells = slice_index vs 2; links = slice_index vs 3 }
+net_outcome_of (refused n p) = record { number = n; place = p; nodes = 0; edges = 0; cells = 0; links = 0 }
 
 -- none, or the node and the edge's two ends
 abbrev pub check_outcome_of : Said → CheckOutcome

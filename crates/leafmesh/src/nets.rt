@@ -2,7 +2,7 @@
 ghost use Rattle.std.specs.Prelude.{◌≡◌, length};
 ghost use Rattle.refusals.specs.Said.{refusal, is_accepted};
 ghost use Rattle.table.specs.Rows.{head_of};
-ghost use Rattle.network.specs.Says.{rows, netted_said, network_says, network_leaves};
+ghost use Rattle.network.specs.Says.{rows, netted_said, rows_said, network_says, network_leaves, edge_rows_says};
 ghost use Rattle.checks.specs.Checks.{checked_said, conforming_says, layers_says};
 ghost use Rattle.checks.specs.Rooms.{work_row};
 ghost use Rattle.power.specs.Powers.{power_says, power_row};
@@ -10,13 +10,15 @@ ghost use Rattle.leafmesh.specs.Outcome.{outcome_of};
 ghost use Rattle.leafmesh.specs.Nets.{net_outcome_of, check_outcome_of};
 
 use crate::Outcome;
-use bare_net::Counts;
 use checks::Hanging;
+use links::{Channel, Contact, Links, Via};
 use net_rows::{Edge, NetCell, NetRows, Node, Polygons};
+use network::NetSize;
 use refusals::Refusal;
 use table::Head;
 
-/// How many nodes, edges and cells a net has; number and place as in an Outcome.
+/// How many nodes, edges and cells a net has, and how many of its edges, the last ones, are links; number and place as
+/// in an Outcome.
 #[repr(C)]
 #[derive(Clone, Copy)]
 pub struct NetOutcome {
@@ -25,6 +27,7 @@ pub struct NetOutcome {
     pub nodes: u64,
     pub edges: u64,
     pub cells: u64,
+    pub links: u64,
 }
 
 /// What a check found: broken is 1 where the node lacks a half of the leaf edge between the two ends, 0 where none
@@ -50,20 +53,22 @@ fn unmade(why: Refusal) -> NetOutcome
         nodes: 0,
         edges: 0,
         cells: 0,
+        links: 0,
     }
 }
 
-impl From<Result<Counts, Refusal>> for NetOutcome {
+impl From<Result<NetSize, Refusal>> for NetOutcome {
     ghost from_gives = { λ answer outcome. outcome ≡ net_outcome_of (netted_said answer) };
 
-    fn from(answer: Result<Counts, Refusal>) -> NetOutcome {
+    fn from(answer: Result<NetSize, Refusal>) -> NetOutcome {
         match answer {
-            Ok(counts) => NetOutcome {
+            Ok(size) => NetOutcome {
                 number: 0,
                 place: 0,
-                nodes: counts.nodes as u64,
-                edges: counts.edges as u64,
-                cells: counts.cells as u64,
+                nodes: size.nodes as u64,
+                edges: size.edges as u64,
+                cells: size.cells as u64,
+                links: size.links as u64,
             },
             Err(why) => unmade(why),
         }
@@ -130,7 +135,7 @@ pub extern "C" fn leafmesh_power(
     Outcome::from(power::cell_power(&rows, potentials, answers))
 }
 
-/// The net of a table's leaves into the front of the rows.
+/// The net of a table's leaves with its links into the front of the rows. The links are the last of the edges.
 #[unsafe(no_mangle)]
 pub extern "C" fn leafmesh_network<'a>(
     table: &[i64],
@@ -139,6 +144,10 @@ pub extern "C" fn leafmesh_network<'a>(
     layers: &'a [u16],
     components: &'a [u32],
     sheets: &'a [f64],
+    contacts: &'a [Contact],
+    vias: &'a [Via],
+    channel_layer: u16,
+    channels: &'a [Channel],
     nodes: &mut [Node],
     edges: &mut [Edge],
     cells: &mut [NetCell],
@@ -147,15 +156,55 @@ pub extern "C" fn leafmesh_network<'a>(
     ensures value { result
         ≡ net_outcome_of (network_says table.now (head_of count max_level)
         (record { layers = layers.entry; components = components.entry }) sheets.now
+        (record { contacts = contacts.entry; vias = vias.entry; channel_layer = channel_layer; channels = channels.entry })
         (rows nodes.old edges.old cells.old work.old)) }
     ensures rows_after { rows nodes.new edges.new cells.new work.new
         ≡ network_leaves table.now (head_of count max_level)
         (record { layers = layers.entry; components = components.entry }) sheets.now
+        (record { contacts = contacts.entry; vias = vias.entry; channel_layer = channel_layer; channels = channels.entry })
         (rows nodes.old edges.old cells.old work.old) }
 {
     let head = Head { count, max_level };
     let polygons = Polygons { layers, components };
-    NetOutcome::from(network::network(table, head, &polygons, sheets, nodes, edges, cells, work))
+    let links = Links {
+        contacts,
+        vias,
+        channel_layer,
+        channels,
+    };
+    NetOutcome::from(network::network(
+        table, head, &polygons, sheets, &links, nodes, edges, cells, work,
+    ))
+}
+
+/// How many edge rows `leafmesh_network` asks for: 8 a leaf and one a link.
+#[unsafe(no_mangle)]
+pub extern "C" fn leafmesh_edge_rows<'a>(
+    table: &[i64],
+    count: usize,
+    max_level: u64,
+    layers: &'a [u16],
+    components: &'a [u32],
+    sheets: &'a [f64],
+    contacts: &'a [Contact],
+    vias: &'a [Via],
+    channel_layer: u16,
+    channels: &'a [Channel],
+) -> Outcome
+    ensures { result
+        ≡ outcome_of (edge_rows_says table.now (head_of count max_level)
+        (record { layers = layers.entry; components = components.entry }) sheets.now
+        (record { contacts = contacts.entry; vias = vias.entry; channel_layer = channel_layer; channels = channels.entry })) }
+{
+    let head = Head { count, max_level };
+    let polygons = Polygons { layers, components };
+    let links = Links {
+        contacts,
+        vias,
+        channel_layer,
+        channels,
+    };
+    Outcome::from(network::edge_rows(table, head, &polygons, sheets, &links))
 }
 
 /// The first leaf edge whose middle node lacks a half, nodes being found by their place alone.

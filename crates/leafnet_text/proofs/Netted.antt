@@ -13,9 +13,12 @@ use Rattle.table.specs.declared.Head.{Head}
 use Rattle.net_rows.specs.Nodes.{in_ticks}
 use Rattle.refusals.specs.Said.{written}
 use Rattle.net_rows.specs.declared.rows.Polygons.{Polygons}
-use Rattle.network.specs.Says.{Rows, fits, first_bad, unless_bad, has_room, room_of, net_of, filled, counted, network_says, network_leaves}
+use Rattle.links.specs.declared.rows.Links.{Links}
+use Rattle.links.specs.Judged.{links_in_range, links_in, no_links}
+use Rattle.links.specs.Made.{linked, linked_network, links_of}
+use Rattle.network.specs.Says.{Rows, fits, first_bad, unless_bad, has_room, room_of, net_of, link_count, filled, counted, judged, network_says, network_leaves}
 use Rattle.network.proofs.Accepted.{edges-conduct}
-use Rattle.bare_net.specs.declared.Counts.{Counts}
+use Rattle.network.specs.declared.NetSize.{NetSize}
 use Rattle.table.specs.Rows.{leaves_in, order_in}
 use Rattle.leafnet_text.specs.Rooms.{net_rows}
 use Rattle.leafnet_text.specs.Boards.{Given, polygons_in, polygons_of}
@@ -27,13 +30,14 @@ unspoilt : (bad : Option ℕ) (o : Said) (vs : List ℕ) → accepted vs ≡ unl
 unspoilt None o vs e = e
 unspoilt (Some k) o vs e = cc e
 
-net-accepted : (row : List ℤ) (head : Head) (p : Polygons) (sheets : List Float) (r : Rows) (vs : List ℕ)
-    → accepted vs ≡ network_says row head p sheets r → accepted vs ≡ counted (net_of row head p sheets)
-unfolding network_says
-net-accepted row head p sheets r vs e =
+net-accepted : (row : List ℤ) (head : Head) (p : Polygons) (sheets : List Float) (l : Links) (r : Rows) (vs : List ℕ)
+    → accepted vs ≡ network_says row head p sheets l r → accepted vs ≡ counted (net_of row head p sheets l) (link_count row head p sheets l)
+unfolding network_says judged
+net-accepted row head p sheets l r vs e =
     let fit = accepted-if (fits row head p sheets) _ BadTable vs e in
     let few = accepted-if (nat_le (length p.layers.now) max_polygons) _ (OutOfRange 0) vs fit.1 in
-    (accepted-if (has_room (room_of r) (length (leaves_in row head))) _ NoRoom vs (unspoilt (first_bad sheets) _ vs few.1)).1
+    let linked = accepted-if (links_in_range l) _ (OutOfRange 0) vs (unspoilt (first_bad sheets) _ vs few.1) in
+    (accepted-if (has_room (room_of r) (length (leaves_in row head)) (link_count row head p sheets l)) _ NoRoom vs linked.1).1
 
 -- a finite number is a number
 finite-number : (x : Float) → IsTrue (float_is_finite x) → NotNan x
@@ -50,41 +54,42 @@ module _ {A : Type 0} (new old : List A) (n : ℕ) (e : n ≡ length new) where
   within-written = omega (arith, e, length-append new (drop (length new) old))
 
 -- what a call over a board's polygons leaves that answered these counts
-pub record Left (g : Given) (row : List ℤ) (head : Head) (c : Counts) (r : Rows) : Type 0 where
+pub record Left (g : Given) (row : List ℤ) (head : Head) (c : NetSize) (r : Rows) : Type 0 where
   pub few_nodes : c.nodes ≤ length r.nodes
   pub few_edges : c.edges ≤ length r.edges
   pub numbers : All (λ e. NotNan e.conductance) (take c.edges r.edges)
   pub text : (splits : ℕ) → net_text g row head splits ≡ lines_text row head splits (order_in row head) (take c.nodes r.nodes) (take c.edges r.edges)
 
 module _ (g : Given) (row : List ℤ) (head : Head) (p : Polygons) (sheets : List Float) (layers-are : p.layers.now ≡ g.board.layers)
-    (components-are : p.components.now ≡ g.components) (sheets-are : sheets ≡ g.sheets) where
+    (components-are : p.components.now ≡ g.components) (sheets-are : sheets ≡ g.sheets) (l : Links) (contacts-are : l.contacts.now ≡ []) (vias-are : l.vias.now ≡ [])
+    (layer-is : l.channel_layer ≡ 0) (channels-are : l.channels.now ≡ []) where
   -- where the rows lie makes no difference
-  same-said : network_says row head p sheets net_rows ≡ network_says row head (polygons_of g) g.sheets net_rows
-  unfolding network_says
-  same-said = λ i. network_says row head (polygons_in (layers-are i) (components-are i)) (sheets-are i) net_rows
+  same-said : network_says row head p sheets l net_rows ≡ network_says row head (polygons_of g) g.sheets no_links net_rows
+  unfolding network_says judged links_in_range linked_network linked links_of
+  same-said = λ i. network_says row head (polygons_in (layers-are i) (components-are i)) (sheets-are i) (links_in (contacts-are i) (vias-are i) (layer-is i) (channels-are i)) net_rows
 
-  same-left : network_leaves row head p sheets net_rows ≡ network_leaves row head (polygons_of g) g.sheets net_rows
-  unfolding network_says network_leaves
-  same-left = λ i. network_leaves row head (polygons_in (layers-are i) (components-are i)) (sheets-are i) net_rows
+  same-left : network_leaves row head p sheets l net_rows ≡ network_leaves row head (polygons_of g) g.sheets no_links net_rows
+  unfolding network_says network_leaves judged links_in_range linked_network linked links_of
+  same-left = λ i. network_leaves row head (polygons_in (layers-are i) (components-are i)) (sheets-are i) (links_in (contacts-are i) (vias-are i) (layer-is i) (channels-are i)) net_rows
 
-  pub net-refused : (why : Refusal) (splits : ℕ) → refusal why ≡ network_says row head p sheets net_rows → net_text g row head splits ≡ unless_refused (refusal why) []
+  pub net-refused : (why : Refusal) (splits : ℕ) → refusal why ≡ network_says row head p sheets l net_rows → net_text g row head splits ≡ unless_refused (refusal why) []
   unfolding net_text
-  net-refused why splits e = refused-text why (network_says row head (polygons_of g) g.sheets net_rows) _ (e ∙ same-said)
+  net-refused why splits e = refused-text why (network_says row head (polygons_of g) g.sheets no_links net_rows) _ (e ∙ same-said)
 
-  pub net-left : (c : Counts) (r : Rows) → accepted (c.nodes ∷ c.edges ∷ c.cells ∷ []) ≡ network_says row head p sheets net_rows
-      → r ≡ network_leaves row head p sheets net_rows → Left g row head c r
+  pub net-left : (c : NetSize) (r : Rows) → accepted (c.nodes ∷ c.edges ∷ c.cells ∷ c.links ∷ []) ≡ network_says row head p sheets l net_rows
+      → r ≡ network_leaves row head p sheets l net_rows → Left g row head c r
   unfolding network_leaves net_text
   net-left c r answer left =
-      let w = net_of row head (polygons_of g) g.sheets in
-      let vs = c.nodes ∷ c.edges ∷ c.cells ∷ [] in
+      let w = net_of row head (polygons_of g) g.sheets no_links in
+      let vs = c.nodes ∷ c.edges ∷ c.cells ∷ c.links ∷ [] in
       let e = answer ∙ same-said in
       let held : r ≡ filled w net_rows = left ∙ same-left ∙ rw (← e) refl in
-      let values = net-accepted row head (polygons_of g) g.sheets net_rows vs e in
+      let values = net-accepted row head (polygons_of g) g.sheets no_links net_rows vs e in
       let node_count : c.nodes ≡ length (map in_ticks w.nodes) = cc (values, length-map w.nodes in_ticks) in
       let edge_count : c.edges ≡ length w.edges = cc values in
       let nodes = ap (λ (x : Rows). take c.nodes x.nodes) held ∙ take-written (map in_ticks w.nodes) net_rows.nodes c.nodes node_count in
       let edges = ap (λ (x : Rows). take c.edges x.edges) held ∙ take-written w.edges net_rows.edges c.edges edge_count in
-      let all = edges-conduct (record { row = row; head = head; polygons = polygons_of g; sheets = g.sheets; lent = net_rows; counts = vs; accepting = sym e }) in
+      let all = edges-conduct (record { row = row; head = head; polygons = polygons_of g; sheets = g.sheets; links = no_links; lent = net_rows; counts = vs; accepting = sym e }) in
       record {
         few_nodes = rw held (within-written (map in_ticks w.nodes) net_rows.nodes c.nodes node_count);
         few_edges = rw held (within-written w.edges net_rows.edges c.edges edge_count);

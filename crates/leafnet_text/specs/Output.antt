@@ -12,6 +12,7 @@ use Rattle.record.specs.Board.{Board}
 use Rattle.net_rows.specs.declared.rows.Node.{Node}
 use Rattle.net_rows.specs.declared.rows.Edge.{Edge}
 use Rattle.net_rows.specs.Nodes.{in_ticks}
+use Rattle.links.specs.Judged.{no_links}
 use Rattle.network.specs.Says.{net_of, network_says}
 use Rattle.leafnet_text.specs.declared.lines.Totals.{Totals}
 use Rattle.leafnet_text.specs.declared.lines.Leaf.{Leaf}
@@ -61,11 +62,11 @@ abbrev pub unless_refused : Said → List ℕ → List ℕ
 unless_refused (accepted values) text = text
 unless_refused (refused number place) text = ended (refusal_line (refused number place))
 
--- of a board's table and what balance split: its net
+-- of a board's table and what balance split: its net. A record has no links
 unfoldable pub net_text : Given → List ℤ → Head → ℕ → List ℕ
 net_text g row head splits =
-    let net = net_of row head (polygons_of g) g.sheets in
-    unless_refused (network_says row head (polygons_of g) g.sheets net_rows) (lines_text row head splits (order_in row head) (map in_ticks net.nodes) net.edges)
+    let net = net_of row head (polygons_of g) g.sheets no_links in
+    unless_refused (network_says row head (polygons_of g) g.sheets no_links net_rows) (lines_text row head splits (order_in row head) (map in_ticks net.nodes) net.edges)
 
 -- its leaf order, and its net
 unfoldable pub table_text : Given → List ℤ → Head → ℕ → List ℕ

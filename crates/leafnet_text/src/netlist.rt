@@ -6,6 +6,7 @@ use crate::input::Board;
 use crate::mesh::Mesh;
 use crate::rooms::LEAVES;
 use crate::stop::Stop;
+use links::Links;
 use net_rows::{Corners, Edge, NetCell, Node, Polygons};
 use network::judge::{EDGES_A_LEAF, NODES_A_LEAF, WORK_A_LEAF};
 use std::alloc::Global;
@@ -71,19 +72,20 @@ impl Net {
         let mut edges = [NO_EDGE; EDGES];
         let mut cells = [NO_CELL; LEAVES];
         let mut work = [0u64; WORK];
-        let counts = network::network(
+        let size = network::network(
             &mesh.row,
             mesh.head,
             &polygons,
             &board.sheets,
+            &Links::none(),
             &mut nodes,
             &mut edges,
             &mut cells,
             &mut work,
         )?;
         Ok(Net {
-            nodes: nodes[..counts.nodes].to_vec(alloc)?,
-            edges: edges[..counts.edges].to_vec(alloc)?,
+            nodes: nodes[..size.nodes].to_vec(alloc)?,
+            edges: edges[..size.edges].to_vec(alloc)?,
         })
     }
 }

@@ -1,3 +1,4 @@
 pub mod Rows
+pub mod Judging
 pub mod Bare
 pub mod Accepted

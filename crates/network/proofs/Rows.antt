@@ -1,6 +1,7 @@
 -- Rows that were written from their fronts: what stands in the front, and what a second write of it makes. Assumes nothing.
 use Rattle.std.proofs.Common.{◌≡◌, refl, sym, ap, ap₂, ◌∙◌, List, [], ◌∷◌, ◌++◌, map, ℕ, length, take, drop}
-use lib.Seq.{take-append_seam, drop-append_seam}
+use lib.Seq.{take-append_seam, drop-append_seam, drop-drop}
+use Rattle.std.proofs.lemmas.List.{append_assoc, length-append}
 use Rattle.cell.proofs.Offsets.{off-on}
 use Rattle.net_rows.specs.Nodes.{in_mesh, in_ticks}
 use Rattle.refusals.specs.Said.{written}
@@ -17,6 +18,14 @@ pub write-again : {A : Type 0} (xs zs ys row : List A) (n : ℕ) → row ≡ wri
     → zs ++ drop n row ≡ written zs ys
 write-again xs zs ys row n e k same =
     ap (λ l. zs ++ l) (ap₂ (λ i l. drop i l) k e ∙ drop-append_seam xs (drop (length xs) ys) ∙ ap (λ i. drop i ys) (sym same))
+
+-- behind the front a second list is written
+pub write-behind : {A : Type 0} (xs zs ys row : List A) (n : ℕ) → row ≡ written xs ys → n ≡ length xs
+    → take n row ++ written zs (drop n row) ≡ written (xs ++ zs) ys
+write-behind xs zs ys row n e k =
+    ap₂ (λ l m. l ++ written zs m) (take-written xs ys row n e k) (ap₂ (λ i l. drop i l) k e ∙ drop-append_seam xs (drop (length xs) ys))
+    ∙ sym (append_assoc xs zs (drop (length zs) (drop (length xs) ys)))
+    ∙ ap (λ l. (xs ++ zs) ++ l) (drop-drop (length zs) (length xs) ys ∙ ap (λ i. drop i ys) (sym (length-append xs zs)))
 
 -- a node in range, as a caller holds it and back
 pub mesh-ticks : (ns : List MeshNode) → All (Within widest) ns → map in_mesh (map in_ticks ns) ≡ ns

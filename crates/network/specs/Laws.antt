@@ -7,7 +7,8 @@ use Rattle.net_rows.specs.declared.rows.Polygons.{Polygons}
 use Rattle.net.specs.Net as Net
 use Rattle.net.specs.Net.{Cornered}
 use Rattle.net.specs.Laws.{IsPositive}
-use Rattle.bare_net.specs.declared.Counts.{Counts}
+use Rattle.links.specs.declared.rows.Links.{Links}
+use Rattle.network.specs.declared.NetSize.{NetSize}
 use Rattle.network.specs.Says.{Rows, netted_said, network_says, network_leaves, net_of}
 
 -- a call, and the counts that it answers where it is accepted
@@ -16,12 +17,13 @@ pub record AcceptedCall : Type 0 where
   pub head : Head
   pub polygons : Polygons
   pub sheets : List Float
+  pub links : Links
   pub lent : Rows
   pub counts : List ℕ
-  pub accepting : network_says row head polygons sheets lent ≡ accepted counts
+  pub accepting : network_says row head polygons sheets links lent ≡ accepted counts
 
 abbrev pub net_left : AcceptedCall → Net.Net
-net_left c = net_of c.row c.head c.polygons c.sheets
+net_left c = net_of c.row c.head c.polygons c.sheets c.links
 
 -- every conductance is finite and above 0
 abbrev pub AcceptedEdgesConduct : Type 0
@@ -34,10 +36,10 @@ AcceptedCellsAreRectangles = (c : AcceptedCall) → All (Cornered (net_left c).n
 -- two answers that are permitted are one, and so are two contents of the lent rows
 abbrev pub OneAnswer : Type 0
 OneAnswer =
-    (row : List ℤ) (head : Head) (p : Polygons) (sheets : List Float) (lent : Rows) (answer other : Result Counts Refusal)
-    → netted_said answer ≡ network_says row head p sheets lent → netted_said other ≡ network_says row head p sheets lent → answer ≡ other
+    (row : List ℤ) (head : Head) (p : Polygons) (sheets : List Float) (links : Links) (lent : Rows) (answer other : Result NetSize Refusal)
+    → netted_said answer ≡ network_says row head p sheets links lent → netted_said other ≡ network_says row head p sheets links lent → answer ≡ other
 
 abbrev pub OneContent : Type 0
 OneContent =
-    (row : List ℤ) (head : Head) (p : Polygons) (sheets : List Float) (lent left other : Rows)
-    → left ≡ network_leaves row head p sheets lent → other ≡ network_leaves row head p sheets lent → left ≡ other
+    (row : List ℤ) (head : Head) (p : Polygons) (sheets : List Float) (links : Links) (lent left other : Rows)
+    → left ≡ network_leaves row head p sheets links lent → other ≡ network_leaves row head p sheets links lent → left ≡ other

@@ -1,13 +1,15 @@
-//! Runs stored cases of power, of the two checks of a net and of network, and prints every answer with the row that was
-//! lent. `stdin` has the cases and `stdout` what the original answered. Both were written by
+//! Runs stored cases of power, of the two checks of a net and of network, with links and without, and prints every
+//! answer with the row that was lent. `stdin` has the cases and `stdout` what the original answered. Both were written by
 //!
 //!     oracle/replays.sh
 #![tactic(auto)]
 
-use bare_net::Counts;
+use cases::stored::Stored;
 use cases::{Cases, print};
 use checks::Hanging;
+use links::{Channel, Contact, Footprint, Links, Terminal, Via};
 use net_rows::{Corners, Edge, NetCell, NetRows, Node, Polygons};
+use network::NetSize;
 use refusals::Refusal;
 use std::alloc::{AllocError, Global};
 use std::fmt::Write;
@@ -20,6 +22,10 @@ const NETWORK_CONFORMING: u64 = 2;
 
 const NETWORK: u64 = 4;
 
+const LINKED_NETWORK: u64 = 5;
+
+const EDGE_ROWS: u64 = 6;
+
 // The rows of a net as the stream has them: four numbers a node, two ends an edge, four corners a cell.
 #[derive(Drop)]
 struct Numbers {
@@ -28,6 +34,122 @@ struct Numbers {
     conductances: Vec<f64>,
     corners: Vec<u64>,
     sheets: Vec<f64>,
+}
+
+// What is lent for a net: a table with its head in front, the polygons' rows, and links.
+#[derive(Drop)]
+struct Board {
+    head: Head,
+    table: Vec<i64>,
+    layers: Vec<u16>,
+    components: Vec<u32>,
+    sheets: Vec<f64>,
+    contacts: Vec<Contact>,
+    vias: Vec<Via>,
+    channel_layer: u16,
+    channels: Vec<Channel>,
+}
+
+fn read_contact(cases: &mut Cases) -> Contact {
+    let from = cases.index();
+    let to = cases.index();
+    Contact { from, to }
+}
+
+fn read_footprint(cases: &mut Cases) -> Footprint {
+    let x = i64::stored(cases);
+    let y = i64::stored(cases);
+    let half_width = i64::stored(cases);
+    let half_height = i64::stored(cases);
+    Footprint {
+        x,
+        y,
+        half_width,
+        half_height,
+    }
+}
+
+fn read_via(cases: &mut Cases) -> Via {
+    let bottom = u16::stored(cases);
+    let top = u16::stored(cases);
+    let component = u32::stored(cases);
+    let footprint = read_footprint(cases);
+    let resistance = f64::stored(cases);
+    Via {
+        bottom,
+        top,
+        component,
+        footprint,
+        resistance,
+    }
+}
+
+fn read_terminal(cases: &mut Cases) -> Terminal {
+    let component = u32::stored(cases);
+    let x = i64::stored(cases);
+    let y = i64::stored(cases);
+    Terminal { component, x, y }
+}
+
+fn read_channel(cases: &mut Cases) -> Channel {
+    let drain = read_terminal(cases);
+    let source = read_terminal(cases);
+    let resistance = f64::stored(cases);
+    Channel {
+        drain,
+        source,
+        resistance,
+    }
+}
+
+impl Board {
+    fn read(alloc: Global, cases: &mut Cases) -> Result<Board, AllocError> {
+        let head = cases.head();
+        let table = cases.row(alloc)?;
+        let layers = cases.row(alloc)?;
+        let components = cases.row(alloc)?;
+        let sheets = cases.row(alloc)?;
+        let mut contacts = Vec::new(alloc);
+        for _ in 0..cases.word() {
+            contacts.push(read_contact(cases))?;
+        }
+        let mut vias = Vec::new(alloc);
+        for _ in 0..cases.word() {
+            vias.push(read_via(cases))?;
+        }
+        let channel_layer = u16::stored(cases);
+        let mut channels = Vec::new(alloc);
+        for _ in 0..cases.word() {
+            channels.push(read_channel(cases))?;
+        }
+        Ok(Board {
+            head,
+            table,
+            layers,
+            components,
+            sheets,
+            contacts,
+            vias,
+            channel_layer,
+            channels,
+        })
+    }
+
+    fn polygons(&self) -> Polygons<'_> {
+        Polygons {
+            layers: &self.layers,
+            components: &self.components,
+        }
+    }
+
+    fn links(&self) -> Links<'_> {
+        Links {
+            contacts: &self.contacts,
+            vias: &self.vias,
+            channel_layer: self.channel_layer,
+            channels: &self.channels,
+        }
+    }
 }
 
 // The rows of a net as a call takes them.
@@ -175,7 +297,7 @@ fn print_fault(out: &mut String, fault: Option<Hanging>) -> Result<(), AllocErro
     }
 }
 
-fn print_counts(out: &mut String, n: Counts) -> Result<(), AllocError> {
+fn print_counts(out: &mut String, n: NetSize) -> Result<(), AllocError> {
     writeln!(out, " {} {} {}", n.nodes, n.edges, n.cells)
 }
 
@@ -264,6 +386,7 @@ fn run_network(alloc: Global, cases: &mut Cases, out: &mut String) -> Result<(),
                 head,
                 &polygons,
                 &sheets,
+                &Links::none(),
                 &mut net.nodes,
                 &mut net.edges,
                 &mut net.cells,
@@ -280,10 +403,64 @@ fn run_network(alloc: Global, cases: &mut Cases, out: &mut String) -> Result<(),
     print::work(out, &work)
 }
 
+fn print_size(out: &mut String, n: NetSize) -> Result<(), AllocError> {
+    writeln!(out, " {} {} {} {}", n.nodes, n.edges, n.cells, n.links)
+}
+
+// A board with links, and the rows for the net stand next.
+fn run_linked(alloc: Global, cases: &mut Cases, out: &mut String) -> Result<(), AllocError> {
+    let board = Board::read(alloc, cases)?;
+    let lent = Numbers::read(alloc, cases)?;
+    let mut work: Vec<u64> = cases.row(alloc)?;
+    write!(out, "linked_network")?;
+    match lent.typed(alloc)? {
+        Some(mut net) => {
+            let answer = network::network(
+                &board.table,
+                board.head,
+                &board.polygons(),
+                &board.sheets,
+                &board.links(),
+                &mut net.nodes,
+                &mut net.edges,
+                &mut net.cells,
+                &mut work,
+            );
+            print::answered(out, answer, print_size)?;
+            net.numbers(alloc)?.print(out)?;
+        }
+        None => {
+            print::refused(out, Refusal::BadTable)?;
+            lent.print(out)?;
+        }
+    }
+    print::work(out, &work)
+}
+
+fn print_rows(out: &mut String, rows: usize) -> Result<(), AllocError> {
+    writeln!(out, " {}", rows)
+}
+
+fn run_edge_rows(alloc: Global, cases: &mut Cases, out: &mut String) -> Result<(), AllocError> {
+    let board = Board::read(alloc, cases)?;
+    write!(out, "edge_rows")?;
+    let answer = network::edge_rows(
+        &board.table,
+        board.head,
+        &board.polygons(),
+        &board.sheets,
+        &board.links(),
+    );
+    print::answered(out, answer, print_rows)
+}
+
 fn run(alloc: Global, cases: &mut Cases, out: &mut String) -> Result<(), AllocError> {
     let kind = cases.word();
-    if kind == NETWORK {
-        return run_network(alloc, cases, out);
+    match kind {
+        NETWORK => return run_network(alloc, cases, out),
+        LINKED_NETWORK => return run_linked(alloc, cases, out),
+        EDGE_ROWS => return run_edge_rows(alloc, cases, out),
+        _ => {}
     }
     let typed = Numbers::read(alloc, cases)?.typed(alloc)?;
     let net = typed.as_ref().ok_or(Refusal::BadTable);

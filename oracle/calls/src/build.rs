@@ -3,7 +3,7 @@
 use crate::contact::Rect;
 use crate::limits::{r_sheet_in_range, CAP, CELL, LAYER_ENTRIES, POLYGONS, WIDEST_LEVEL};
 use crate::outcome::{require, Answer, Refusal};
-use crate::sheets::{layer_name, Sheets};
+use crate::sheets::{LayerNames, Sheets};
 use crate::strips::{is_rectilinear, ring_in_range, strips_by_the_words, TickPoint};
 use crate::table::{store_grid, WIDTH};
 use crate::ticks::metres;
@@ -65,7 +65,8 @@ impl Settings<'_> {
     /// The layer list as the original takes it.
     pub fn layers_to_original(&self) -> BTreeMap<String, f64> {
         let entries = self.layers.iter();
-        entries.map(|&(layer, cell)| (layer_name(layer), metres(cell))).collect()
+        let names = LayerNames::default();
+        entries.map(|&(layer, cell)| (names.of(layer), metres(cell))).collect()
     }
 
     /// The cell size of a layer: its own, or the target where that is 0 or not listed.

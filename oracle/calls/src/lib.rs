@@ -11,6 +11,8 @@ pub mod contact;
 pub mod even;
 pub mod leafnet;
 pub mod limits;
+pub mod link_words;
+pub mod links;
 pub mod net;
 pub mod network;
 pub mod outcome;

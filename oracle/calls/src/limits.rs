@@ -15,6 +15,9 @@ pub const POTENTIAL: f64 = 1_048_576.0;
 /// The largest sheet resistance, 2^40; the smallest is one over it, 2^-40.
 pub const R_SHEET: f64 = 1_099_511_627_776.0;
 
+/// The largest half size of a footprint.
+pub const HALF: i64 = COORDINATE;
+
 pub fn coordinate_in_range(ticks: i64) -> bool {
     (-COORDINATE..=COORDINATE).contains(&ticks)
 }
@@ -22,6 +25,11 @@ pub fn coordinate_in_range(ticks: i64) -> bool {
 /// False for a NaN too.
 pub fn r_sheet_in_range(ohms: f64) -> bool {
     (1.0 / R_SHEET..=R_SHEET).contains(&ohms)
+}
+
+/// Of a via or a channel; false for a NaN too.
+pub fn resistance_in_range(ohms: f64) -> bool {
+    r_sheet_in_range(ohms)
 }
 
 /// False for a NaN and the infinities too.

@@ -1,7 +1,7 @@
 //! A net, and whether it is sound.
 
 use crate::limits::coordinate_in_range;
-use crate::sheets::layer_name;
+use crate::sheets::LayerNames;
 use crate::ticks::{metres, ticks};
 use original::sheet::SheetNetwork;
 use std::collections::BTreeSet;
@@ -87,7 +87,7 @@ impl Net {
     pub fn to_original(&self) -> SheetNetwork {
         let mut net = SheetNetwork::default();
         for node in &self.nodes {
-            net.physical.push(layer_name(node.layer));
+            net.physical.push(LayerNames::default().of(node.layer));
             net.component.push(node.component as usize);
             net.x.push(metres(node.x));
             net.y.push(metres(node.y));
@@ -103,8 +103,12 @@ impl Net {
     }
 
     pub fn of_original(net: &SheetNetwork) -> Self {
+        Net::of_named(net, LayerNames::default())
+    }
+
+    pub fn of_named(net: &SheetNetwork, names: LayerNames) -> Self {
         let node = |n: usize| Node {
-            layer: net.physical[n].parse().expect("layers are numbers here"),
+            layer: names.layer(&net.physical[n]),
             component: net.component[n].try_into().expect("components have 32 bits here"),
             x: ticks(net.x[n]),
             y: ticks(net.y[n]),

@@ -1,9 +1,11 @@
 //! The network: nodes, edges and cells of a table's leaves.
 
 use crate::limits::{r_sheet_in_range, POLYGONS};
-use crate::net::Net;
+use crate::link_words::Reading;
+use crate::links::Links;
+use crate::net::{Edge, Net};
 use crate::outcome::{require, Answer};
-use crate::sheets::Sheets;
+use crate::sheets::{LayerNames, Sheets};
 use crate::table::{leaf_count, to_grid, Slot};
 use original::adaptive::build_network;
 use original::sheet::SheetPolygon;
@@ -23,6 +25,15 @@ impl NetRoom {
         NetRoom { nodes: 4 * leaves, edges: 8 * leaves, cells: leaves, work: 64 * leaves }
     }
 
+    /// The same with one edge row for each link.
+    pub fn with_links(self, links: usize) -> Self {
+        NetRoom { edges: self.edges + links, ..self }
+    }
+
+    pub fn holds_links(&self, leaves: usize, links: usize) -> bool {
+        self.holds(leaves) && self.edges >= NetRoom::for_leaves(leaves).with_links(links).edges
+    }
+
     fn holds(&self, leaves: usize) -> bool {
         let need = NetRoom::for_leaves(leaves);
         self.nodes >= need.nodes
@@ -40,6 +51,68 @@ pub fn network(
     sheets: &Sheets,
     room: &NetRoom,
 ) -> Answer<Net> {
+    linked_network(table, count, max_level, sheets, &Links::default(), room).map(|made| made.net)
+}
+
+/// A net, of whose edges the last ones are links.
+#[derive(Clone, Debug, PartialEq)]
+pub struct Linked {
+    pub net: Net,
+    pub links: usize,
+}
+
+/// Refuses 7, 3 (as `network`, then a link's value, place 0), 6.
+pub fn linked_network(
+    table: &[i64],
+    count: usize,
+    max_level: u64,
+    sheets: &Sheets,
+    links: &Links,
+    room: &NetRoom,
+) -> Answer<Linked> {
+    let leaves = judged(table, count, max_level, sheets, links)?;
+    require(room.holds(leaves), 6, 0)?;
+    let made = made(table, count, max_level, sheets, links);
+    require(room.holds_links(leaves, made.links), 6, 0)?;
+    Ok(made)
+}
+
+/// The same in any room.
+pub fn roomy_network(
+    table: &[i64],
+    count: usize,
+    max_level: u64,
+    sheets: &Sheets,
+    links: &Links,
+) -> Answer<Linked> {
+    judged(table, count, max_level, sheets, links)?;
+    Ok(made(table, count, max_level, sheets, links))
+}
+
+/// How many edge rows the network asks for, read by the words of docs/RULES.md alone: no link is made.
+pub fn edge_rows(
+    table: &[i64],
+    count: usize,
+    max_level: u64,
+    sheets: &Sheets,
+    links: &Links,
+) -> Answer<u64> {
+    let leaves = judged(table, count, max_level, sheets, links)?;
+    let net = made(table, count, max_level, sheets, &Links::default()).net;
+    let corners: Vec<_> = net.cells.iter().map(|cell| cell.corners).collect();
+    let by_polygon = leaves_by_polygon(table, count, sheets.len());
+    let number = Reading::new(&net, &corners, &by_polygon).count(links);
+    Ok((8 * leaves as u128 + number).min(u128::from(u64::MAX)) as u64)
+}
+
+/// Refuses all but 6; the number of leaves.
+fn judged(
+    table: &[i64],
+    count: usize,
+    max_level: u64,
+    sheets: &Sheets,
+    links: &Links,
+) -> Answer<usize> {
     let leaves = leaf_count(table, count, max_level)? as usize;
     require(sheets.rows_are_equal(), 7, 0)?;
     require(polygons_are_known(table, count, sheets), 7, 0)?;
@@ -47,14 +120,48 @@ pub fn network(
     for (polygon, &ohms) in sheets.r_sheet.iter().enumerate() {
         require(r_sheet_in_range(ohms), 3, polygon as u64)?;
     }
-    require(room.holds(leaves), 6, 0)?;
+    require(links.in_range(), 3, 0)?;
+    Ok(leaves)
+}
 
+/// The original's net of what was judged. Its links must be those that the words of docs/RULES.md make.
+fn made(table: &[i64], count: usize, max_level: u64, sheets: &Sheets, links: &Links) -> Linked {
+    let names = match links.is_empty() {
+        true => LayerNames::default(),
+        false => LayerNames::with_channels_on(links.channel_layer),
+    };
     let polygons: Vec<SheetPolygon> =
-        (0..sheets.len()).map(|polygon| sheets.to_original(polygon, &[])).collect();
+        (0..sheets.len()).map(|polygon| sheets.named(polygon, &[], names)).collect();
     let grid = to_grid(table, count, max_level);
-    let net = Net::of_original(&build_network(&grid, &polygons, &[], &[], &[]));
+    let net = build_network(
+        &grid,
+        &polygons,
+        &links.contacts_to_original(),
+        &links.vias_to_original(names),
+        &links.channels_to_original(),
+    );
+    let net = Net::of_named(&net, names);
     assert!(net.is_sound(), "the original's net is sound");
-    Ok(net)
+    if links.is_empty() {
+        return Linked { net, links: 0 };
+    }
+    let corners: Vec<_> = net.cells.iter().map(|cell| cell.corners).collect();
+    let by_polygon = leaves_by_polygon(table, count, sheets.len());
+    let read = Reading::new(&net, &corners, &by_polygon).links(links);
+    let mesh = net.edges.len() - read.len();
+    let same = |(a, b): (&Edge, &Edge)| {
+        a.ends() == b.ends() && a.conductance.to_bits() == b.conductance.to_bits()
+    };
+    assert!(net.edges[mesh..].iter().zip(&read).all(same), "links by the words of the rules");
+    Linked { links: read.len(), net }
+}
+
+/// How many leaves each polygon has.
+fn leaves_by_polygon(table: &[i64], count: usize, polygons: usize) -> Vec<usize> {
+    let mut leaves = vec![0; polygons];
+    let slots = (0..count).map(|id| Slot::load(table, id));
+    slots.filter(Slot::is_leaf).for_each(|leaf| leaves[leaf.polygon as usize] += 1);
+    leaves
 }
 
 /// No cell of a well-formed table has a polygon index at or past the polygon count.

@@ -28,9 +28,14 @@ impl Sheets<'_> {
 
     /// The original's polygon, with the outline that it needs for build alone.
     pub fn to_original(&self, polygon: usize, ring: &[TickPoint]) -> SheetPolygon {
+        self.named(polygon, ring, LayerNames::default())
+    }
+
+    /// The same where one layer has the name that the original looks for channels on.
+    pub fn named(&self, polygon: usize, ring: &[TickPoint], names: LayerNames) -> SheetPolygon {
         let points: Vec<Point> = to_points(ring);
         SheetPolygon {
-            physical: layer_name(self.layer[polygon]),
+            physical: names.of(self.layer[polygon]),
             points,
             component: self.component[polygon] as usize,
             r_sheet: self.r_sheet[polygon],
@@ -38,7 +43,31 @@ impl Sheets<'_> {
     }
 }
 
-/// The original knows layers by their text.
-pub fn layer_name(layer: u16) -> String {
-    layer.to_string()
+/// The original knows layers by their text: their decimal number, but for the layer of the channels.
+#[derive(Clone, Copy, Debug, Default)]
+pub struct LayerNames {
+    channel_layer: Option<u16>,
+}
+
+/// The layer on which the original looks for the ends of channels.
+const CHANNELS: &str = "RX";
+
+impl LayerNames {
+    pub fn with_channels_on(layer: u16) -> Self {
+        LayerNames { channel_layer: Some(layer) }
+    }
+
+    pub fn of(self, layer: u16) -> String {
+        match self.channel_layer {
+            Some(channel_layer) if channel_layer == layer => CHANNELS.to_string(),
+            _ => layer.to_string(),
+        }
+    }
+
+    pub fn layer(self, name: &str) -> u16 {
+        match self.channel_layer {
+            Some(channel_layer) if name == CHANNELS => channel_layer,
+            _ => name.parse().expect("layers are numbers here"),
+        }
+    }
 }

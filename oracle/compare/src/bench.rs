@@ -9,6 +9,7 @@ pub mod checks;
 mod clock;
 pub mod even;
 pub mod hostile;
+pub mod links;
 pub mod network;
 pub mod power;
 pub mod table;

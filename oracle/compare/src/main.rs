@@ -12,6 +12,7 @@ mod hostile;
 mod indexed;
 mod large;
 mod leafnet;
+mod links;
 mod network;
 mod port;
 mod power;
@@ -60,6 +61,7 @@ const GROUPS: &[Group] = &[
         compare: network::compare,
         bench: Some(bench::network::run),
     },
+    Group { name: "links", count: 70_000, compare: links::compare, bench: Some(bench::links::run) },
     Group {
         name: "checks",
         count: 40_000,

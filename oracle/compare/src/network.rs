@@ -51,7 +51,7 @@ pub fn compare(count: u64, seed: u64) -> bool {
 }
 
 /// Exactly what so many leaves ask for, or more of some.
-fn any_room(leaves: usize, random: &mut Random) -> NetRoom {
+pub fn any_room(leaves: usize, random: &mut Random) -> NetRoom {
     let mut room = NetRoom::for_leaves(leaves);
     if random.one_in(3) {
         room.nodes += random.index(4);
@@ -63,7 +63,7 @@ fn any_room(leaves: usize, random: &mut Random) -> NetRoom {
 }
 
 /// One node, edge, cell or work number short, or all of them.
-fn short_rooms(leaves: usize) -> [NetRoom; 5] {
+pub fn short_rooms(leaves: usize) -> [NetRoom; 5] {
     let room = NetRoom::for_leaves(leaves);
     [
         NetRoom { nodes: room.nodes.saturating_sub(1), ..room },
@@ -105,7 +105,7 @@ fn original(mesh: &Mesh, rows: &mut Rows) -> Answer<Net> {
     Ok(net)
 }
 
-fn expected_outcome(answer: &Answer<Net>) -> NetOutcome {
+pub fn expected_outcome(answer: &Answer<&Net>) -> NetOutcome {
     match answer {
         Ok(net) => NetOutcome {
             nodes: net.nodes.len() as u64,
@@ -120,7 +120,7 @@ fn expected_outcome(answer: &Answer<Net>) -> NetOutcome {
 }
 
 /// Rows with numbers of their own at each place.
-fn unused_rows(room: &NetRoom) -> Rows {
+pub fn unused_rows(room: &NetRoom) -> Rows {
     let node = |n: u64| Node { layer: n as u16, component: n as u32, x: n as i64, y: -(n as i64) };
     let edge = |n: u64| Edge { from: n as usize, to: !n as usize, conductance: n as f64 };
     let cell = |n: u64| Cell { corners: [n as usize; 4], sheet: -(n as f64) };
@@ -133,7 +133,7 @@ fn unused_rows(room: &NetRoom) -> Rows {
 }
 
 /// Where rows differ first, empty if nowhere.
-fn differences(rows: &Rows, port_rows: &Rows) -> String {
+pub fn differences(rows: &Rows, port_rows: &Rows) -> String {
     [
         difference("node", &rows.nodes, &port_rows.nodes),
         difference("edge, with bits,", &edge_bits(&rows.edges), &edge_bits(&port_rows.edges)),
@@ -148,7 +148,7 @@ impl Tally {
         let mut rows = unused_rows(room);
         let mut port_rows = rows.clone();
         let answer = original(mesh, &mut rows);
-        let expected = expected_outcome(&answer);
+        let expected = expected_outcome(&answer.as_ref().map_err(|why| *why));
         let got = port::network(&mesh.table, &mesh.polygons(), &mut port_rows);
         let differ = differences(&rows, &port_rows);
         let outcome = outcome_of(answer.as_ref().map(|_| expected.cells).map_err(|why| *why));
@@ -211,7 +211,7 @@ impl Tally {
     }
 }
 
-fn mesh_words(mesh: &Mesh) -> String {
+pub fn mesh_words(mesh: &Mesh) -> String {
     format!(
         "max_level {}, count {}, table {}, layers {}, components {}, sheets {}",
         mesh.table.max_level,

@@ -6,6 +6,8 @@ pub mod large_meshes;
 pub mod limit_plans;
 pub mod limit_records;
 pub mod limit_tables;
+pub mod linked_meshes;
+pub mod links;
 pub mod long_rings;
 pub mod mesh_faults;
 pub mod meshes;

@@ -2,6 +2,7 @@
 //! or a component has too many bits, or rows don't fit together, they are no net, and what is lent
 //! them is refused by 7.
 
+use crate::replay::Case;
 use calls::limits::COORDINATE;
 use calls::net::{Cell, Edge, Net, Node};
 use calls::network::NetRoom;
@@ -70,6 +71,15 @@ impl Rows {
                 })
                 .collect(),
         })
+    }
+
+    /// As the program prints them.
+    pub fn print(&self, case: &mut Case) {
+        case.print(&self.nodes);
+        case.print(&self.ends);
+        case.print_fractions(&self.conductances);
+        case.print(&self.corners);
+        case.print_fractions(&self.sheets);
     }
 
     /// Puts a net over the front.

@@ -1,6 +1,7 @@
 //! Writes the data of the replay programs: `replays CRATES [COUNT [SEED]]`.
 
 mod limit_nets;
+mod links;
 mod loose;
 mod net;
 mod outline;

@@ -1,6 +1,7 @@
-//! Power, the two checks and network, on nets of at most 64 nodes or so.
+//! Power, the two checks and network, on nets of at most 64 nodes or so; and the network with links.
 
 use crate::limit_nets::{limit_nets, NetCase};
+use crate::links;
 use crate::loose::{NetLengths, Rows};
 use crate::replay::{class, Case, Replay};
 use calls::checks::{check_by_layer, check_network_conforming, Hanging};
@@ -35,7 +36,7 @@ const LARGE_ONE_IN: u64 = 600;
 /// How many are drawn for each case of a class.
 const DRAWS: u64 = 2_000;
 /// What a row holds before the call, its own number at each place.
-const SENTINEL: u64 = 900;
+pub const SENTINEL: u64 = 900;
 /// What the port's quick walk asks for: so many numbers a node and an edge.
 const WORK_A_NODE: usize = 9;
 const WORK_AN_EDGE: usize = 3;
@@ -60,6 +61,7 @@ pub fn replay(count: u64, random: &mut Random) -> Replay {
         }
         run_mesh(any_mesh(random), random, &mut replay);
     }
+    links::offer(&mut replay);
     replay
 }
 
@@ -89,16 +91,12 @@ fn run_network(lent: &NetCase, replay: &mut Replay) {
         |net: Net| [net.nodes.len(), net.edges.len(), net.cells.len()].map(|n| n as u64).to_vec();
     let number = answer.as_ref().err().map_or(0, |why| why.number);
     case.answer("network", answer.map(counts));
-    case.print(&rows.nodes);
-    case.print(&rows.ends);
-    case.print_fractions(&rows.conductances);
-    case.print(&rows.corners);
-    case.print_fractions(&rows.sheets);
+    rows.print(&mut case);
     case.print_filled(&work);
     replay.offer(("network", number, 0), case);
 }
 
-fn unused(lengths: &NetLengths) -> Rows {
+pub fn unused(lengths: &NetLengths) -> Rows {
     let place = |at: usize| SENTINEL + at as u64;
     Rows {
         nodes: (0..lengths.nodes).map(|at| place(at) as i64).collect(),
@@ -133,7 +131,7 @@ fn lent(kind: u64, rows: &Rows) -> Case {
     case
 }
 
-fn lend_net(case: &mut Case, rows: &Rows) {
+pub fn lend_net(case: &mut Case, rows: &Rows) {
     case.signed_row(&rows.nodes);
     case.row(&rows.ends);
     case.fraction_row(&rows.conductances);
@@ -141,7 +139,7 @@ fn lend_net(case: &mut Case, rows: &Rows) {
     case.fraction_row(&rows.sheets);
 }
 
-fn lend_polygons(case: &mut Case, mesh: &Mesh) {
+pub fn lend_polygons(case: &mut Case, mesh: &Mesh) {
     case.row(&mesh.layers.iter().map(|&layer| u64::from(layer)).collect::<Vec<_>>());
     case.row(&mesh.components.iter().map(|&number| u64::from(number)).collect::<Vec<_>>());
 }
@@ -220,7 +218,7 @@ fn run_checks(mesh: &Mesh, rows: &Rows, random: &mut Random, replay: &mut Replay
     finish("check_by_layer", case, answer, room, need, replay);
 }
 
-fn lend_table(case: &mut Case, mesh: &Mesh) {
+pub fn lend_table(case: &mut Case, mesh: &Mesh) {
     case.numbers([mesh.table.count as u64, mesh.table.max_level]);
     case.signed_row(&mesh.table.row);
 }

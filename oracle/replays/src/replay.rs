@@ -130,6 +130,11 @@ impl Replay {
         self.drawing = true;
     }
 
+    /// From here on every case is kept again.
+    pub fn keep(&mut self) {
+        self.drawing = false;
+    }
+
     pub fn offer(&mut self, class: Class, case: Case) {
         if !self.drawing {
             self.boundary += 1;

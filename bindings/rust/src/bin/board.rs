@@ -1,6 +1,7 @@
 //! Standard input to standard output: `board pack` makes a record of a board's text, `board unpack` the text of a
 //! record. Of either, `board net` prints what leafnet prints, with no bound of 64 slots, and `board vtk` a file for
-//! ParaView. These two refuse a board whose net would be wrong; `pack` makes its record and warns.
+//! ParaView. These two refuse a board whose net would be wrong; `pack` makes its record and warns. They take links, too,
+//! which no record has, and `pack` refuses.
 
 use leafmesh::tool::{self, Given};
 use leafmesh::{printed, read, text, vtk, Mesh, Unmeshed};
@@ -50,5 +51,5 @@ fn in_text(given: &Given) -> Result<String, String> {
 
 fn in_vtk(given: &Given) -> Result<String, String> {
     let (mesh, net) = given.mesh()?;
-    vtk::of_mesh(&mesh, net.rows(), &[]).map_err(|why| why.to_string())
+    vtk::of_linked_mesh(&mesh, &net, &[]).map_err(|why| why.to_string())
 }

@@ -7,9 +7,9 @@
 //! printed; the record tells layers apart, a file of potentials has one number a node.
 
 use leafmesh::drawing::{densities, Picture};
-use leafmesh::solving::{across, System};
+use leafmesh::solving::{across_linked, System};
 use leafmesh::tool::{self, Given};
-use leafmesh::{power, printed, Mesh, NetRows};
+use leafmesh::{power, printed, Mesh, Net, NetRows};
 use std::env;
 use std::process::ExitCode;
 
@@ -58,24 +58,30 @@ fn asked(mut words: impl Iterator<Item = String>) -> Option<Asked> {
 }
 
 fn of_board(file: &str, asked: &Asked) -> Result<Picture, String> {
-    let given = Given::of_bytes(tool::file(file)?);
-    let meshed = given.and_then(|given| given.mesh());
-    let (mesh, net) = meshed.map_err(|why| format!("{file}: {why}"))?;
+    let named = |why| format!("{file}: {why}");
+    let given = Given::of_bytes(tool::file(file)?).map_err(named)?;
+    let (mesh, net) = given.mesh().map_err(named)?;
     let title = asked.title.as_deref().unwrap_or(file);
-    let picture = Picture::of_mesh(title, &mesh, net.rows()).map_err(|why| why.to_string())?;
+    let picture = of_mesh(title, &given, &mesh, &net)?;
     if !asked.power {
         return Ok(picture);
     }
-    let (system, by) = match System::of_cells(net.rows()) {
+    let (system, by) = match System::of_linked_cells(&net) {
         Ok(system) => (system, ""),
         // A side's end that hangs itself, as polygons over each other may have: the conductances are what is left.
         Err(_) => (System::of_net(net.rows()), " by the net's conductances"),
     };
     let volts = system
-        .solve(&across(&net.nodes))
+        .solve(&across_linked(&net.nodes, net.links()))
         .map_err(|why| why.to_string())?;
     let words = format!("{POWER} at 1 V from the bottom to the top{by}");
     coloured(picture, &words, &mesh, net.rows(), &volts)
+}
+
+/// With the links that were given.
+fn of_mesh(title: &str, given: &Given, mesh: &Mesh, net: &Net) -> Result<Picture, String> {
+    let picture = Picture::of_mesh(title, mesh, net.rows()).map_err(|why| why.to_string())?;
+    Ok(picture.with_links(net, given.links.rows()))
 }
 
 fn of_text(asked: &Asked) -> Result<Picture, String> {
@@ -87,7 +93,9 @@ fn of_text(asked: &Asked) -> Result<Picture, String> {
     let given = Given::of_bytes(tool::file(file)?).map_err(|why| format!("{file}: {why}"))?;
     let printed = printed::read(&text)?;
     let (mesh, net) = given.mesh().map_err(|why| format!("{file}: {why}"))?;
-    let picture = Picture::of_printed(title, &printed, Some(&given.board))?;
+    let own = printed::show_mesh(&given.board, &mesh, &net).map_err(|why| why.to_string())?;
+    printed::is_of(&printed, &own)?;
+    let picture = of_mesh(title, &given, &mesh, &net)?;
     let Some(file) = &asked.potentials else {
         return Ok(picture);
     };

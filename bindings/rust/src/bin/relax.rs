@@ -3,7 +3,7 @@
 //! pictures, not for judging a board.
 
 use leafmesh::printed::{self, Printed};
-use leafmesh::solving::{across, System};
+use leafmesh::solving::{across_linked, System};
 use leafmesh::{tool, NetRows};
 use std::env;
 use std::fmt::Write;
@@ -32,6 +32,6 @@ fn potentials(mesh: &Printed) -> Result<Vec<f64>, String> {
         cells: &[],
     });
     system
-        .solve(&across(&mesh.nodes))
+        .solve(&across_linked(&mesh.nodes, mesh.links()))
         .map_err(|why| why.to_string())
 }

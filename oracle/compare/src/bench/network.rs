@@ -26,7 +26,7 @@ struct Times {
 }
 
 /// A net with its fractions as bits.
-type Bits = (Vec<Node>, Vec<(usize, usize, u64)>, Vec<([usize; 4], u64)>);
+pub type Bits = (Vec<Node>, Vec<(usize, usize, u64)>, Vec<([usize; 4], u64)>);
 
 /// True if both made the same net at each size.
 pub fn run() -> bool {
@@ -69,7 +69,7 @@ fn time_port(mesh: &Mesh) -> Best<Bits> {
     })
 }
 
-fn empty_rows(room: &NetRoom) -> Rows {
+pub fn empty_rows(room: &NetRoom) -> Rows {
     Rows {
         nodes: vec![Node::default(); room.nodes],
         edges: vec![Edge::default(); room.edges],
@@ -79,14 +79,14 @@ fn empty_rows(room: &NetRoom) -> Rows {
 }
 
 /// The used part of the rows.
-fn net_of_rows(mut rows: Rows, [nodes, edges, cells]: [usize; 3]) -> Net {
+pub fn net_of_rows(mut rows: Rows, [nodes, edges, cells]: [usize; 3]) -> Net {
     rows.nodes.truncate(nodes);
     rows.edges.truncate(edges);
     rows.cells.truncate(cells);
-    Net { nodes: rows.nodes, edges: rows.edges, cells: rows.cells }
+    Net { nodes: rows.nodes, edges: rows.edges, cells: rows.cells, links: 0 }
 }
 
-fn net_bits(net: Net) -> Bits {
+pub fn net_bits(net: Net) -> Bits {
     let (edges, cells) = (edge_bits(&net.edges), cell_bits(&net.cells));
     (net.nodes, edges, cells)
 }
