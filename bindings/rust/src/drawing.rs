@@ -586,18 +586,7 @@ fn put_legend(
             x += entry_width(&words);
         }
     }
-    if !picture.hanging.is_empty() {
-        let words = "node at the middle of a leaf's side";
-        [x, y] = wrapped([x, y], width, words);
-        put_hanging([x + 7.0, y - 4.0], 5.0, text)?;
-        writeln!(
-            text,
-            "<text x=\"{:.0}\" y=\"{y:.0}\">{words}</text>",
-            x + 19.0
-        )?;
-        x += entry_width(words);
-    }
-    [x, y] = put_marks_legend(&picture.marks, [x, y], width, text)?;
+    [x, y] = put_signs_legend(picture, [x, y], width, text)?;
     let mut words = format!("{} leaves", picture.cells.len());
     if picture.marks.links > 0 {
         let _ = write!(words, ", {} links", picture.marks.links);
@@ -607,14 +596,20 @@ fn put_legend(
     Ok(y)
 }
 
-fn put_marks_legend(
-    marks: &Marks,
+fn put_signs_legend(
+    picture: &Picture,
     [mut x, mut y]: [f64; 2],
     width: f64,
     text: &mut String,
 ) -> Result<[f64; 2], fmt::Error> {
     type Swatch = fn([f64; 2], &mut String) -> fmt::Result;
-    let entries: [(bool, &str, Swatch); 3] = [
+    let marks = &picture.marks;
+    let entries: [(bool, &str, Swatch); 4] = [
+        (
+            !picture.hanging.is_empty(),
+            "node at the middle of a leaf's side",
+            |[x, y], text| put_hanging([x + 7.0, y - 4.0], 5.0, text),
+        ),
         (
             !marks.footprints.is_empty(),
             marks::FOOTPRINT,

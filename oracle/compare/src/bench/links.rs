@@ -31,22 +31,23 @@ const MIDDLE: i64 = 40;
 pub fn run() -> bool {
     let mesh = two_layers();
     let leaves = mesh.leaves();
-    let links = links();
-    let table = &mesh.table;
-    let rows = edge_rows(&table.row, table.count, table.max_level, &mesh.polygons(), &links);
-    let exact = rows.expect("they are sound") as usize;
-    let count = exact - NetRoom::for_leaves(leaves).edges;
+    let mesh_rows = NetRoom::for_leaves(leaves).edges;
     let kinds = [
-        ("no links".to_string(), Links::default(), 0),
-        (format!("{count} links, twice the edge rows"), links.clone(), exact),
-        (format!("{count} links, exact edge rows"), links, 0),
+        ("", Links::default(), false),
+        (", twice the edge rows", links(), true),
+        (", exact edge rows", links(), false),
+        (" of one wide via, exact edge rows", wide_via(), false),
     ];
     let mut same = true;
     for (words, links, spare) in kinds {
-        let need = if links.is_empty() { 0 } else { count };
-        let mut room = NetRoom::for_leaves(leaves).with_links(need);
-        room.edges += spare;
-        let name = format!("network of two layers, {leaves} leaves, {words}");
+        let table = &mesh.table;
+        let rows = edge_rows(&table.row, table.count, table.max_level, &mesh.polygons(), &links);
+        let exact = rows.expect("they are sound") as usize;
+        let count = exact - mesh_rows;
+        let mut room = NetRoom::for_leaves(leaves).with_links(count);
+        room.edges += if spare { exact } else { 0 };
+        let many = if count == 0 { "no".to_string() } else { count.to_string() };
+        let name = format!("network of two layers, {leaves} leaves, {many} links{words}");
         same &= compare(&name, time_port(&mesh, &links, &room), time_original(&mesh, &links));
     }
     same
@@ -102,6 +103,18 @@ fn two_layers() -> Mesh {
         (0..POLYGONS).for_each(|_| mesh.push_polygon(layer, component, 1.5));
     }
     mesh
+}
+
+/// A via over three rows of cells: more of them than the port lists while it counts nodes.
+fn wide_via() -> Links {
+    let footprint = Footprint {
+        x: COLUMNS * SIDE / 2,
+        y: ROWS * SIDE / 2,
+        half_width: COLUMNS * SIDE,
+        half_height: 2 * SIDE,
+    };
+    let via = Via { bottom: 1, top: 2, component: 0, footprint, resistance: 0.01 };
+    Links { vias: vec![via], ..Links::default() }
 }
 
 /// Vias of three by three nodes on each layer, spread over what both have of component 0; contacts of bands that
