@@ -25,9 +25,10 @@
  * those.
  *
  * Bands. Where bands of a ring get cells of unequal width, corners of one band's cells stand inside the sides of
- * the other's and no side is cut: the net is wrong there, and no check of the library tells. It can't happen where
- * all ring coordinates are multiples of the base cell and no strip is longer than cap base cells; a strip that is
- * longer gets larger cells than its neighbours. Look for both before a board is built; the Rust crate does.
+ * the other's and no side is cut: the net is wrong there, and leafmesh_check_by_layer names a node that isn't joined.
+ * It is proved that it names none, however the board is split, once it is balanced, where all coordinates of a polygon
+ * are congruent modulo its base cell, no strip is longer than cap base cells (a longer one gets larger cells than its
+ * neighbours), and no two polygons of one layer and component touch.
  */
 #ifndef LEAFMESH_H
 #define LEAFMESH_H
@@ -40,9 +41,9 @@ extern "C" {
 #endif
 
 /* The version of this header and its library; CHANGELOG.md says what changed. */
-#define LEAFMESH_VERSION "0.4.0"
+#define LEAFMESH_VERSION "0.5.0"
 #define LEAFMESH_VERSION_MAJOR 0
-#define LEAFMESH_VERSION_MINOR 4
+#define LEAFMESH_VERSION_MINOR 5
 #define LEAFMESH_VERSION_PATCH 0
 
 /* Ranges. */
@@ -275,7 +276,8 @@ typedef struct {
     uint64_t links;
 } leafmesh_net_outcome;
 
-/* A check: broken is 1 where `node` stands at the middle of the leaf edge from `from` to `to` and lacks a half. */
+/* A check: broken is 1 where `node` stands inside the leaf edge from `from` to `to` and lacks an edge that joins it
+ * along the way: a half, of leafmesh_check_network_conforming. */
 typedef struct {
     uint64_t number;
     uint64_t place;
@@ -378,17 +380,21 @@ leafmesh_outcome leafmesh_power(const leafmesh_node *nodes, size_t nodes_length,
                                 const double *potentials, size_t potentials_length, double *answers,
                                 size_t answers_length);
 
-/* The first leaf edge with a node at its middle that lacks a half; nodes by place alone. It looks at middles only.
- * With enough work room (LEAFMESH_CHECK_WORK_LENGTH; zero afterwards) it takes n log n steps; the room may be
- * empty. Lengths count nodes, edges, cells and numbers of work room. Refuses 7 (a bad table or net). */
+/* The first leaf edge with a node at its middle that lacks a half; nodes by place alone. It looks at middles only, and
+ * names sides of sound nets as soon as layers lie over each other. With enough work room (LEAFMESH_CHECK_WORK_LENGTH;
+ * zero afterwards) it takes n log n steps; the room may be empty. Lengths count nodes, edges, cells and numbers of work
+ * room. Refuses 7 (a bad table or net). */
 leafmesh_check_outcome leafmesh_check_network_conforming(const int64_t *table, size_t table_length, size_t count,
                                                          uint64_t max_level, const leafmesh_node *nodes,
                                                          size_t nodes_length, const leafmesh_edge *edges,
                                                          size_t edges_length, const leafmesh_cell *cells,
                                                          size_t cells_length, uint64_t *work, size_t work_length);
 
-/* The same with nodes of the leaf's own layer and component; layers and components have one entry a polygon.
- * Refuses 7 (as before; a cell of a polygon that isn't there, polygons' rows of unequal length). */
+/* The first node between the ends of a leaf edge that lacks an edge of the net to the point before or after it, and
+ * the leaf edge's ends. The points are the ends and every node between them, of nodes of the leaf's own layer and
+ * component; a leaf edge without a node at both ends is passed over. layers and components have one entry a polygon;
+ * work room as above, with which it takes n log n steps, and log n for each node inside each leaf edge. Refuses 7 (as
+ * before; a cell of a polygon that isn't there, polygons' rows of unequal length). */
 leafmesh_check_outcome leafmesh_check_by_layer(const int64_t *table, size_t table_length, size_t count,
                                                uint64_t max_level, const leafmesh_node *nodes, size_t nodes_length,
                                                const leafmesh_edge *edges, size_t edges_length,

@@ -3,7 +3,8 @@
 #
 #   beside.sh OLD [NEW]    two static libraries of this header; NEW is crates/leafmesh/out/libleafmesh.a if not named
 #
-# OLD may also be one whose network takes no links, from before version 0.4.0.
+# OLD may also be one whose network takes no links, from before version 0.4.0, or whose by-layer check looks at middles
+# alone, from before 0.5.0: where that answers otherwise it is told.
 #
 # The builds are linked in two orders, and the least time of both counts: where the linker places a loop makes up to a
 # fifth of a short call. What takes less than 20 us in both is left out.

@@ -1,7 +1,8 @@
 /* Times of two builds of the library, beside each other: this one, and an earlier one whose names begin with before_.
  *
  * A row is a call on a board: its name, the board's, and the least time that each build took, in microseconds of the
- * processor. The builds take turns, and what they answer and write must be the same, or the program ends with 1.
+ * processor. The builds take turns, and what they answer and write must be the same, or the program ends with 1. Only
+ * of the by-layer check, which looked at middles alone before version 0.5.0, another answer is told and no more.
  * Built and run by ../beside.sh, in two orders of linking. */
 #define _POSIX_C_SOURCE 199309L
 #include "leafmesh.h"
@@ -215,6 +216,14 @@ static void by_layer(const library *l, rows *r)
                     board.polygons, work, LEAFMESH_CHECK_WORK_LENGTH(board.net.nodes, board.net.edges)));
 }
 
+/* The walk without work room. */
+static void by_layer_plain(const library *l, rows *r)
+{
+    SAY(l->by_layer(r->table, sizeof r->table / 8, board.count, board.max_level, r->nodes, board.net.nodes, r->edges,
+                    board.net.edges, r->cells, board.net.cells, board.layers, board.polygons, board.components,
+                    board.polygons, NULL, 0));
+}
+
 static void strips(const library *l, rows *r)
 {
     SAY(l->strips(outline.points, outline.length, r->strips, STRIPS));
@@ -254,6 +263,11 @@ static void take_turns(const char *name, void (*call)(const library *, rows *), 
             if (took < least[b])
                 least[b] = took;
         }
+    int checks = call == by_layer || call == by_layer_plain;
+    if (checks && memcmp(written[0].said, written[1].said, sizeof written->said) != 0) {
+        fprintf(stderr, "beside: %s of %s: the two builds answer otherwise\n", name, board.name);
+        memcpy(written[1].said, written[0].said, sizeof written->said);
+    }
     if (memcmp(&written[0], &written[1], sizeof *written) != 0) {
         fprintf(stderr, "beside: %s of %s: the two builds differ\n", name, board.name);
         exit(1);
@@ -332,6 +346,133 @@ static void neck(void)
     if (o.number == LEAFMESH_ACCEPTED)
         board.count += 4 * o.value;
     time_board();
+}
+
+/* The net of the board as it stands, in the rows of both builds. */
+static void make_net(void)
+{
+    for (int b = 0; b < 2; b++) {
+        memcpy(written[b].table, board.table, sizeof board.table);
+        network(&builds[b], &written[b]);
+    }
+    memcpy(&board.net, written[0].said, sizeof board.net);
+}
+
+static void put_node(int64_t x, int64_t y)
+{
+    leafmesh_node node = {.layer = 0, .component = 0, .x = x, .y = y};
+    for (int b = 0; b < 2; b++)
+        written[b].nodes[board.net.nodes] = node;
+    board.net.nodes++;
+}
+
+static int along_rows(const void *a, const void *b)
+{
+    const leafmesh_node *p = &written[0].nodes[*(const size_t *)a], *q = &written[0].nodes[*(const size_t *)b];
+    return p->y != q->y ? (p->y > q->y) - (p->y < q->y) : (p->x > q->x) - (p->x < q->x);
+}
+
+static int along_columns(const void *a, const void *b)
+{
+    const leafmesh_node *p = &written[0].nodes[*(const size_t *)a], *q = &written[0].nodes[*(const size_t *)b];
+    return p->x != q->x ? (p->x > q->x) - (p->x < q->x) : (p->y > q->y) - (p->y < q->y);
+}
+
+/* Puts an edge between any two neighbours of a row or a column, so that every side of every leaf is joined and the
+ * check goes to the end. */
+static void join_all(void)
+{
+    static size_t order[LEAFMESH_NODES_LENGTH(LEAFMESH_SLOTS)];
+    for (int rows_or_columns = 0; rows_or_columns < 2; rows_or_columns++) {
+        for (size_t n = 0; n < board.net.nodes; n++)
+            order[n] = n;
+        qsort(order, board.net.nodes, sizeof *order, rows_or_columns ? along_columns : along_rows);
+        for (size_t n = 1; n < board.net.nodes; n++) {
+            const leafmesh_node *p = &written[0].nodes[order[n - 1]], *q = &written[0].nodes[order[n]];
+            if (rows_or_columns ? p->x != q->x : p->y != q->y)
+                continue;
+            leafmesh_edge edge = {.from = order[n - 1], .to = order[n], .conductance = 1};
+            for (int b = 0; b < 2; b++)
+                written[b].edges[board.net.edges] = edge;
+            board.net.edges++;
+        }
+    }
+}
+
+static void time_check(int plain)
+{
+    take_turns("by_layer", by_layer, 0);
+    if (plain)
+        take_turns("by_layer, no room", by_layer_plain, 0);
+}
+
+static void box(int64_t x0, int64_t y0, int64_t x1, int64_t y1)
+{
+    int64_t slot[LEAFMESH_SLOT] = {x0, y0, x1, y1, 0, LEAFMESH_NO_CELL, LEAFMESH_NO_CELL, 0};
+    memcpy(board.table + LEAFMESH_SLOT * board.count++, slot, sizeof slot);
+}
+
+/* One root over a row of others, an odd number of them, so that none of their corners is at its middle. */
+static void long_side(const char *name, int roots)
+{
+    begin(name, 1, 0);
+    box(0, CELL, (int64_t)roots * CELL, 2 * CELL);
+    for (int i = 0; i < roots; i++)
+        root((int64_t)i * CELL, 0, CELL, 0);
+    make_net();
+    time_check(roots < 2000);
+}
+
+/* Bands over each other whose roots are two and three cells wide, in turn. */
+static void out_of_step(const char *name, int bands, int wide)
+{
+    begin(name, 1, 0);
+    for (int j = 0; j < bands; j++)
+        for (int i = 0; i < wide; i += 2 + j % 2)
+            box((int64_t)i * CELL, (int64_t)j * CELL, (int64_t)(i + 2 + j % 2) * CELL, (int64_t)(j + 1) * CELL);
+    make_net();
+    join_all();
+    time_check(0);
+}
+
+/* A grid with two nodes between the ends of every side. */
+static void two_between(const char *name, int side)
+{
+    begin(name, 1, 0);
+    grid(side, side, 0, 0);
+    make_net();
+    for (int64_t j = 0; j <= side; j++)
+        for (int64_t i = 0; i <= side; i++)
+            for (int64_t part = 1; part < 3; part++) {
+                if (i < side)
+                    put_node(i * CELL + part * CELL / 3, j * CELL);
+                if (j < side)
+                    put_node(i * CELL, j * CELL + part * CELL / 3);
+            }
+    join_all();
+    time_check(0);
+}
+
+/* The same where many such roots lie at one place, so that every node is between the ends of each. */
+static void many_sides(const char *name, int sides, int roots)
+{
+    begin(name, 1, 0);
+    for (int i = 0; i < sides; i++)
+        box(0, CELL, (int64_t)roots * CELL, 2 * CELL);
+    for (int i = 0; i < roots; i++)
+        root((int64_t)i * CELL, 0, CELL, 0);
+    make_net();
+    time_check(0);
+}
+
+/* The by-layer check where many nodes stand between the ends of sides, and all are joined. */
+static void chains(void)
+{
+    long_side("one side with 9,998 nodes", 9999);
+    long_side("one side with 998 nodes", 999);
+    many_sides("1,000 sides at one place, 998 nodes on them", 1000, 999);
+    out_of_step("100 bands out of step, all joined", 100, 240);
+    two_between("100 by 100 roots, two nodes on each side", 100);
 }
 
 static void boards(void)
@@ -438,6 +579,7 @@ int main(void)
     if (written == NULL)
         return 1;
     boards();
+    chains();
     outlines();
     record("256 rings of 64 points", 4, 256, 64, 0);
     record("64 layers, 256 rings of 4, 100 splits", 64, 256, 4, 100);

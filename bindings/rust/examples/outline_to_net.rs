@@ -7,8 +7,8 @@
 use leafmesh::columns::Y0;
 use leafmesh::solving::{across, System};
 use leafmesh::{
-    balance, build, check_by_layer, leaf_count, leaf_order, network, power, refine, sides, Head,
-    Net, Outlines, Point, Refusal, Settings, SLOT, TICK,
+    balance, build, check_by_layer, leaf_count, leaf_order, network, power, refine, Head, Net,
+    Outlines, Point, Refusal, Settings, SLOT, TICK,
 };
 use std::error::Error;
 use std::io::{stdout, Write};
@@ -55,11 +55,8 @@ fn main() -> Result<(), Box<dyn Error>> {
         net.edges.len()
     )?;
 
-    // The check looks at the middles of sides; that no node stands elsewhere inside one is the outline's doing.
     let found = check_by_layer(&table, head, net.rows(), outlines)?;
-    writeln!(out, "a node without its halves: {found:?}")?;
-    let loose = sides::loose(net.rows());
-    writeln!(out, "a node off a side's middle: {loose:?}")?;
+    writeln!(out, "a node that isn't joined along a side: {found:?}")?;
 
     let system = System::of_cells(net.rows())?;
     let volts = system.solve(&across(&net.nodes))?;

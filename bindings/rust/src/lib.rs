@@ -13,10 +13,10 @@
 //! copper of the layer and where two polygons of a component meet: see docs/CONDUCTANCES.md. [`solving`] shows
 //! how to solve on the cells instead.
 //!
-//! **Where bands of a ring get cells of unequal width the net is wrong**, and no check of the library tells. It can't
-//! happen where all ring coordinates are multiples of the base cell, which a [`Pitch`] sees to, and no strip is longer
-//! than [`Settings::cap`] of them, which it can't see to: [`Mesh`] and the tools look for it with [`sides::loose`] and
-//! refuse such a board ([`Unmeshed`]).
+//! **Where bands of a ring get cells of unequal width the net is wrong**, and [`check_by_layer`] names a node that isn't
+//! joined: [`Mesh`] and the tools refuse such a board ([`Unmeshed`]). It is proved not to happen where all coordinates of
+//! a polygon are multiples of its base cell, which a [`Pitch`] sees to, no strip is longer than [`Settings::cap`] of them,
+//! and no two polygons of one layer and component touch.
 //!
 //! [`Mesh`] holds a table, its polygons and the calls in one; the functions of this page are the library's own.
 //!
@@ -164,7 +164,8 @@ pub struct Outlines<'a> {
     pub points: &'a [Point],
 }
 
-/// A node at the middle of a leaf edge that is not joined to both its ends.
+/// A node inside a leaf edge that isn't joined along it: at the middle, and not to both ends ([`check_network_conforming`]),
+/// or anywhere, and not to the points before and after it ([`check_by_layer`]).
 #[derive(Clone, Copy, Debug, PartialEq, Eq)]
 pub struct Hanging {
     /// The node.
@@ -587,7 +588,9 @@ pub fn check_network_conforming_with(
     refusal::judged_check(outcome)
 }
 
-/// As [`check_network_conforming`], with nodes of the leaf's own layer and component.
+/// The first node between the ends of a leaf edge that lacks an edge to the point before or after it: the points are the
+/// ends and every node between them, of the leaf's own layer and component. It takes its work room as
+/// [`check_network_conforming`] does, n log n steps, and log n for each node inside each leaf edge.
 ///
 /// # Errors
 ///

@@ -1,7 +1,7 @@
 //! A board's mesh and net with rooms of their own: the calls of the crate's root, one after another.
 
 use crate::columns::{FIRST_CHILD, LEVEL, POLYGON, X0, Y1};
-use crate::sides::{loose, Inside};
+use crate::sides::has_side;
 use crate::unmeshed::{refused, Idle, Loose, TooLong, Unmeshed};
 use crate::{
     balance, build, check_by_layer, edge_rows, leaf_count, leaf_order, limits, linked_network,
@@ -171,7 +171,7 @@ impl Mesh {
     /// # Errors
     ///
     /// Those of [`network`](crate::network); [`Unmeshed::TooLong`] or [`Unmeshed::Loose`] where the net would be wrong,
-    /// since [`sides::loose`](crate::sides::loose) finds a node inside a leaf's side.
+    /// since [`Mesh::check`] names a node inside a leaf's side.
     pub fn net(&self) -> Result<Net, Unmeshed> {
         self.linked_net(Links::default())
     }
@@ -183,8 +183,8 @@ impl Mesh {
     /// Those of [`linked_network`] and of [`Mesh::net`]; [`Unmeshed::Idle`] for the first link that joins nothing.
     pub fn linked_net(&self, links: Links) -> Result<Net, Unmeshed> {
         let net = self.unjudged_linked_net(links)?;
-        if let Some(inside) = loose(net.rows()) {
-            return Err(self.why_loose(&net, inside)?);
+        if let Some(hanging) = self.check(net.rows())? {
+            return Err(self.why_loose(&net, hanging));
         }
         let edges = self.edges_of_links(links)?;
         match links.each().zip(edges).find(|&(_, edges)| edges == 0) {
@@ -224,8 +224,8 @@ impl Mesh {
         links.each().map(count).collect()
     }
 
-    /// The first node at the middle of a leaf's side that lacks a half, among nodes of the leaf's own layer and
-    /// component, of this mesh's net.
+    /// The first node between the ends of a leaf's side that lacks an edge to the point before or after it, among nodes
+    /// of the leaf's own layer and component, of this mesh's net.
     ///
     /// # Errors
     ///
@@ -234,28 +234,30 @@ impl Mesh {
         check_by_layer(&self.table, self.head, net, self.polygons.outlines())
     }
 
-    /// Why a node stands inside a side: a strip of the same copper that is too long, or the place itself.
-    fn why_loose(&self, net: &Net, inside: Inside) -> Result<Unmeshed, Refusal> {
-        let leaf = self.order()?[inside.cell];
-        let polygon = self.polygon(leaf);
-        let copper = |polygon: usize| {
-            (
-                self.polygons.layers[polygon],
-                self.polygons.components[polygon],
-            )
+    /// Why a node inside a side isn't joined along it: a strip of the same copper that is too long, or the place itself.
+    fn why_loose(&self, net: &Net, hanging: Hanging) -> Unmeshed {
+        let Hanging { node, from, to } = hanging;
+        let (on, rows) = (net.nodes[node], &self.polygons);
+        let same = |polygon: usize| {
+            (rows.layers[polygon], rows.components[polygon]) == (on.layer, on.component)
         };
-        let same = |other: usize| copper(other) == copper(polygon);
-        let outlines = self.polygons.outlines();
+        let outlines = rows.outlines();
         if let Some(long) = TooLong::first(self.settings, &self.list, outlines, same) {
-            return Ok(Unmeshed::TooLong(long));
+            return Unmeshed::TooLong(long);
         }
         let place = |node: usize| [net.nodes[node].x, net.nodes[node].y];
-        Ok(Unmeshed::Loose(Loose {
-            polygon,
+        let side = [from, to].map(place);
+        // The check goes by id, so that the first leaf with this side is the one that it stopped at.
+        let is_it =
+            |id: usize| self.is_leaf(id) && same(self.polygon(id)) && has_side(self.rect(id), side);
+        let leaf = (0..self.head.count).find(|&id| is_it(id));
+        let leaf = leaf.expect("the check names a side of a leaf");
+        Unmeshed::Loose(Loose {
+            polygon: self.polygon(leaf),
             leaf,
-            place: place(inside.node),
-            side: inside.ends.map(place),
-        }))
+            place: place(node),
+            side,
+        })
     }
 
     /// The eight numbers of a cell; [`columns`](crate::columns) names them.

@@ -1,8 +1,9 @@
 //! What leafnet prints, read back: every line, and that all of them are there.
 
-use crate::sides::{inside, Inside};
+use crate::sides::{corners_of, has_side};
 use crate::{
-    Board, Cell, Edge, Mesh, Net, NetRows, Node, Point, Rect, Unmeshed, COORDINATE, MAX_LEVEL,
+    check_by_layer, Board, Edge, Hanging, Head, Mesh, Net, NetRows, Node, Outlines, Rect, Refusal,
+    Unmeshed, COORDINATE, MAX_LEVEL, NO_CELL,
 };
 use std::collections::{BTreeMap, BTreeSet};
 use std::fmt::Write;
@@ -212,18 +213,17 @@ pub fn show_mesh(board: &Board, mesh: &Mesh, net: &Net) -> Result<String, Unmesh
     Ok(text)
 }
 
-/// A node inside a leaf's side and not at its middle, and the leaf's id: the net is wrong there. The text doesn't say
-/// of what layer and component a polygon is; it is taken to be one that has all corners of its leaves, and where
-/// several have, each must have such a node.
-pub fn loose(printed: &Printed) -> Option<(usize, Inside)> {
-    let numbers: BTreeMap<Node, usize> = printed
-        .nodes
-        .iter()
-        .enumerate()
-        .map(|(number, &node)| (node, number))
-        .collect();
-    let coppers: BTreeSet<(u16, u32)> = printed
-        .nodes
+/// The first node that [`check_by_layer`] names, by polygon, and the leaf's id: the net is wrong there. The text has no
+/// table, so every leaf stands as a base cell in one of its polygon's own; and it doesn't say of what layer and component
+/// a polygon is, which is taken to be one that has all corners of its leaves. Where several have, each must have such a
+/// node.
+///
+/// # Errors
+///
+/// Those of [`check_by_layer`], of a text that leafnet never prints.
+pub fn loose(printed: &Printed) -> Result<Option<(usize, Hanging)>, Refusal> {
+    let nodes: BTreeSet<Node> = printed.nodes.iter().copied().collect();
+    let coppers: BTreeSet<(u16, u32)> = nodes
         .iter()
         .map(|node| (node.layer, node.component))
         .collect();
@@ -232,65 +232,79 @@ pub fn loose(printed: &Printed) -> Option<(usize, Inside)> {
         polygons.entry(leaf.polygon).or_default().push(leaf);
     }
     for leaves in polygons.values() {
-        let cell_in = |rect: Rect, layer: u16, component: u32| -> Option<Cell> {
-            let mut corners = [0; 4];
-            for (corner, [x, y]) in corners.iter_mut().zip(corners_of(rect)) {
-                *corner = *numbers.get(&Node {
+        let corners = leaves.iter().flat_map(|leaf| corners_of(leaf.rect));
+        let is_of = |&&(layer, component): &&(u16, u32)| {
+            corners.clone().all(|[x, y]| {
+                nodes.contains(&Node {
                     layer,
                     component,
                     x,
                     y,
-                })?;
-            }
-            Some(Cell {
-                corners,
-                sheet: 1.0,
+                })
             })
         };
-        let cells_in = |&(layer, component): &(u16, u32)| -> Option<Vec<Cell>> {
-            leaves
-                .iter()
-                .map(|leaf| cell_in(leaf.rect, layer, component))
-                .collect()
-        };
-        let first_loose = |cells: Vec<Cell>| {
-            let net = NetRows {
-                nodes: &printed.nodes,
-                edges: &[],
-                cells: &cells,
-            };
-            inside(net).into_iter().find(|one| !one.middle)
-        };
-        let found: Option<Vec<Inside>> = coppers
+        let found: Result<Vec<_>, Refusal> = coppers
             .iter()
-            .filter_map(cells_in)
-            .map(first_loose)
+            .filter(is_of)
+            .map(|&copper| named(printed, leaves, copper))
             .collect();
-        if let Some(&one) = found.as_ref().and_then(|all| all.first()) {
-            return Some((leaves[one.cell].id, one));
+        let all: Option<Vec<_>> = found?.into_iter().collect();
+        if let Some(&one) = all.as_ref().and_then(|all| all.first()) {
+            return Ok(Some(one));
         }
     }
-    None
+    Ok(None)
 }
 
-/// SW, SE, NE, NW.
-fn corners_of([x0, y0, x1, y1]: Rect) -> [Point; 4] {
-    [[x0, y0], [x1, y0], [x1, y1], [x0, y1]]
+/// What the check names of the leaves of one polygon, if it is of that layer and component.
+fn named(
+    printed: &Printed,
+    leaves: &[&Leaf],
+    (layer, component): (u16, u32),
+) -> Result<Option<(usize, Hanging)>, Refusal> {
+    let root = |leaf: &&Leaf| {
+        let [x0, y0, x1, y1] = leaf.rect;
+        [x0, y0, x1, y1, 0, NO_CELL, NO_CELL, 0]
+    };
+    let table: Vec<i64> = leaves.iter().flat_map(root).collect();
+    let head = Head {
+        count: leaves.len(),
+        max_level: 0,
+    };
+    let net = NetRows {
+        nodes: &printed.nodes,
+        edges: &printed.edges,
+        cells: &[],
+    };
+    let outlines = Outlines {
+        layers: &[layer],
+        components: &[component],
+        sheets: &[],
+        counts: &[],
+        points: &[],
+    };
+    let Some(hanging) = check_by_layer(&table, head, net, outlines)? else {
+        return Ok(None);
+    };
+    let place = |node: usize| [printed.nodes[node].x, printed.nodes[node].y];
+    let side = [hanging.from, hanging.to].map(place);
+    let leaf = leaves.iter().find(|leaf| has_side(leaf.rect, side));
+    Ok(leaf.map(|leaf| (leaf.id, hanging)))
 }
 
 /// The text of a net that can be used.
 ///
 /// # Errors
 ///
-/// In words: those of [`read`], and the first that [`loose`] finds.
+/// In words: those of [`read`] and [`loose`], and the first node that [`loose`] finds.
 pub fn read_sound(text: &str) -> Result<Printed, String> {
     let printed = read(text)?;
-    match loose(&printed) {
+    match loose(&printed).map_err(|why| format!("not leafnet's text: {why}"))? {
         None => Ok(printed),
-        Some((leaf, Inside { node, ends, .. })) => Err(format!(
-            "node {node} stands inside a side of leaf {leaf}, between nodes {} and {}, and not at its middle: the net \
-             is wrong there. Make all coordinates multiples of the base cell, and no strip longer than cap base cells",
-            ends[0], ends[1]
+        Some((leaf, Hanging { node, from, to })) => Err(format!(
+            "node {node} stands inside a side of leaf {leaf}, between nodes {from} and {to}, and isn't joined along \
+             it: the net is wrong there. Make all coordinates multiples of the base cell, and no strip longer than cap \
+             base cells"
         )),
     }
 }

@@ -1,6 +1,6 @@
-//! Nodes inside the sides of a net's cells: those that hang, and those that don't belong there.
+//! Nodes inside the sides of a net's cells: those that hang, and those off the middle.
 
-use crate::{NetRows, Node};
+use crate::{NetRows, Node, Point, Rect};
 use std::collections::BTreeMap;
 
 /// A node of a cell's own layer and component that stands inside one of its sides and is no end of it.
@@ -13,7 +13,8 @@ pub struct Inside {
     /// The side's ends, anticlockwise round the cell.
     pub ends: [usize; 2],
     /// Whether it stands at the middle. Where it doesn't, bands of unequal cells meet, or a finer
-    /// polygon touches: no side is cut there, and no check of the library looks at it.
+    /// polygon touches: no side is cut there, and [`check_by_layer`](crate::check_by_layer) tells whether
+    /// it is joined along the side all the same.
     pub middle: bool,
 }
 
@@ -82,9 +83,13 @@ pub fn hanging(net: NetRows) -> Vec<usize> {
     found
 }
 
-/// The first node inside a side that isn't at its middle: none on a balanced board of one polygon whose coordinates are
-/// multiples of its base cell and whose strips are no longer than [`Settings::cap`](crate::Settings) base cells.
-/// [`Mesh::net`](crate::Mesh::net) refuses a net that has one.
-pub fn loose(net: NetRows) -> Option<Inside> {
-    inside(net).into_iter().find(|one| !one.middle)
+/// SW, SE, NE, NW.
+pub(crate) fn corners_of([x0, y0, x1, y1]: Rect) -> [Point; 4] {
+    [[x0, y0], [x1, y0], [x1, y1], [x0, y1]]
+}
+
+/// Whether a rectangle has a side from one place to another, anticlockwise.
+pub(crate) fn has_side(rect: Rect, ends: [Point; 2]) -> bool {
+    let corners = corners_of(rect);
+    (0..4).any(|side| [corners[side], corners[(side + 1) % 4]] == ends)
 }

@@ -447,8 +447,8 @@ impl Lines {
                 let [node, from, to] =
                     [loose.place, loose.side[0], loose.side[1]].map(|place| self.place(place));
                 format!(
-                    "line {line}: a node at {node} stands inside a leaf's side, from {from} to {to}, and not at its \
-                     middle: make all coordinates multiples of the base cell, and draw copper once"
+                    "line {line}: a node at {node} stands inside a leaf's side, from {from} to {to}, and isn't joined \
+                     along it: make all coordinates multiples of the base cell, and draw copper once"
                 )
             }
             Unmeshed::Idle(idle) => format!("line {}: {}", self.link(idle.link), idle.words()),

@@ -12,7 +12,7 @@ pub enum Unmeshed {
     Refused(Refusal),
     /// A strip would need more base cells than it may have: its cells get larger than those of its neighbours.
     TooLong(TooLong),
-    /// A node stands inside a leaf's side and not at its middle, where no side is cut: the net would be wrong there.
+    /// A node stands inside a leaf's side and isn't joined along it: the net would be wrong there.
     Loose(Loose),
     /// A link joins nothing: the library passes it over.
     Idle(Idle),
@@ -42,7 +42,8 @@ pub struct TooLong {
     pub cell: u64,
 }
 
-/// A node inside the side of a leaf, at neither its middle nor its ends.
+/// A node between the ends of a leaf's side that lacks an edge to the point before or after it, as
+/// [`Mesh::check`](crate::Mesh::check) names it.
 #[derive(Clone, Copy, Debug, PartialEq, Eq)]
 pub struct Loose {
     /// That of the leaf.
@@ -113,8 +114,8 @@ impl fmt::Display for Loose {
         let ([x, y], [[ax, ay], [bx, by]]) = (self.place, self.side);
         write!(
             f,
-            "polygon {}: a node at ({x}, {y}) stands inside a leaf's side from ({ax}, {ay}) to ({bx}, {by}) and not at \
-             its middle: balance the mesh, and make all coordinates multiples of the base cell",
+            "polygon {}: a node at ({x}, {y}) stands inside a leaf's side from ({ax}, {ay}) to ({bx}, {by}) and isn't \
+             joined along it: make all coordinates multiples of the base cell, and draw copper once",
             self.polygon
         )
     }

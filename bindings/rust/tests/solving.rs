@@ -1,5 +1,6 @@
 //! The worked solver: on boards with a known resistance, and where cells don't fit together.
 
+use leafmesh::sides::Inside;
 use leafmesh::solving::{across, across_linked, System};
 use leafmesh::{sides, text, Edge, Mesh, Net};
 
@@ -12,6 +13,12 @@ fn net_of(board: &str) -> Net {
 fn ohms(system: &System, net: &Net) -> f64 {
     let volts = system.solve(&across(&net.nodes)).expect("a solution");
     1.0 / system.watts(&volts)
+}
+
+/// The first node inside a side that isn't at its middle.
+fn off_middle(net: &Net) -> Option<Inside> {
+    let all = sides::inside(net.rows());
+    all.into_iter().find(|one| !one.middle)
 }
 
 /// 8 by 16 at one ohm a square, the lower root split.
@@ -46,12 +53,12 @@ fn an_even_current_has_an_even_slope() {
 #[test]
 fn bands_that_do_not_meet_are_no_elements() {
     let net = net_of("level 0\ntarget 6\npolygon 1 0 1\n0 0\n6 0\n6 2\n8 2\n8 4\n0 4\n");
-    let loose = sides::loose(net.rows()).expect("a node inside a side");
+    let loose = off_middle(&net).expect("a node inside a side");
     let why = System::of_cells(net.rows()).expect_err("no fit");
     assert_eq!(why.node, loose.node);
     let node = net.nodes[loose.node];
     assert_eq!([node.x, node.y], [4, 2]);
-    assert_eq!(sides::loose(net_of(STRIP).rows()), None);
+    assert_eq!(off_middle(&net_of(STRIP)), None);
 }
 
 /// Two strips one above the other on layers 1 and 2, each one square long twice, joined where one ends and the other

@@ -370,13 +370,33 @@ fn a_strip_that_is_too_long_is_told_by_its_line() {
     }
 }
 
+/// A ring of docs/RULES.md, "The checks", as a board.
+fn in_bands(target: u64, points: &str) -> String {
+    format!("level 0\ntarget {target}\npolygon 1 0 1\n{points}\n")
+}
+
 /// Bands of unequal cells, though no strip is too long; and a finer polygon beside another one.
 #[test]
 fn bands_that_do_not_meet_are_told_by_their_polygon() {
-    let bands = "level 0\ntarget 6\npolygon 1 0 1\n0 0\n6 0\n6 2\n8 2\n8 4\n0 4\n";
-    let so = "stands inside a leaf's side, from (6, 2) to (0, 2), and not at its middle: make all coordinates \
-              multiples of the base cell, and draw copper once";
-    refused_by_all(bands, &format!("line 3: a node at (4, 2) {so}"));
+    let bands = &in_bands(6, "0 0\n6 0\n6 2\n4 2\n4 4\n0 4");
+    let so = |from: &str| {
+        format!(
+            "stands inside a leaf's side, from {from} to (0, 2), and isn't joined along it: make all coordinates \
+             multiples of the base cell, and draw copper once"
+        )
+    };
+    refused_by_all(bands, &format!("line 3: a node at (4, 2) {}", so("(6, 2)")));
+    let first = in_bands(12, "0 0\n12 0\n12 2\n8 2\n8 4\n4 4\n4 2\n0 2");
+    refused_by_all(
+        &first,
+        &format!("line 3: a node at (8, 2) {}", so("(12, 2)")),
+    );
+    // Here the upper cells' edges join the nodes along the lower cell's side.
+    let joined = in_bands(6, "0 0\n6 0\n6 2\n8 2\n8 4\n0 4");
+    let printed = made(BOARD, &["net"], joined.as_bytes());
+    for tool in [DRAW, RELAX] {
+        made(tool, &[], &printed);
+    }
     let text = text::parse(bands).expect("a board");
     let mesh = Mesh::unjudged(&text).expect("a mesh");
     let made = mesh.unjudged_net().expect("a net");
@@ -384,7 +404,7 @@ fn bands_that_do_not_meet_are_told_by_their_polygon() {
     for tool in [DRAW, RELAX] {
         let said = refused(tool, &[], printed.as_bytes());
         assert!(
-            said.starts_with("node 4 stands inside a side of leaf 0, between nodes 2 and 3, and not at its middle"),
+            said.starts_with("node 4 stands inside a side of leaf 0, between nodes 2 and 3, and isn't joined along it"),
             "{said}"
         );
     }

@@ -1,5 +1,6 @@
 //! Boards and meshes whose net would be wrong, by the crate's own calls.
 
+use leafmesh::solving::System;
 use leafmesh::{text, Loose, Mesh, Polygons, Reason, Settings, TooLong, Unmeshed};
 
 const SETTINGS: Settings = Settings {
@@ -77,17 +78,20 @@ fn the_strip_is_one_of_the_same_copper() {
     assert!(mesh.net().is_ok());
 }
 
+/// Every node is joined along the coarse leaf's side; but its cells are no elements.
 #[test]
-fn leaves_two_levels_apart_have_no_net() {
+fn leaves_two_levels_apart_have_a_net_and_no_elements() {
     let mut mesh = Mesh::new(SETTINGS, &[], two_strips(32)).expect("even cells");
     mesh.refine(0).expect("a leaf");
     mesh.refine(7).expect("its south-eastern quarter");
-    let loose = mesh.net().expect_err("two levels apart");
-    assert!(loose.to_string().contains("balance the mesh"), "{loose}");
+    let net = mesh.net().expect("joined sides");
+    let why = System::of_cells(net.rows()).expect_err("no fit");
+    assert!(why.to_string().contains("balance the table"), "{why}");
     mesh.balance().expect("room");
     let net = mesh.net().expect("balanced");
     assert_eq!(mesh.check(net.rows()), Ok(None));
-    // No edge at all: the first node at a middle is named.
+    assert!(System::of_cells(net.rows()).is_ok());
+    // No edge at all: the first node inside a side is named.
     let without = leafmesh::NetRows {
         edges: &[],
         ..net.rows()

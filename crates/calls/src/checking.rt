@@ -112,3 +112,37 @@ fn a_refused_call_leaves_the_room(rt: HostRuntime) {
     );
     assert_eq!(rt; work, [7; ROOM]);
 }
+
+// Its corners, and a fifth node of its own component a quarter of the way along its south side.
+fn quarter() -> [Node; 5] {
+    [
+        node(0, 0, 0),
+        node(0, 8, 0),
+        node(0, 8, 8),
+        node(0, 0, 8),
+        node(0, 2, 0),
+    ]
+}
+
+#[test]
+fn a_node_off_the_middle_is_named_by_layer_alone(rt: HostRuntime) {
+    let loose = Hanging {
+        node: 4,
+        start: 0,
+        end: 1,
+    };
+    let mut work = [7; ROOM];
+    assert_eq!(rt;
+        check_by_layer(&LEAF, HEAD, &rows(&quarter()), &POLYGONS, &mut []),
+        Ok(Some(loose))
+    );
+    assert_eq!(rt;
+        check_by_layer(&LEAF, HEAD, &rows(&quarter()), &POLYGONS, &mut work),
+        Ok(Some(loose))
+    );
+    assert_eq!(rt; work, [0; ROOM]);
+    assert_eq!(rt;
+        check_network_conforming(&LEAF, HEAD, &rows(&quarter()), &mut []),
+        Ok(None)
+    );
+}

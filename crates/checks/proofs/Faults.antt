@@ -1,12 +1,11 @@
 -- Laws of the first fault, and of the polygons' test. Assumes nothing.
-use Rattle.std.proofs.Common.{ℕ, zero, suc, ◌<◌, ◌≡◌, refl, ap, ◌∙◌, true, false, arith, List, [], ◌∷◌, ◌++◌, length, take, get_or, slice_get, Option, None, Some, ltb, ℤ, sym}
+use Rattle.std.proofs.Common.{ℕ, zero, suc, ◌<◌, ◌≡◌, refl, ap, ◌∙◌, true, arith, List, [], ◌∷◌, ◌++◌, length, take, get_or, slice_get, Option, None, Some, ltb, ℤ, sym}
 use Rattle.std.specs.List.{filter_map, range_with_len}
-use Rattle.std.specs.Option.{is_some}
 use Rattle.std.proofs.lemmas.List.Elements.{All-filter, All-from_get_or, filter_map-append}
 use Rattle.std.proofs.lemmas.List.FromFn.{get_or-range_with_len, length-range_with_len}
 use Rattle.table.specs.declared.Head.{Head}
 use Rattle.table.specs.Rows.{cells_in, leaves_in}
-use Rattle.std.proofs.lemmas.Bool.{true≢false, and_parts, eqb-true, ltb-true}
+use Rattle.std.proofs.lemmas.Bool.{and_parts, eqb-true, ltb-true}
 use Rattle.std.proofs.lemmas.List.Sums.{AllPass-from_list_all}
 use Rattle.cell.proofs.Offsets.{off-le}
 use Rattle.table.specs.Slots.{cell_at}
@@ -26,23 +25,13 @@ module _ {X Y : Type 0} (f : X → Option Y) where
       by None p rest = rw p (rest p)
       by (Some z) p rest = absurd (let q = rw p at e in cc)
 
-  none_more : (xs : List X) (x : X) → filter_map f xs ≡ [] → f x ≡ None → filter_map f (xs ++ x ∷ []) ≡ []
+  -- xs gave none; what comes next gives none either
+  pub none_more : (xs : List X) (x : X) → filter_map f xs ≡ [] → f x ≡ None → filter_map f (xs ++ x ∷ []) ≡ []
   none_more xs x e g = filter_map-append f xs (x ∷ []) ∙ rw (e, g) refl
 
-  -- ys in front of xs gave none; what comes next gives none either, or the first
-  pub passed_by : (ys : List X) (x : X) → filter_map f ys ≡ [] → is_some (f x) ≡ false → filter_map f (ys ++ x ∷ []) ≡ []
-  passed_by ys x e n = none_more ys x e (by (f x) n)
-    where
-      by : (o : Option Y) → is_some o ≡ false → o ≡ None
-      by None n = refl
-      by (Some y) n = absurd (true≢false n)
-
-  pub found_at : (xs ys : List X) (x : X) → ys ≡ take (length ys) xs → length ys < length xs → x ≡ get_or xs (length ys) x → filter_map f ys ≡ [] → is_some (f x) ≡ true → f x ≡ slice_get (filter_map f xs) 0
-  found_at xs ys x s h e n t = by (f x) refl t
-    where
-      by : (o : Option Y) → f x ≡ o → is_some o ≡ true → f x ≡ slice_get (filter_map f xs) 0
-      by None p t = absurd (true≢false (sym t))
-      by (Some y) p t = p ∙ sym (first_found xs (length ys) x y h (ap (filter_map f) (sym s) ∙ n) (ap f (sym e) ∙ p))
+  -- ys in front of xs gave none; what comes next gives the first
+  pub found_at : (xs ys : List X) (x : X) (y : Y) → ys ≡ take (length ys) xs → length ys < length xs → x ≡ get_or xs (length ys) x → filter_map f ys ≡ [] → f x ≡ Some y → Some y ≡ slice_get (filter_map f xs) 0
+  found_at xs ys x y s h e n p = sym (first_found xs (length ys) x y h (ap (filter_map f) (sym s) ∙ n) (ap f (sym e) ∙ p))
 
 -- the ids of leaves are ids of cells
 pub leaf-inside : (t : List ℤ) (head : Head) (k d : ℕ) → k < length (leaves_in t head) → get_or (leaves_in t head) k d < head.count

@@ -1,7 +1,8 @@
--- The rules' `check_network_conforming` and by-layer check. A fault is none, or a node and the two ends of the edge that it hangs on.
-use Rattle.std.specs.Prelude.{ℕ, ◌&&◌, if◌then◌else◌, List, [], ◌∷◌, slice_index, slice_get, ℤ, Option, None, Some, Result}
+-- The rules' `check_network_conforming` and by-layer check. A fault is none, or a node and the two ends of the edge
+-- that it stands inside.
+use Rattle.std.specs.Prelude.{ℕ, ◌&&◌, if◌then◌else◌, List, [], ◌∷◌, slice_index, slice_index_or, slice_get, ℤ, Option, None, Some, Result}
 use Rattle.std.specs.List.{filter_map}
-use Rattle.std.specs.Option.{option_or}
+use Rattle.std.specs.Option.{option_map}
 use Rattle.refusals.specs.declared.Refusal.{Refusal}
 use Rattle.refusals.specs.declared.Refusal.TheVariants.{BadTable}
 use Rattle.refusals.specs.Said.{Said, accepted, refusal, said}
@@ -19,25 +20,54 @@ use Rattle.checks.specs.declared.asked.Class.{Class}
 use Rattle.checks.specs.declared.asked.Class.TheVariants.{Any, Of}
 use Rattle.checks.specs.declared.asked.Side.{Side}
 use Rattle.checks.specs.declared.asked.Hanging.{Hanging}
-use Rattle.checks.specs.Nodes.{node_at, joined}
-use Rattle.checks.specs.Sides.{south, east, north, west}
+use Rattle.checks.specs.Nodes.{node_at, nodes_between, joined}
+use Rattle.checks.specs.Sides.{sides_of}
 
--- "An edge without a node at both ends and at its middle is passed over"; one whose midpoint node lacks a half is a fault
+-- ---- by place: the middle of a side
+
+-- "An edge without a node at both ends and at its middle is passed over"; one whose midpoint node lacks a half is a
+-- fault
 unfoldable pub fault : List Edge → Option ℕ → Option ℕ → Option ℕ → Option Hanging
 fault edges None a b = None
 fault edges (Some m) None b = None
 fault edges (Some m) (Some a) None = None
-fault edges (Some m) (Some a) (Some b) = if joined edges a m && joined edges m b then None else Some (record { node = m; start = a; end = b })
+fault edges (Some m) (Some a) (Some b) =
+    if joined edges a m && joined edges m b then None else Some (record { node = m; start = a; end = b })
 
+unfoldable pub middle_fault : List Node → List Edge → Class → Side → Option Hanging
+middle_fault nodes edges class s =
+    fault edges (node_at nodes class s.middle) (node_at nodes class s.start) (node_at nodes class s.end)
+
+-- ---- by layer: every node between the ends of a side
+
+-- the first of the nodes that lacks an edge to the point before or after it: the points are `before`, the nodes, `end`
+unfoldable pub first_unjoined : List Edge → ℕ → List ℕ → ℕ → Option ℕ
+first_unjoined edges before [] end = None
+first_unjoined edges before (n ∷ rest) end =
+    if joined edges before n && joined edges n (slice_index_or rest 0 end) then first_unjoined edges n rest end else Some n
+
+-- a side without a node at both ends is passed over
+unfoldable pub chain : List Edge → List ℕ → Option ℕ → Option ℕ → Option Hanging
+chain edges between None b = None
+chain edges between (Some a) None = None
+chain edges between (Some a) (Some b) =
+    option_map (λ n. record { node = n; start = a; end = b }) (first_unjoined edges a between b)
+
+unfoldable pub chain_fault : List Node → List Edge → Class → Side → Option Hanging
+chain_fault nodes edges class s =
+    chain edges (nodes_between nodes class s.start s.end) (node_at nodes class s.start) (node_at nodes class s.end)
+
+-- ---- the first fault
+
+-- the check by place asks for the middle alone; the by-layer check, which asks for nodes of a layer and component,
+-- for all
 unfoldable pub side_fault : List Node → List Edge → Class → Side → Option Hanging
-side_fault nodes edges class s = fault edges (node_at nodes class s.middle) (node_at nodes class s.start) (node_at nodes class s.end)
+side_fault nodes edges Any s = middle_fault nodes edges Any s
+side_fault nodes edges (Of layer component) s = chain_fault nodes edges (Of layer component) s
 
 -- the four edges of a leaf, anticlockwise: south, east, north, west
 unfoldable pub leaf_fault : List Node → List Edge → Class → Cell → Option Hanging
-leaf_fault nodes edges class c =
-    option_or (side_fault nodes edges class (south c))
-    (option_or (side_fault nodes edges class (east c))
-    (option_or (side_fault nodes edges class (north c)) (side_fault nodes edges class (west c))))
+leaf_fault nodes edges class c = slice_get (filter_map (side_fault nodes edges class) (sides_of c)) 0
 
 -- the first fault of a table's leaves, by id, each held against the nodes of its polygon's class
 unfoldable pub fault_by : (ℕ → Class) → List ℤ → Head → List Node → List Edge → Option Hanging

@@ -2,7 +2,7 @@
 ghost use Rattle.std.specs.Prelude.{◌≡◌};
 
 use cell::Cell;
-use net_rows::Polygons;
+use net_rows::{Axis, Polygons};
 
 /// A place, its coordinates moved up as a cell's are.
 #[derive(Clone, Copy, Debug, PartialEq, Eq)]
@@ -11,15 +11,17 @@ pub struct Place {
     pub y: u64,
 }
 
-/// An edge of a leaf: its ends and its middle.
+/// An edge of a leaf: the axis of its line, its ends and its middle.
 #[derive(Clone, Copy, Debug, PartialEq, Eq)]
 pub struct Side {
+    pub axis: Axis,
     pub start: Place,
     pub middle: Place,
     pub end: Place,
 }
 
-/// A node at the middle of a leaf edge that lacks a half, and the two ends of the edge, walked anticlockwise.
+/// A node inside a leaf edge, and the two ends of the edge, walked anticlockwise. It lacks an edge to a point beside
+/// it: by place it is the middle, and lacks a half; by layer it is the first such node on the way.
 #[derive(Clone, Copy, Debug, PartialEq, Eq)]
 pub struct Hanging {
     pub node: usize,
@@ -41,46 +43,81 @@ pub enum Scope<'a> {
     ByLayer(Polygons<'a>),
 }
 
+impl Place {
+    ghost use Rattle.checks.specs.Entries.{facing};
+
+    /// The place as it stands on the lines of an axis, and back: x is the line, y how far along it.
+    #[inline(always)]
+    pub fn facing(self, axis: Axis) -> Place
+        ensures { result ≡ facing axis self }
+    {
+        match axis {
+            Axis::Column => self,
+            Axis::Row => Place {
+                x: self.y,
+                y: self.x,
+            },
+        }
+    }
+}
+
 // The four sides of a leaf, each walked anticlockwise.
 impl Side {
     ghost use Rattle.checks.specs.Sides.{between, south, east, north, west};
 
-    fn between(start: Place, end: Place) -> Side
-        ensures { result ≡ between start end }
+    fn between(axis: Axis, start: Place, end: Place) -> Side
+        ensures { result ≡ between axis start end }
     {
         let middle = Place {
             x: start.x.midpoint(end.x),
             y: start.y.midpoint(end.y),
         };
-        Side { start, middle, end }
+        Side {
+            axis,
+            start,
+            middle,
+            end,
+        }
     }
 
-    #[tactic(auto, using(crate::proofs::Middles::south_between))]
     pub fn south(c: Cell) -> Side
         ensures { result ≡ south c }
     {
-        Side::between(Place { x: c.x0, y: c.y0 }, Place { x: c.x1, y: c.y0 })
+        Side::between(
+            Axis::Row,
+            Place { x: c.x0, y: c.y0 },
+            Place { x: c.x1, y: c.y0 },
+        )
     }
 
-    #[tactic(auto, using(crate::proofs::Middles::east_between))]
     pub fn east(c: Cell) -> Side
         ensures { result ≡ east c }
     {
-        Side::between(Place { x: c.x1, y: c.y0 }, Place { x: c.x1, y: c.y1 })
+        Side::between(
+            Axis::Column,
+            Place { x: c.x1, y: c.y0 },
+            Place { x: c.x1, y: c.y1 },
+        )
     }
 
-    #[tactic(auto, using(crate::proofs::Middles::north_between))]
     pub fn north(c: Cell) -> Side
         ensures { result ≡ north c }
     {
-        Side::between(Place { x: c.x1, y: c.y1 }, Place { x: c.x0, y: c.y1 })
+        Side::between(
+            Axis::Row,
+            Place { x: c.x1, y: c.y1 },
+            Place { x: c.x0, y: c.y1 },
+        )
     }
 
-    #[tactic(auto, using(crate::proofs::Middles::west_between))]
     pub fn west(c: Cell) -> Side
         ensures { result ≡ west c }
     {
-        Side::between(Place { x: c.x0, y: c.y1 }, Place { x: c.x0, y: c.y0 })
+        Side::between(
+            Axis::Column,
+            Place { x: c.x0, y: c.y1 },
+            Place { x: c.x0, y: c.y0 },
+        )
     }
 }
 

@@ -1,5 +1,5 @@
-//! Whether a net has both halves of every leaf edge with a node at its middle: check_network_conforming of the Rust,
-//! and the same by layer.
+//! Whether a net joins the nodes that stand on a leaf's edge: check_network_conforming of the Rust, which looks at the
+//! middle of each edge, and the check by layer, which looks at every node between its ends.
 //!
 //! There is one walk over the leaves (`walk`). It asks for nodes by their place and for edges by their ends, and how
 //! these are found is a `Lookup`: the net as it stands, or, where the caller lends room for it, an `Index` of it.
@@ -15,6 +15,7 @@ pub mod index;
 pub mod laws;
 pub mod lookup;
 pub mod room;
+pub mod side;
 pub mod walk;
 
 pub use asked::Hanging;

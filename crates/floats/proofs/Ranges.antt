@@ -31,7 +31,7 @@ mul_in {lo} {hi} {x} {lo'} {hi'} {y} f p q p' q' i j =
     let b = in-positive p' q' j in
     record { from = lib.Ieee.Positive.mul_mono f lo x lo' y p a p' b i.from j.from; to = lib.Ieee.Positive.mul_mono f x hi y hi' a q b q' i.to j.to }
 
-div_is : (f : Format) (x y : Float) → T (positive x) → T (positive y) → div f x y ≡ round f false (num x * den y) (num y * den x)
+pub div_is : (f : Format) (x y : Float) → T (positive x) → T (positive y) → div f x y ≡ round f false (num x * den y) (num y * den x)
 unfolding div
 div_is f nan y p q = absurd p
 div_is f (inf s) y p q = absurd p

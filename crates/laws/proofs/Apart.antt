@@ -1,4 +1,4 @@
--- Two leaves of a polygon of one strip do not overlap. Assumes nothing.
+-- Two leaves of a polygon do not overlap if no two of its roots do. Assumes nothing.
 use mathlib.Core.Logic.{by_cases}
 use Rattle.std.proofs.Common.{◌≡◌, sym, ap, subst, subst₂, ◌∙◌, None, Some, List, [], ◌∷◌, ℕ, suc, ◌≤◌, arith, length}
 use native.Mathlib.Decide.{ℕ_discrete, dec_le}
@@ -8,12 +8,12 @@ use Rattle.table.specs.Formed.{Formed}
 use Rattle.table.proofs.Meshes.{not_some}
 use Rattle.coarsest.specs.Names.{Route, find}
 use Rattle.coarsest.proofs.Find.{Up, find-up, find-root, find-rooted, named}
-use Rattle.laws.specs.Strip.{RootOf, LeafOf, OneStrip}
-use Rattle.laws.proofs.Axis.{Meet, same_step}
+use Rattle.laws.specs.Grids.{RootOf, LeafOf}
+use Rattle.laws.specs.Fit.{Overlap}
 
--- the boxes have an inner point in common
-abbrev pub Overlap : Box → Box → Type 0
-Overlap a b = Meet a.x0 a.x1 b.x0 b.x1 × Meet a.y0 a.y1 b.y0 b.y1
+-- no two roots of the polygon k overlap
+abbrev pub RootsApart : List Cell → ℕ → Type 0
+RootsApart t k = (r s : ℕ) → RootOf t k r → RootOf t k s → Overlap (at t r).box (at t s).box → r ≡ s
 
 pub overlap-sym : (a b : Box) → Overlap a b → Overlap b a
 overlap-sym a b o = (omega arith, omega arith)
@@ -40,13 +40,7 @@ module _ (M : ℕ) (t : List Cell) (formed : Formed M t) where
   pub root-of : (k r : ℕ) (p : Route) (i : ℕ) → find t r p ≡ Some i → (at t i).polygon ≡ k → RootOf t k r
   root-of k r p i e h = record { top = find-rooted t r p i e; polygon = sym (root-polygon r p i e) ∙ h }
 
-  module _ (k : ℕ) (strip : OneStrip t k) where
-    roots-one : (r s : ℕ) → RootOf t k r → RootOf t k s → Overlap (at t r).box (at t s).box → r ≡ s
-    roots-one r s a b o =
-        let g = strip.grid in
-        let m = subst₂ Overlap (strip.placed r a) (strip.placed s b) o in
-        strip.once r s a b (same_step g.west g.wide (strip.column r) (strip.column s) m.0) (same_step g.south g.high (strip.row r) (strip.row s) m.1)
-
+  module _ (k : ℕ) (roots-one : RootsApart t k) where
     -- cells of one level that overlap are the same
     level-one : (r s : ℕ) (p q : Route) (i j : ℕ) → RootOf t k r → RootOf t k s → length p ≡ length q → find t r p ≡ Some i → find t s q ≡ Some j
         → Overlap (at t i).box (at t j).box → i ≡ j

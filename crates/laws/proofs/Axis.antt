@@ -1,12 +1,9 @@
 -- One axis: ranges that overlap, their ends, halves and multiples. Assumes nothing.
-use Rattle.std.proofs.Common.{◌≡◌, sym, ap, subst, ◌∙◌, ℕ, suc, ◌+◌, ◌*◌, ◌-◌, ◌^◌, ◌<◌, ◌≤◌, min, max, arith, mul-suc, mul_assoc, pow-suc, pow-add}
-use native.Mathlib.Nat.{lt_of_mul-lt-mul_left}
+use Rattle.std.proofs.Common.{◌≡◌, sym, ap, subst, ◌∙◌, ℕ, suc, ◌+◌, ◌*◌, ◌-◌, ◌/◌, ◌%◌, ◌^◌, ◌<◌, ◌≤◌, arith, mul-suc, mul_assoc, pow-suc, pow-add}
+use native.Mathlib.Nat.{lt_of_mul-lt-mul_left, mul-sub, div-add-mod, add-mul-mod_self_left, mod-mod_of_dvd, dvd-mul_right}
 use Rattle.cell.specs.Boxes.{mid}
-use Rattle.laws.specs.Nodes.{End, lower, upper, EndOrMiddle}
-
--- what the ranges a to b and c to d have in common begins before it ends
-abbrev pub Meet : ℕ → ℕ → ℕ → ℕ → Type 0
-Meet a b c d = max a c < min b d
+use Rattle.laws.specs.Nodes.{End, lower, upper}
+use Rattle.laws.specs.Fit.{Meet}
 
 -- a range with an end strictly inside another overlaps it
 pub meet-along : (a b c d x : ℕ) → a < x → x < b → c < d → End c d x → Meet a b c d
@@ -73,36 +70,52 @@ on-finer o M w k l c d x h m t e =
     let f = ap (λ (z : ℕ). z * j.0) (unit-times M w k l h m) ∙ mul_assoc (unit M w k) (2 ^ (k - l)) j.0 in
     (2 ^ (k - l) * j.0, j.1 ∙ ap (λ (z : ℕ). o + z) f)
 
--- strictly inside a step of level k, an end of a step that is at most one level finer is the middle
-inside_one : (o M w k l a b c d x : ℕ) → k ≤ M → l ≤ k + 1 → Spot o (unit M w k) a b → Spot o (unit M w l) c d → End c d x → a < x → x < b → x ≡ mid a b
-inside_one o M w k l a b c d x hk hl s t e p q =
-    let j = on-finer o M w (suc k) l c d x (omega arith) (omega arith) t e in
-    inner o (unit M w (suc k)) a b x j.0 (subst (λ (u : ℕ). Spot o u a b) (unit-half M w k hk) s) j.1 p q
+-- numbers with one remainder are a multiple apart
+apart-by : (u o x : ℕ) → o % u ≡ x % u → o ≤ x → (j : ℕ) × (x ≡ o + u * j)
+apart-by u o x e l =
+    let a = div-add-mod o u in
+    let b = div-add-mod x u in
+    (x / u - o / u, omega (arith, mul-sub u (x / u) (o / u)))
 
--- and one that is no finer is not there
-inside-none : (o M w k l a b c d x : ℕ) → k ≤ M → l ≤ k + 0 → Spot o (unit M w k) a b → Spot o (unit M w l) c d → End c d x → a < x → x < b → ⊥
-inside-none o M w k l a b c d x hk hl s t e p q =
-    let j = on-finer o M w k l c d x (omega arith) (omega arith) t e in
+pub finer-mod : (M w k l o v : ℕ) → l ≤ k → k ≤ M + 1 → o % unit M w l ≡ v % unit M w l → o % unit M w k ≡ v % unit M w k
+finer-mod M w k l o v h m e =
+    let u = unit M w k in
+    let d = subst (λ (z : ℕ). (n : ℕ) → n % z % u ≡ n % u) (sym (unit-times M w k l h m)) (λ n. mod-mod_of_dvd u n (dvd-mul_right u (2 ^ (k - l)))) in
+    sym (d o) ∙ ap (λ (z : ℕ). z % u) e ∙ d v
+
+-- the ranges are w units of level 0 long, and begin a multiple of the unit of level d apart
+pub record Alike (M d a b c e : ℕ) : Type 0 where
+  pub w : ℕ
+  pub one : b ≡ a + unit M w 0
+  pub two : e ≡ c + unit M w 0
+  pub apart : a % unit M w d ≡ c % unit M w d
+
+pub alike-back : (M d a b c e : ℕ) → Alike M d a b c e → Alike M d c e a b
+alike-back M d a b c e r = record { w = r.w; one = r.two; two = r.one; apart = sym r.apart }
+
+-- behind o, an end of a step of level l from v is a multiple of the unit of level k + d from o, where l is at most k + d
+pub shared : (M d k l o v w c e x : ℕ) → k + d ≤ M + 1 → l ≤ k + d → o % unit M w d ≡ v % unit M w d → Spot v (unit M w l) c e → End c e x
+    → o ≤ x → (j : ℕ) × (x ≡ o + unit M w (k + d) * j)
+shared M d k l o v w c e x m h r t f q =
+    let u = unit M w (k + d) in
+    let j = on-finer v M w (k + d) l c e x h m t f in
+    let s = finer-mod M w (k + d) d o v (omega arith) m r in
+    apart-by u o x (s ∙ sym (add-mul-mod_self_left v u j.0) ∙ ap (λ (z : ℕ). z % u) (sym j.1)) q
+
+-- strictly inside a step of level k, what is a multiple of the next unit is the middle
+pub inside-one : (M w k o a b x j : ℕ) → k ≤ M → Spot o (unit M w k) a b → x ≡ o + unit M w (k + 1) * j → a < x → x < b → x ≡ mid a b
+inside-one M w k o a b x j h s e = inner o (unit M w (suc k)) a b x j (subst (λ (u : ℕ). Spot o u a b) (unit-half M w k h) s) (e ∙ ap (λ (z : ℕ). o + unit M w z * j) (omega arith))
+
+-- and no multiple of its own unit is there
+pub inside-none : (M w k o a b x j : ℕ) → Spot o (unit M w k) a b → x ≡ o + unit M w (k + 0) * j → a < x → x < b → ⊥
+inside-none M w k o a b x j s i p q =
     let f = s.1 in
     let g = s.2 in
-    let i = j.1 in
+    let e : x ≡ o + unit M w k * j = i ∙ ap (λ (z : ℕ). o + unit M w z * j) (omega arith) in
     let n : unit M w k * suc s.0 ≡ unit M w k * s.0 + unit M w k = mul-suc (unit M w k) s.0 in
-    let y : s.0 < j.0 = lt_of_mul-lt-mul_left (unit M w k) (omega arith) in
-    let z : j.0 < suc s.0 = lt_of_mul-lt-mul_left (unit M w k) (omega arith) in
+    let y : s.0 < j = lt_of_mul-lt-mul_left (unit M w k) (omega arith) in
+    let z : j < suc s.0 = lt_of_mul-lt-mul_left (unit M w k) (omega arith) in
     omega arith
-
--- so a step's end within another step is an end of that or its middle, or is an end of it
-pub one-finer : (M k l : ℕ) → k ≤ M → (o w a b c d x : ℕ) → Spot o (unit M w k) a b → Spot o (unit M w l) c d → End c d x → a ≤ x → x ≤ b
-    → (a < x → x < b → l ≤ k + 1) → EndOrMiddle a b x
-one-finer M k l hk o w a b c d x s t e p q f =
-    let inside : a < x → x < b → x ≡ mid a b = λ u v. inside_one o M w k l a b c d x hk (f u v) s t e u v in
-    grind (arith, inside)
-
-pub none-finer : (M k l : ℕ) → k ≤ M → (o w a b c d x : ℕ) → Spot o (unit M w k) a b → Spot o (unit M w l) c d → End c d x → a ≤ x → x ≤ b
-    → (a < x → x < b → l ≤ k + 0) → End a b x
-none-finer M k l hk o w a b c d x s t e p q f =
-    let inside : a < x → x < b → ⊥ = λ u v. inside-none o M w k l a b c d x hk (f u v) s t e u v in
-    grind (arith, inside)
 
 -- two steps of one length that overlap are the same one
 pub same_step : (o u i j : ℕ) → Meet (o + u * i) (o + u * (i + 1)) (o + u * j) (o + u * (j + 1)) → i ≡ j

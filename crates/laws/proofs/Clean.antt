@@ -1,6 +1,6 @@
--- The by-layer check of a made net answers 'none', whatever the table, where its polygons differ in layer or component; so does the check by
--- x and y alone where there is one polygon. Assumes nothing.
-use Rattle.std.proofs.Common.{◌≡◌, refl, sym, ap, ap₂, subst, ◌∙◌, true, Option, None, Some, List, [], ◌∷◌, ◌++◌, map, get_or, ℕ, suc, ◌<◌, arith, ltb-true, ℤ, length, take, drop, IsTrue, nat_lt}
+-- The by-layer check of a net made of a balanced table answers 'none' where its polygons fit; so does the check by x and y alone, whatever the
+-- table, where there is one polygon. Assumes nothing.
+use Rattle.std.proofs.Common.{◌≡◌, refl, sym, ap, ap₂, subst, ◌∙◌, true, Option, None, Some, List, [], ◌∷◌, ◌++◌, map, get_or, ℕ, ◌<◌, arith, ltb-true, ℤ, length, take, drop, IsTrue, nat_lt}
 use Rattle.std.specs.List.{range_with_len}
 use Rattle.std.proofs.lemmas.Bool.{true≢false}
 use Rattle.std.proofs.lemmas.Bool.Decides.{nat_tests}
@@ -16,26 +16,41 @@ use Rattle.refusals.specs.Said.{accepted}
 use Rattle.table.specs.Rows.{IsTable, cells_in, leaves_in}
 use Rattle.table.specs.Slots.{cell_at}
 use Rattle.table.proofs.Cells.{length-table, at_table}
+use Rattle.table.proofs.Wellformed.{formed-facts}
+use Rattle.cell.specs.Cells.{box_of}
 use Rattle.net_rows.specs.Nets.{sound_net}
 use Rattle.net_rows.specs.Polygons.{polygons_below, polygons_fit}
 use Rattle.checks.specs.declared.asked.Class.{Class}
 use Rattle.checks.specs.declared.asked.Class.TheVariants.{Any, Of}
 use Rattle.checks.proofs.Faults.{leaf-inside}
 use Rattle.checks.specs.Checks.{leaf_fault, fault_by, net_fault, own_class, layer_fault, conforming_says, layers_says}
-use Rattle.net.specs.Net.{Poly, MeshNode, Edge, Piece, same_pair, join, node_at, sw_of, se_of, ne_of, nw_of, pieces, weighed, bare, weigh, network}
+use Rattle.net.specs.Net.{Poly, Net, MeshNode, Edge, Piece, same_node, same_pair, join, node_at, sw_of, se_of, ne_of, nw_of, leaves_of, pieces, weighed, bare, weigh, network}
 use Rattle.net.specs.Hang.{so_far, Halved, HalvedSides}
+use Rattle.net.specs.Laws.{HasArea}
+use Rattle.net.proofs.Positions.{has-yes}
 use Rattle.net.proofs.All.{all_one, all-by, in-more, All}
 use Rattle.net.proofs.Hang.{no-half-hangs}
-use Rattle.net.proofs.Leaves.{polys-pieces, piece_of, pieces-at}
+use Rattle.net.proofs.Leaves.{all-from, polys-pieces, piece_of, pieces-at}
 use Rattle.net.proofs.Distinct.{no-duplicates}
 use Rattle.links.specs.declared.rows.Links.{Links}
 use Rattle.links.specs.Made as Made
 use Rattle.links.specs.Made.{links_on, linked_network}
-use Rattle.laws.specs.MadeNets.{made, linked, ApartPolygonsPass, OnePolygonPasses, OnePolygonConforms, LinkedApartPolygonsPass, LinkedOnePolygonPasses, LinkedOnePolygonConforms}
+use Rattle.laws.specs.Nodes.{EndOrMiddle, end, middle, lower, upper}
+use Rattle.coarsest.specs.Passes.{balance}
+use Rattle.coarsest.proofs.Ends.{balance-evens}
+use Rattle.laws.specs.Grids.{Balanced, Splits}
+use Rattle.laws.specs.Built.{BuiltBoard, built}
+use Rattle.laws.specs.Fit.{BoardFits}
+use Rattle.laws.specs.Joined.{SideJoined, SidesJoined}
+use Rattle.laws.specs.MadeNets.{made, linked, FittingBoardsPass, BuiltBoardsPass, OnePolygonConforms, LinkedBoardsPass, LinkedOnePolygonConforms}
 use Rattle.laws.specs.Made.{no_poly, poly_at, layers_of, components_of, AllApart, node_row}
-use Rattle.laws.proofs.Places.{own_of, Tells, own-tells, any_tells}
+use Rattle.laws.proofs.Evens.{evens-even, splits-fit, splits-apart, splits-formed, balance-fit, balance-apart}
+use Rattle.laws.proofs.BuiltHangs.{left-formed}
+use Rattle.laws.proofs.Joined.{sides-joined}
+use Rattle.laws.proofs.Placed.{cell-positive}
+use Rattle.laws.proofs.Places.{own_of, own-tells, any_tells}
 use Rattle.laws.proofs.Pieces.{leaf-in, nodes-polys, kept, behind, nodes-are, cell-within, low}
-use Rattle.laws.proofs.Clear.{leaf-clear, first-clear}
+use Rattle.laws.proofs.Clear.{Along, AllAlong, leaf-clear, place-clear, first-clear}
 use Rattle.laws.proofs.Sound.{made-sound, linked-sound}
 
 own_is : (ps : List Poly) (k : ℕ) → own_class (layers_of ps) (components_of ps) k ≡ own_of (poly_at ps k)
@@ -49,43 +64,32 @@ kidless t head k d h = none (at (cells_in t head) (get_or (leaves_in t head) k d
     none None e = refl
     none (Some x) e = absurd (true≢false (sym e))
 
--- of each leaf of each polygon the halves of its sides are among the edges
-abbrev Halves : List Cell → List Poly → List Edge → Type 0
-Halves cs ps es = (pre : List Piece) (q : Piece) (qs : List Piece) → pieces cs ps 0 ≡ pre ++ (q ∷ qs) → All (HalvedSides (so_far pre q) es q.poly) q.leaves
+-- ---- by layer
 
--- what holds of a made net whatever its edges are, if only they have these halves
-module _ (t : List ℤ) (head : Head) (ps : List Poly) (es : List Edge) (halves : Halves (cells_in t head) ps es) (apart : AllApart ps) (below : IsTrue (polygons_below (length ps) (cells_in t head))) where
-  fits : (i : ℕ) → i < head.count → (cell_at t i).poly < length ps
-  fits i h =
-      subst (λ (c : Cell). c.polygon < length ps) (at_table t head.count i h)
-      (ltb-true (at (cells_in t head) i).polygon (length ps) (AllPass-from_list_all (λ (c : Cell). nat_lt c.polygon (length ps)) (cells_in t head) below i past (rw length-table h)))
+-- the leaf i of the polygon k is joined along its sides by the edges es
+abbrev AlongLeaf : List ℤ → Head → List Poly → List Edge → ℕ → ℕ → Type 0
+AlongLeaf t head ps es i k = AllAlong (made t head ps).nodes es (poly_at ps k) (box_of (cell_at t i))
 
-  -- a leaf of the polygon k, by a test that tells the polygon's nodes
-  leaf-none : (w : Class) (i k : ℕ) → i < head.count → (cell_at t i).poly ≡ k → k < length ps → Tells (made t head ps).nodes w (poly_at ps k) → (at (cells_in t head) i).kids ≡ None
-      → leaf_fault (node_row (made t head ps)) es w (cell_at t i) ≡ None
-  leaf-none w i k h e l tells leaf =
-      let cs = cells_in t head in
-      let p = poly_at ps k in
-      let pre = pieces cs (take k ps) 0 in
-      let q = piece_of cs p k in
-      let qs = pieces cs (drop (suc k) ps) (suc k) in
-      let split = pieces-at cs ps k p (slice_get-get_or ps k no_poly l) in
-      let P : Box → Type 0 = λ b. HalvedSides (so_far pre q) es p b in
-      let cell = at_table t head.count i h in
-      leaf-clear (made t head ps).nodes (so_far pre q) es p w tells (no-duplicates cs ps)
-      (λ x y. rw (nodes-are cs ps, split) (kept pre q qs (behind cs ps (suc k) k apart l) x y)) (cell_at t i) (cell-within t i)
-      (subst (λ (c : Cell). P c.box) cell (leaf-in P k cs (halves pre q qs split) i (rw length-table h) leaf (ap (λ (c : Cell). c.polygon) cell ∙ e)))
+-- the polygon of a cell stands in the list
+fits : (t : List ℤ) (head : Head) (ps : List Poly) → IsTrue (polygons_below (length ps) (cells_in t head)) → (i : ℕ) → i < head.count → (cell_at t i).poly < length ps
+fits t head ps below i h =
+    subst (λ (c : Cell). c.polygon < length ps) (at_table t head.count i h)
+    (ltb-true (at (cells_in t head) i).polygon (length ps) (AllPass-from_list_all (λ (c : Cell). nat_lt c.polygon (length ps)) (cells_in t head) below i past (rw length-table h)))
 
+-- what holds of a made net whatever its edges are, if only they join its leaves' sides
+module _ (t : List ℤ) (head : Head) (ps : List Poly) (es : List Edge)
+    (along : (i : ℕ) → i < head.count → (at (cells_in t head) i).kids ≡ None → (cell_at t i).poly < length ps → AlongLeaf t head ps es i (cell_at t i).poly)
+    (below : IsTrue (polygons_below (length ps) (cells_in t head))) where
   own-none : (i : ℕ) → i < head.count → (at (cells_in t head) i).kids ≡ None
       → leaf_fault (node_row (made t head ps)) es (own_class (layers_of ps) (components_of ps) (cell_at t i).poly) (cell_at t i) ≡ None
   own-none i h leaf =
       let p = poly_at ps (cell_at t i).poly in
       let net = made t head ps in
       ap (λ (w : Class). leaf_fault (node_row net) es w (cell_at t i)) (own_is ps (cell_at t i).poly)
-      ∙ leaf-none (own_of p) i (cell_at t i).poly h refl (fits i h) (own-tells net.nodes (low t head.count ps) p) leaf
+      ∙ leaf-clear net.nodes es p (own-tells net.nodes (low t head.count ps) p) (no-duplicates (cells_in t head) ps) (cell_at t i) (cell-within t i)
+      (along i h leaf (fits t head ps below i h))
 
-  -- whatever the table, whatever its polygons of different layers and components
-  pub no-fault : layer_fault t head (node_row (made t head ps)) es (layers_of ps) (components_of ps) ≡ None
+  no-fault : layer_fault t head (node_row (made t head ps)) es (layers_of ps) (components_of ps) ≡ None
   unfolding fault_by
   no-fault =
       first-clear (λ i. leaf_fault (node_row (made t head ps)) es (own_class (layers_of ps) (components_of ps) (cell_at t i).poly) (cell_at t i)) (leaves_in t head)
@@ -101,22 +105,81 @@ module _ (t : List ℤ) (head : Head) (ps : List Poly) (es : List Edge) (halves 
   unfolding layers_says
   edges-pass formed sound = simp (formed, sound, polygons-fit, no-fault)
 
--- one polygon: every cell is of polygon 0
+-- a side that is joined from end to end
+along-of : (n : Net) (c : ℕ → MeshNode) (u v : ℕ) → u < v → SideJoined n c u v → Along n.nodes n.edges c u v
+along-of n c u v l s =
+    record {
+      only = λ z i m. (let (a, b) = i in inner z (omega arith) (omega arith) (s.only z (omega arith) (omega arith) (has-yes same_node n.nodes (c z) m)));
+      halved = λ m. s.halved (has-yes same_node n.nodes (c (mid u v)) m);
+    }
+  where
+    inner : (z : ℕ) → u < z → z < v → EndOrMiddle u v z → z ≡ mid u v
+    inner z a b (end (lower e)) = absurd (omega arith)
+    inner z a b (end (upper e)) = absurd (omega arith)
+    inner z a b (middle e) = e
+
+all-along : (n : Net) (p : Poly) (r : Box) → HasArea r → SidesJoined n p r → AllAlong n.nodes n.edges p r
+all-along n p r (w, h) s =
+    record {
+      south = along-of n (λ z. node_at p z r.y0) r.x0 r.x1 w s.south;
+      north = along-of n (λ z. node_at p z r.y1) r.x0 r.x1 w s.north;
+      west = along-of n (λ z. node_at p r.x0 z) r.y0 r.y1 h s.west;
+      east = along-of n (λ z. node_at p r.x1 z) r.y0 r.y1 h s.east;
+    }
+
+board-along : (t : List ℤ) (head : Head) (ps : List Poly) → IsTable t head → Balanced (cells_in t head) → BoardFits (cells_in t head) ps
+    → (i : ℕ) → i < head.count → (at (cells_in t head) i).kids ≡ None → (cell_at t i).poly < length ps → AlongLeaf t head ps (made t head ps).edges i (cell_at t i).poly
+board-along t head ps table balanced board i h leaf l =
+    let cs = cells_in t head in
+    let k = (cell_at t i).poly in
+    let p = poly_at ps k in
+    let net = made t head ps in
+    let formed = (formed-facts t head.count head.max_level table).cells in
+    let cell = at_table t head.count i h in
+    let joined = sides-joined head.max_level cs ps k p formed balanced (slice_get-get_or ps k no_poly l) (board.fit k l) (board.apart k l) in
+    let inside : i < length cs = rw length-table h in
+    subst (λ (c : Cell). AllAlong net.nodes net.edges p c.box) cell
+    (all-along net p (at cs i).box (cell-positive head.max_level cs formed i inside)
+    (leaf-in (SidesJoined net p) k cs (all-from (SidesJoined net p) (at cs i).box (leaves_of cs k) (λ j m. joined j (at cs i).box m)) i inside leaf (ap (λ (c : Cell). c.polygon) cell)))
+
+-- ---- by place, on a board of one polygon: every cell is of polygon 0
+
+-- of each leaf of each polygon the halves of its sides are among the edges
+abbrev Halves : List Cell → List Poly → List Edge → Type 0
+Halves cs ps es = (pre : List Piece) (q : Piece) (qs : List Piece) → pieces cs ps 0 ≡ pre ++ (q ∷ qs) → All (HalvedSides (so_far pre q) es q.poly) q.leaves
+
 alone : (p : Poly) → AllApart (p ∷ [])
 alone p j k d h l = absurd (omega arith)
 
 module _ (t : List ℤ) (head : Head) (p : Poly) (es : List Edge) (halves : Halves (cells_in t head) (p ∷ []) es) (below : IsTrue (polygons_below 1 (cells_in t head))) where
+  net : Net
+  net = made t head (p ∷ [])
+
+  own : All (λ (m : MeshNode). (m.layer ≡ p.layer) × (m.component ≡ p.component)) (made t head (p ∷ [])).nodes
+  own =
+      rw (nodes-are (cells_in t head) (p ∷ [])) (nodes-polys (λ l c. (l ≡ p.layer) × (c ≡ p.component)) (pieces (cells_in t head) (p ∷ []) 0)
+      (polys-pieces (λ (q : Poly). (q.layer ≡ p.layer) × (q.component ≡ p.component)) (cells_in t head) (p ∷ []) 0 (all_one (λ (q : Poly). (q.layer ≡ p.layer) × (q.component ≡ p.component)) p (refl, refl))))
+
+  any-none : (i : ℕ) → i < head.count → (at (cells_in t head) i).kids ≡ None → leaf_fault (node_row (made t head (p ∷ []))) es Any (cell_at t i) ≡ None
+  any-none i h leaf =
+      let cs = cells_in t head in
+      let ps = p ∷ [] in
+      let pre = pieces cs (take 0 ps) 0 in
+      let q = piece_of cs p 0 in
+      let qs = pieces cs (drop 1 ps) 1 in
+      let split = pieces-at cs ps 0 p refl in
+      let P : Box → Type 0 = λ b. HalvedSides (so_far pre q) es p b in
+      let cell = at_table t head.count i h in
+      let zeroth : (cell_at t i).poly ≡ 0 = let f = fits t head ps below i h in omega arith in
+      place-clear (made t head ps).nodes (so_far pre q) es p (any_tells (made t head ps).nodes (low t head.count ps) p own) (no-duplicates cs ps)
+      (λ x y. rw (nodes-are cs ps, split) (kept pre q qs (behind cs ps 1 0 (alone p) (omega arith)) x y)) (cell_at t i) (cell-within t i)
+      (subst (λ (c : Cell). P c.box) cell (leaf-in P 0 cs (halves pre q qs split) i (rw length-table h) leaf (ap (λ (c : Cell). c.polygon) cell ∙ zeroth)))
+
   one-net-fault : net_fault t head (node_row (made t head (p ∷ []))) es ≡ None
   unfolding fault_by
   one-net-fault =
-      let net = made t head (p ∷ []) in
-      let own : All (λ (m : MeshNode). (m.layer ≡ p.layer) × (m.component ≡ p.component)) net.nodes =
-      rw (nodes-are (cells_in t head) (p ∷ [])) (nodes-polys (λ l c. (l ≡ p.layer) × (c ≡ p.component)) (pieces (cells_in t head) (p ∷ []) 0)
-      (polys-pieces (λ (q : Poly). (q.layer ≡ p.layer) × (q.component ≡ p.component)) (cells_in t head) (p ∷ []) 0 (all_one (λ (q : Poly). (q.layer ≡ p.layer) × (q.component ≡ p.component)) p (refl, refl)))) in
-      first-clear (λ i. leaf_fault (node_row net) es Any (cell_at t i)) (leaves_in t head)
-      (λ k d g. let i = get_or (leaves_in t head) k d in
-      let h = leaf-inside t head k d g in
-      leaf-none t head (p ∷ []) es halves (alone p) below Any i 0 h (let f = fits t head (p ∷ []) es halves (alone p) below i h in omega arith) (omega arith) (any_tells net.nodes (low t head.count (p ∷ [])) p own) (kidless t head k d g))
+      first-clear (λ i. leaf_fault (node_row (made t head (p ∷ []))) es Any (cell_at t i)) (leaves_in t head)
+      (λ k d g. any-none (get_or (leaves_in t head) k d) (leaf-inside t head k d g) (kidless t head k d g))
 
   edges-conform : IsTable t head → IsTrue (sound_net (node_row (made t head (p ∷ []))) es (made t head (p ∷ [])).cells)
       → conforming_says t head (node_row (made t head (p ∷ []))) es (made t head (p ∷ [])).cells ≡ accepted []
@@ -129,18 +192,33 @@ module _ (t : List ℤ) (head : Head) (p : Poly) (es : List Edge) (halves : Halv
 made-halves : (t : List ℤ) (head : Head) (ps : List Poly) → Halves (cells_in t head) ps (made t head ps).edges
 made-halves t head ps = no-half-hangs (cells_in t head) ps
 
-pub apart-pass : ApartPolygonsPass
-apart-pass t head ps formed apart below =
-    edges-pass t head ps (made t head ps).edges (made-halves t head ps) apart below formed (made-sound t head ps formed)
+pub boards-pass : FittingBoardsPass
+boards-pass t head ps table balanced board below =
+    edges-pass t head ps (made t head ps).edges (board-along t head ps table balanced board) below table (made-sound t head ps table)
 
-pub one-passes : OnePolygonPasses
-one-passes t head p formed below = apart-pass t head (p ∷ []) formed (alone p) below
+-- a built board that fits goes on fitting, refined in any way and balanced
+built-board : (b : BuiltBoard) (u : List Cell) (ps : List Poly) → BoardFits (built b) ps → Splits b.board.settings.max_level (built b) u
+    → BoardFits (balance b.board.settings.max_level u) ps
+built-board b u ps board made =
+    let M = b.board.settings.max_level in
+    let formed = splits-formed M (built b) (left-formed b) made in
+    record {
+      fit = λ k h. balance-fit M u formed k (splits-fit M (built b) k (board.fit k h) made);
+      apart = λ k h. balance-apart M u formed ps k (splits-apart M (built b) ps k (board.apart k h) made);
+    }
+
+pub built-pass : BuiltBoardsPass
+built-pass b u t head ps board made table same below =
+    let M = b.board.settings.max_level in
+    let evens = balance-evens M u (splits-formed M (built b) (left-formed b) made) in
+    boards-pass t head ps table (subst Balanced (sym same) (evens-even 1 M u (balance M u) evens))
+    (subst (λ (cs : List Cell). BoardFits cs ps) (sym same) (built-board b u ps board made)) below
 
 pub one-conforms : OnePolygonConforms
 one-conforms t head p formed below =
     edges-conform t head p (made t head (p ∷ [])).edges (made-halves t head (p ∷ [])) below formed (made-sound t head (p ∷ []) formed)
 
-pub ruleset pass = (apart-pass, one-passes, one-conforms)
+pub ruleset pass = (boards-pass, built-pass, one-conforms)
 
 -- ---- and of nets with links
 
@@ -174,17 +252,34 @@ linked-halves t head ps l pre q qs split =
     (all-by (HalvedSides (so_far pre q) (made t head ps).edges q.poly) (HalvedSides (so_far pre q) ((made t head ps).edges ++ links-behind t head ps l) q.poly) q.leaves
     (λ r h. sides-more (so_far pre q) (made t head ps).edges (links-behind t head ps l) q.poly r h) (made-halves t head ps pre q qs split))
 
-pub linked-apart : LinkedApartPolygonsPass
-unfolding linked_network Made.linked network weigh
-linked-apart t head ps l formed apart below =
-    edges-pass t head ps (linked t head ps l).edges (linked-halves t head ps l) apart below formed (linked-sound t head ps l formed)
+-- nor do they take an edge from a side
+along-more : (ns : List MeshNode) (es more : List Edge) (c : ℕ → MeshNode) (u v : ℕ) → Along ns es c u v → Along ns (es ++ more) c u v
+along-more ns es more c u v a =
+    record {
+      only = a.only;
+      halved = λ m. (let h = a.halved m in
+          (λ g. in-more same_pair es more (join ns (c u) (c (mid u v)) g) (h.0 g), λ g. in-more same_pair es more (join ns (c (mid u v)) (c v) g) (h.1 g)));
+    }
 
-pub linked-one : LinkedOnePolygonPasses
-linked-one t head p l formed below = linked-apart t head (p ∷ []) l formed (alone p) below
+all-more : (ns : List MeshNode) (es more : List Edge) (p : Poly) (r : Box) → AllAlong ns es p r → AllAlong ns (es ++ more) p r
+all-more ns es more p r a =
+    record {
+      south = along-more ns es more _ r.x0 r.x1 a.south;
+      north = along-more ns es more _ r.x0 r.x1 a.north;
+      west = along-more ns es more _ r.y0 r.y1 a.west;
+      east = along-more ns es more _ r.y0 r.y1 a.east;
+    }
+
+pub linked-boards : LinkedBoardsPass
+unfolding linked_network Made.linked network weigh
+linked-boards t head ps l table balanced board below =
+    edges-pass t head ps (linked t head ps l).edges
+    (λ i h leaf k. rw (edges-are t head ps l) (all-more (made t head ps).nodes (made t head ps).edges (links-behind t head ps l) (poly_at ps (cell_at t i).poly) (box_of (cell_at t i)) (board-along t head ps table balanced board i h leaf k)))
+    below table (linked-sound t head ps l table)
 
 pub linked-conforms : LinkedOnePolygonConforms
 unfolding linked_network Made.linked network weigh
 linked-conforms t head p l formed below =
     edges-conform t head p (linked t head (p ∷ []) l).edges (linked-halves t head (p ∷ []) l) below formed (linked-sound t head (p ∷ []) l formed)
 
-pub ruleset linked_pass = (linked-apart, linked-one, linked-conforms)
+pub ruleset linked_pass = (linked-boards, linked-conforms)

@@ -1,5 +1,5 @@
--- What balance and conform end in is balanced or conformed, and a polygon of one strip stays one. Assumes nothing.
-use Rattle.std.proofs.Common.{◌≡◌, sym, ap, ◌∙◌, false, not, Option, None, Some, List, ℕ, ◌<◌, arith, length}
+-- What balance and conform end in is balanced or conformed; and roots that fit, are one grid, or do not touch stay so. Assumes nothing.
+use Rattle.std.proofs.Common.{◌≡◌, sym, ap, ◌∙◌, subst₂, false, not, Option, None, Some, List, ℕ, ◌<◌, arith, length}
 use Rattle.table.specs.Mesh.{Cell, at, split, is_none}
 use Rattle.table.specs.Formed.{Formed}
 use Rattle.table.proofs.Meshes.{root_in, Kept, kept, formed-split}
@@ -11,7 +11,9 @@ use Rattle.coarsest.proofs.Find.{Named, named, tells, stands_of, find-rooted, is
 use Rattle.coarsest.proofs.Kept.{evened-from}
 use Rattle.coarsest.proofs.Evened.{evened-roots}
 use Rattle.coarsest.specs.Laws.{SameRoots}
-use Rattle.laws.specs.Strip.{RootOf, OneStrip, Even, Splits, start, next}
+use Rattle.net.specs.Net.{Poly}
+use Rattle.laws.specs.Grids.{RootOf, OneGrid, Even, Splits, start, next}
+use Rattle.laws.specs.Fit.{Fit, RootsFit, Touch, NoneTouches}
 
 leaf-whole : (t : List Cell) (r : ℕ) (p : Route) (i : ℕ) → find t r p ≡ Some i → (at t i).kids ≡ None → splitting t r p ≡ false
 unfolding splitting
@@ -39,36 +41,61 @@ module _ (d M : ℕ) (t u : List Cell) (evens : Evens d M t u) where
       omega arith
 
 -- splits make no root, and change none
-module _ (t u : List Cell) (cell : (i : ℕ) → i < length t → Kept t u i) (roots : SameRoots u t) (k : ℕ) where
-  root-back : (r : ℕ) → RootOf u k r → RootOf t k r
-  root-back r a =
-      let b = is-root t r (at u r).box (sym (roots r) ∙ root_is u r a.top) in
-      record { top = b.0; polygon = sym (cell r (root_in t r b.0)).polygon ∙ a.polygon }
+abbrev pub RootsKept : List Cell → List Cell → Type 0
+RootsKept t u = ((i : ℕ) → i < length t → Kept t u i) × SameRoots u t
 
-  pub strip-from : OneStrip t k → OneStrip u k
-  strip-from s =
+module _ (t u : List Cell) (kept : RootsKept t u) where
+  root-back : (k r : ℕ) → RootOf u k r → RootOf t k r
+  root-back k r a =
+      let b = is-root t r (at u r).box (sym (kept.1 r) ∙ root_is u r a.top) in
+      record { top = b.0; polygon = sym (kept.0 r (root_in t r b.0)).polygon ∙ a.polygon }
+
+  box-same : (k r : ℕ) → RootOf u k r → (at u r).box ≡ (at t r).box
+  box-same k r a = (kept.0 r (root_in t r (root-back k r a).top)).box
+
+  grid-kept : (k : ℕ) → OneGrid t k → OneGrid u k
+  grid-kept k s =
       record {
         grid = s.grid;
         column = s.column;
         row = s.row;
-        placed = λ r a. (let b = root-back r a in (cell r (root_in t r b.top)).box ∙ s.placed r b);
-        once = λ r q a b. s.once r q (root-back r a) (root-back q b);
+        placed = λ r a. box-same k r a ∙ s.placed r (root-back k r a);
+        once = λ r q a b. s.once r q (root-back k r a) (root-back k q b);
       }
 
--- so refinement keeps a polygon of one strip, and the clauses on roots, children and parents
-pub splits-strip : (M : ℕ) (t : List Cell) (k : ℕ) → OneStrip t k → {u : List Cell} → Splits M t u → OneStrip u k
-splits-strip M t k s start = s
-splits-strip M t k s (next {u = u} w c h leaf finer) = strip-from u (split u c) (kept u c h) (roots_kept u c h) k (splits-strip M t k s w)
+  fit-kept : (k : ℕ) → RootsFit t k → RootsFit u k
+  fit-kept k f r s a b n = subst₂ Fit (sym (box-same k r a)) (sym (box-same k s b)) (f r s (root-back k r a) (root-back k s b) n)
+
+  apart-kept : (ps : List Poly) (k : ℕ) → NoneTouches t ps k → NoneTouches u ps k
+  apart-kept ps k f j l n e h r s a b o = f j l n e h r s (root-back j r a) (root-back k s b) (subst₂ Touch (box-same j r a) (box-same k s b) o)
+
+-- so refinement keeps what is said of roots alone, and the clauses on roots, children and parents
+splits-keep : (P : List Cell → Type 0) → ((t u : List Cell) → RootsKept t u → P t → P u) → (M : ℕ) (t : List Cell) → P t → {u : List Cell} → Splits M t u → P u
+splits-keep P f M t s start = s
+splits-keep P f M t s (next {u = u} w c h leaf finer) = f u (split u c) (kept u c h, roots_kept u c h) (splits-keep P f M t s w)
+
+pub splits-fit : (M : ℕ) (t : List Cell) (k : ℕ) → RootsFit t k → {u : List Cell} → Splits M t u → RootsFit u k
+splits-fit M t k = splits-keep (λ u. RootsFit u k) (λ t u c. fit-kept t u c k) M t
+
+pub splits-apart : (M : ℕ) (t : List Cell) (ps : List Poly) (k : ℕ) → NoneTouches t ps k → {u : List Cell} → Splits M t u → NoneTouches u ps k
+splits-apart M t ps k = splits-keep (λ u. NoneTouches u ps k) (λ t u c. apart-kept t u c ps k) M t
 
 pub splits-formed : (M : ℕ) (t : List Cell) → Formed M t → {u : List Cell} → Splits M t u → Formed M u
 splits-formed M t f start = f
 splits-formed M t f (next {u = u} w c h leaf finer) = formed-split u c h leaf M finer (splits-formed M t f w)
 
+-- and so do balance and conform
 module _ (M : ℕ) (t : List Cell) (formed : Formed M t) where
-  pub balance-strip : (k : ℕ) → OneStrip t k → OneStrip (balance M t) k
+  balance-keeps : RootsKept t (balance M t)
   unfolding balance
-  balance-strip k = strip-from t (evened Balancing 1 M t) (evened-from Balancing 1 M t).cell (evened-roots Balancing 1 M t formed) k
+  balance-keeps = ((evened-from Balancing 1 M t).cell, evened-roots Balancing 1 M t formed)
 
-  pub conform-strip : (k : ℕ) → OneStrip t k → OneStrip (conform M t) k
+  pub balance-fit : (k : ℕ) → RootsFit t k → RootsFit (balance M t) k
+  balance-fit k = fit-kept t (balance M t) balance-keeps k
+
+  pub balance-apart : (ps : List Poly) (k : ℕ) → NoneTouches t ps k → NoneTouches (balance M t) ps k
+  balance-apart ps k = apart-kept t (balance M t) balance-keeps ps k
+
+  pub conform-strip : (k : ℕ) → OneGrid t k → OneGrid (conform M t) k
   unfolding conform
-  conform-strip k = strip-from t (evened Conforming 0 M t) (evened-from Conforming 0 M t).cell (evened-roots Conforming 0 M t formed) k
+  conform-strip k = grid-kept t (evened Conforming 0 M t) ((evened-from Conforming 0 M t).cell, evened-roots Conforming 0 M t formed) k

@@ -1,19 +1,28 @@
--- No node of a polygon of one strip hangs in a balanced table; what build leaves of such a polygon; what the checks say of a made net; and what build says of a board that was read.
+-- No node hangs in a balanced table, and sides are joined; what build leaves of rings in pitch; what the checks say of a made net; and what build says of a board that was read.
 pub mod Axis
 pub mod Apart
 pub mod Placed
+pub mod Fitting
 pub mod Ends
 pub mod HangsNot
 pub mod Evens
 pub mod Tables
+pub mod Whole
+pub mod Joined
+pub mod Offsets
 pub mod Roots
-pub mod Built
+pub mod Strips
+pub mod Pitch
+pub mod BuiltGrids
+pub mod BuiltHangs
+pub mod SampleBoards
 pub mod Places
 pub mod Pieces
 pub mod Clear
 pub mod Sound
 pub mod Clean
 pub mod Alike
+pub mod Bands
 pub mod Eight
 pub mod Sheets
 pub mod Taken

@@ -1,17 +1,16 @@
--- Every cell of a polygon of one strip is a cell of the grid of its level. Assumes nothing.
-use Rattle.std.proofs.Common.{◌≡◌, sym, ap, subst, ◌∙◌, List, [], ◌∷◌, ℕ, suc, ◌+◌, ◌*◌, ◌-◌, ◌^◌, ◌<◌, ◌≤◌, arith, mul-add, mul-pos, length, pow_pos}
+-- Every cell is a step of its own root's grid: one of equal cells from the root's corner, with the sides of the cell's level. Assumes nothing.
+use Rattle.std.proofs.Common.{◌≡◌, sym, ap, subst, ◌∙◌, List, [], ◌∷◌, ℕ, suc, ◌+◌, ◌*◌, ◌-◌, ◌^◌, ◌<◌, ◌≤◌, arith, mul-zero, mul-pos, length, pow_pos, None, Some}
 use native.Mathlib.Nat.{sub-zero}
 use Rattle.cell.specs.Boxes.{Box, Quad, sw, se, nw, ne, quadrant, mid}
 use Rattle.table.specs.Mesh.{Cell, at}
 use Rattle.table.specs.Formed.{Formed}
-use Rattle.coarsest.specs.Names.{Route, place}
-use Rattle.coarsest.proofs.Find.{named, tells}
+use Rattle.coarsest.specs.Names.{Route, place, find}
+use Rattle.table.proofs.Meshes.{root_in}
+use Rattle.coarsest.proofs.Find.{tells, find-rooted}
 use Rattle.coarsest.proofs.Least.{level-most}
 use Rattle.coarsest.proofs.Sides.{Span, cell-sides}
 use Rattle.net.specs.Laws.{HasArea}
-use Rattle.laws.specs.Strip.{RootOf, OneStrip}
 use Rattle.laws.proofs.Axis.{Spot, cut, unit, unit-half}
-use Rattle.laws.proofs.Apart.{root-of}
 
 span_less : (n a b : ℕ) → Span n a b → a < b
 span_less n a b s = let e = s.1 in let p : 0 < suc s.0 * 2 ^ n = mul-pos (omega arith) (pow_pos n) in omega arith
@@ -42,50 +41,58 @@ module _ (M o v w h : ℕ) where
   place-steps b s [] m = s
   place-steps b s (q ∷ p) m = quadrant-steps (length p) (place b p) q (omega arith) (place-steps b s p (omega arith))
 
-module _ (M : ℕ) (t : List Cell) (formed : Formed M t) (k : ℕ) (strip : OneStrip t k) where
-  -- a root's sides are the grid's
-  root-spots : (r : ℕ) → RootOf t k r
-      → Spot strip.grid.west strip.grid.wide (at t r).box.x0 (at t r).box.x1 × Spot strip.grid.south strip.grid.high (at t r).box.y0 (at t r).box.y1
-  root-spots r a =
-      let e = strip.placed r a in
-      let m = mul-add strip.grid.wide (strip.column r) 1 in
-      let n = mul-add strip.grid.high (strip.row r) 1 in
-      rw e ((strip.column r, omega arith, omega arith), (strip.row r, omega arith, omega arith))
+-- the box lies within another, and its sides are not turned round
+pub record Inside (a b : Box) : Type 0 where
+  pub west : b.x0 ≤ a.x0
+  pub east : a.x1 ≤ b.x1
+  pub south : b.y0 ≤ a.y0
+  pub north : a.y1 ≤ b.y1
+  pub wide : a.x0 ≤ a.x1
+  pub high : a.y0 ≤ a.y1
 
-  -- which are multiples of 2 ^ (M + 1)
-  pub record Units (w h : ℕ) : Type 0 where
-    pub across : strip.grid.wide ≡ w * 2 ^ (M + 1)
-    pub upright : strip.grid.high ≡ h * 2 ^ (M + 1)
+quadrant-inside : (a b : Box) (q : Quad) → Inside a b → Inside (quadrant a q) b
+quadrant-inside a b sw i = record { west = i.west; east = omega (arith, i.east, i.wide); south = i.south; north = omega (arith, i.north, i.high); wide = omega (arith, i.wide); high = omega (arith, i.high) }
+quadrant-inside a b se i = record { west = omega (arith, i.west, i.wide); east = i.east; south = i.south; north = omega (arith, i.north, i.high); wide = omega (arith, i.wide); high = omega (arith, i.high) }
+quadrant-inside a b nw i = record { west = i.west; east = omega (arith, i.east, i.wide); south = omega (arith, i.south, i.high); north = i.north; wide = omega (arith, i.wide); high = omega (arith, i.high) }
+quadrant-inside a b ne i = record { west = omega (arith, i.west, i.wide); east = i.east; south = omega (arith, i.south, i.high); north = i.north; wide = omega (arith, i.wide); high = omega (arith, i.high) }
 
-  root-units : (r : ℕ) → RootOf t k r → (w : ℕ) × (h : ℕ) × Units w h
-  root-units r a =
-      let s = root-spots r a in
-      let f = formed.root r a.top in
-      let x = s.0.2 in
-      let y = s.1.2 in
-      let u = f.wide.1 in
-      let v = f.high.1 in
-      (suc f.wide.0, suc f.high.0, record { across = omega arith; upright = omega arith })
+place-inside : (b : Box) → HasArea b → (p : Route) → Inside (place b p) b
+place-inside b a [] = record { west = omega arith; east = omega arith; south = omega arith; north = omega arith; wide = omega (arith, a.0); high = omega (arith, a.1) }
+place-inside b a (q ∷ p) = quadrant-inside (place b p) b q (place-inside b a p)
 
-  pub cell-units : (i : ℕ) → i < length t → (at t i).polygon ≡ k → (w : ℕ) × (h : ℕ) × Units w h
-  cell-units i l e =
-      let n = named M t formed i l in
-      root-units n.root (root-of M t formed k n.root n.path i n.found e)
+-- a range is the first step of its own
+pub first_step : (M w a b : ℕ) → b ≡ a + unit M w 0 → Spot a (unit M w 0) a b
+first_step M w a b e = let z = mul-zero (unit M w 0) in (0, omega arith, e)
 
-  pub cell-steps : (w h : ℕ) → Units w h → (i : ℕ) → i < length t → (at t i).polygon ≡ k
-      → Steps M strip.grid.west strip.grid.south w h (at t i).level (at t i).box
-  cell-steps w h u i l e =
-      let n = named M t formed i l in
-      let r = root-of M t formed k n.root n.path i n.found e in
-      let s = tells M t formed n.root n.path i n.found in
-      let m = level-most M t formed i l in
+module _ (M : ℕ) (t : List Cell) (formed : Formed M t) where
+  pub cell-steps : (r : ℕ) (p : Route) (i : ℕ) → find t r p ≡ Some i → (w h : ℕ) → (at t r).box.x1 ≡ (at t r).box.x0 + unit M w 0
+      → (at t r).box.y1 ≡ (at t r).box.y0 + unit M h 0 → Steps M (at t r).box.x0 (at t r).box.y0 w h (at t i).level (at t i).box
+  cell-steps r p i e w h x y =
+      let s = tells M t formed r p i e in
+      let m = level-most M t formed i s.inside in
       let z = s.level in
-      let b = root-spots n.root r in
-      let base : Steps M strip.grid.west strip.grid.south w h 0 (at t n.root).box = (
-        subst (λ (x : ℕ). Spot strip.grid.west x (at t n.root).box.x0 (at t n.root).box.x1) (whole w strip.grid.wide u.across) b.0,
-        subst (λ (x : ℕ). Spot strip.grid.south x (at t n.root).box.y0 (at t n.root).box.y1) (whole h strip.grid.high u.upright) b.1,
-      ) in
-      rw (s.box, s.level) (place-steps M strip.grid.west strip.grid.south w h (at t n.root).box base n.path (omega arith))
-    where
-      whole : (w x : ℕ) → x ≡ w * 2 ^ (M + 1) → x ≡ unit M w 0
-      whole w x e = e ∙ ap (λ (z : ℕ). w * 2 ^ z) (sym (sub-zero (M + 1)))
+      let R = (at t r).box in
+      rw (s.box, s.level) (place-steps M R.x0 R.y0 w h R (first_step M w R.x0 R.x1 x, first_step M h R.y0 R.y1 y) p (omega arith))
+
+  -- how many units of level 0 a root is wide, and how many high
+  pub record Units (r : ℕ) : Type 0 where
+    pub w : ℕ
+    pub h : ℕ
+    pub across : (at t r).box.x1 ≡ (at t r).box.x0 + unit M w 0
+    pub upright : (at t r).box.y1 ≡ (at t r).box.y0 + unit M h 0
+
+  whole : (w a b : ℕ) → b ≡ a + w * 2 ^ (M + 1) → b ≡ a + unit M w 0
+  whole w a b e = e ∙ ap (λ (z : ℕ). a + w * 2 ^ z) (sym (sub-zero (M + 1)))
+
+  pub root-units : (r : ℕ) → (at t r).parent ≡ None → Units r
+  root-units r top =
+      let f = formed.root r top in
+      let R = (at t r).box in
+      record { w = suc f.wide.0; h = suc f.high.0; across = whole (suc f.wide.0) R.x0 R.x1 f.wide.1; upright = whole (suc f.high.0) R.y0 R.y1 f.high.1 }
+
+  -- and a cell lies within its root
+  pub within-root : (r : ℕ) (p : Route) (i : ℕ) → find t r p ≡ Some i → Inside (at t i).box (at t r).box
+  within-root r p i e =
+      let s = tells M t formed r p i e in
+      let a = cell-positive M t formed r (root_in t r (find-rooted t r p i e)) in
+      rw s.box (place-inside (at t r).box a p)

@@ -3,14 +3,19 @@ use Rattle.std.specs.Prelude.{◌≡◌, List, [], ◌∷◌, ℤ, pos, length, 
 use Rattle.refusals.specs.Said.{Said, accepted}
 use Rattle.table.specs.declared.Head.{Head}
 use Rattle.cell.specs.Cells.{no_cell}
+use Rattle.table.specs.Mesh.{Cell}
 use Rattle.table.specs.Rows.{IsTable, cells_in, head_of}
+use Rattle.coarsest.specs.Passes.{balance}
 use Rattle.net_rows.specs.Nets.{sound_net}
 use Rattle.net_rows.specs.Polygons.{polygons_below}
 use Rattle.checks.specs.Checks.{conforming_says, layers_says, layer_fault}
 use Rattle.net.specs.Net.{Poly, Net, network, One}
 use Rattle.links.specs.declared.rows.Links.{Links}
 use Rattle.links.specs.Made.{linked_network}
-use Rattle.laws.specs.Made.{layers_of, components_of, AllApart, InRange, HasRoom, node_row}
+use Rattle.laws.specs.Made.{layers_of, components_of, InRange, HasRoom, node_row}
+use Rattle.laws.specs.Grids.{Balanced, Splits}
+use Rattle.laws.specs.Fit.{BoardFits}
+use Rattle.laws.specs.Built.{BuiltBoard, built}
 
 -- the net that is made of a table
 abbrev pub made : List ℤ → Head → List Poly → Net
@@ -42,40 +47,43 @@ net_layers_says t head ps n = layers_says t head (node_row n) n.edges n.cells (l
 abbrev pub net_conforming_says : List ℤ → Head → Net → Said
 net_conforming_says t head n = conforming_says t head (node_row n) n.edges n.cells
 
--- where no two polygons share layer and component, the by-layer check answers 'none', whatever the table
-abbrev pub ApartPolygonsPass : Type 0
-ApartPolygonsPass =
-    (t : List ℤ) (head : Head) (ps : List Poly) → IsTable t head → AllApart ps → IsTrue (polygons_below (length ps) (cells_in t head))
+-- of a balanced table whose polygons fit, and do not touch where they share layer and component, the by-layer check
+-- answers 'none'
+abbrev pub FittingBoardsPass : Type 0
+FittingBoardsPass =
+    (t : List ℤ) (head : Head) (ps : List Poly) → IsTable t head → Balanced (cells_in t head) → BoardFits (cells_in t head) ps
+    → IsTrue (polygons_below (length ps) (cells_in t head))
     → net_layers_says t head ps (made t head ps) ≡ accepted []
 
--- and where there is one polygon, so does the check by x and y alone
-abbrev pub OnePolygonPasses : Type 0
-OnePolygonPasses =
-    (t : List ℤ) (head : Head) (p : Poly) → IsTable t head → IsTrue (polygons_below 1 (cells_in t head))
-    → net_layers_says t head (p ∷ []) (made t head (p ∷ [])) ≡ accepted []
+-- so it does of what build leaves of such a board, refined in any way and balanced
+abbrev pub BuiltBoardsPass : Type 0
+BuiltBoardsPass =
+    (b : BuiltBoard) (u : List Cell) (t : List ℤ) (head : Head) (ps : List Poly)
+    → BoardFits (built b) ps → Splits b.board.settings.max_level (built b) u
+    → IsTable t head → cells_in t head ≡ balance b.board.settings.max_level u
+    → IsTrue (polygons_below (length ps) (cells_in t head))
+    → net_layers_says t head ps (made t head ps) ≡ accepted []
 
+-- and where there is one polygon the check by x and y alone does so of any table
 abbrev pub OnePolygonConforms : Type 0
 OnePolygonConforms =
     (t : List ℤ) (head : Head) (p : Poly) → IsTable t head → IsTrue (polygons_below 1 (cells_in t head))
     → net_conforming_says t head (made t head (p ∷ [])) ≡ accepted []
 
 -- links make no difference
-abbrev pub LinkedApartPolygonsPass : Type 0
-LinkedApartPolygonsPass =
-    (t : List ℤ) (head : Head) (ps : List Poly) (l : Links) → IsTable t head → AllApart ps → IsTrue (polygons_below (length ps) (cells_in t head))
+abbrev pub LinkedBoardsPass : Type 0
+LinkedBoardsPass =
+    (t : List ℤ) (head : Head) (ps : List Poly) (l : Links) → IsTable t head → Balanced (cells_in t head) → BoardFits (cells_in t head) ps
+    → IsTrue (polygons_below (length ps) (cells_in t head))
     → net_layers_says t head ps (linked t head ps l) ≡ accepted []
-
-abbrev pub LinkedOnePolygonPasses : Type 0
-LinkedOnePolygonPasses =
-    (t : List ℤ) (head : Head) (p : Poly) (l : Links) → IsTable t head → IsTrue (polygons_below 1 (cells_in t head))
-    → net_layers_says t head (p ∷ []) (linked t head (p ∷ []) l) ≡ accepted []
 
 abbrev pub LinkedOnePolygonConforms : Type 0
 LinkedOnePolygonConforms =
     (t : List ℤ) (head : Head) (p : Poly) (l : Links) → IsTable t head → IsTrue (polygons_below 1 (cells_in t head))
     → net_conforming_says t head (linked t head (p ∷ []) l) ≡ accepted []
 
--- two polygons of one layer and component, whose squares overlap: the second one's corner is the middle of the first one's south side, which
+-- two polygons of one layer and component, whose squares overlap: the second one's corner is the middle of the first
+-- one's south side, which
 -- stays whole
 abbrev pub overlapping : List ℤ
 overlapping =
@@ -88,7 +96,7 @@ square = record { layer = 1; component = 0; sheet = One }
 abbrev pub alike : List Poly
 alike = square ∷ square ∷ []
 
--- so it takes that no two polygons share both
+-- so it takes that polygons that share both do not touch
 abbrev pub AlikePolygonsMayHang : Type 0
 AlikePolygonsMayHang =
     let net = made overlapping (head_of 2 1) alike in

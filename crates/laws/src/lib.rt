@@ -5,7 +5,8 @@
 #![tactic(auto)]
 
 pub mod boundary;
-pub mod built_strip;
+pub mod built;
 pub mod hanging;
 pub mod made;
 pub mod records;
+pub mod samples;

@@ -2,8 +2,9 @@
 //! which its specs state and its proof file proves.
 
 ghost use Rattle.laws.specs.MadeNets.{MadeNetsAreSound, LinkedNetsAreSound, MadeNodesHaveRoom};
-ghost use Rattle.laws.specs.MadeNets.{ApartPolygonsPass, OnePolygonPasses, OnePolygonConforms, AlikePolygonsMayHang};
-ghost use Rattle.laws.specs.MadeNets.{LinkedApartPolygonsPass, LinkedOnePolygonPasses, LinkedOnePolygonConforms};
+ghost use Rattle.laws.specs.MadeNets.{FittingBoardsPass, BuiltBoardsPass, OnePolygonConforms, AlikePolygonsMayHang};
+ghost use Rattle.laws.specs.MadeNets.{LinkedBoardsPass, LinkedOnePolygonConforms};
+ghost use Rattle.laws.specs.Bands.{UnequalBands};
 
 /// No call refuses a made net, and its rows can hold it.
 #[tactic(auto, using(crate::proofs::Sound::sound))]
@@ -13,19 +14,18 @@ pub fn made_nets_are_sound()
     ensures nodes_have_room { MadeNodesHaveRoom }
 {}
 
-/// The checks find no node that hangs.
+/// The by-layer check passes a balanced board whose polygons fit, and the check by place any table of one polygon.
 #[tactic(auto, using(crate::proofs::Clean::pass))]
 pub fn made_nets_pass()
-    ensures polygons_apart { ApartPolygonsPass }
-    ensures one_polygon { OnePolygonPasses }
+    ensures board { FittingBoardsPass }
+    ensures built { BuiltBoardsPass }
     ensures one_polygon_by_place { OnePolygonConforms }
 {}
 
-/// Nor do they in a net with links.
+/// So they do with links.
 #[tactic(auto, using(crate::proofs::Clean::linked_pass))]
 pub fn linked_nets_pass()
-    ensures polygons_apart { LinkedApartPolygonsPass }
-    ensures one_polygon { LinkedOnePolygonPasses }
+    ensures board { LinkedBoardsPass }
     ensures one_polygon_by_place { LinkedOnePolygonConforms }
 {}
 
@@ -33,4 +33,10 @@ pub fn linked_nets_pass()
 #[tactic(auto, using(crate::proofs::Alike::alike_hangs))]
 pub fn alike_polygons_may_hang()
     ensures { AlikePolygonsMayHang }
+{}
+
+/// Where bands of unequal cells meet, a net may have a node that stands on a side and is not joined along it.
+#[tactic(auto, using(crate::proofs::Bands::unequal_bands))]
+pub fn unequal_bands()
+    ensures { UnequalBands }
 {}

@@ -12,7 +12,7 @@ use Rattle.table.specs.declared.view.Table.{Table}
 use Rattle.table.proofs.Listed.{order_ids-in, order_in-length}
 use Rattle.table.proofs.Order.{order-more}
 use Rattle.net_rows.specs.declared.rows.NetCell.{NetCell}
-use Rattle.links.specs.Rows.{cell_corners, end_of, cells_of, row_lists, lists_by}
+use Rattle.links.specs.Rows.{corner_numbers, end_of, cells_of, row_lists, lists_by}
 use Rattle.links.proofs.Parts.{list-is}
 
 -- ---- where the leaves of each polygon begin
@@ -90,8 +90,8 @@ module _ (row : List ℤ) (count : ℕ) (starts : List ℕ) (S : Started row cou
   unfolding lists_by row_lists
   rows-are =
       let l = S.long in
-      fill_by_all (λ p. flat_map cell_corners (take (length (polygon_ids row count p)) (drop (begin row count p) cells))) (row_lists cells starts) max_polygons []
-      (length-map-range_with_len (λ p. flat_map cell_corners (cells_of cells starts p)) 0 (length starts) ∙ l)
+      fill_by_all (λ p. flat_map corner_numbers (take (length (polygon_ids row count p)) (drop (begin row count p) cells))) (row_lists cells starts) max_polygons []
+      (length-map-range_with_len (λ p. flat_map corner_numbers (cells_of cells starts p)) 0 (length starts) ∙ l)
       (λ p h. sym (list-is cells starts p _ (omega arith) (part-is p h)))
 
 -- a cell each

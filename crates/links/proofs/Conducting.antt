@@ -1,11 +1,8 @@
 -- In the rules' ranges each link's conductance is finite and above 0, and so is that of every edge of a net with links. Assumes nothing.
-use Rattle.std.proofs.Common.{◌≡◌, refl, Bool, true, false, T, Some, None, Option, List, [], ◌∷◌, map, filter, ℕ, ◌+◌, ◌*◌, ◌<◌, ◌≤◌, arith, length, le_trans, mul-pos, mul-le-mul_right, zero-lt-suc, ltb→lt, lt→ltb, Float, pos, ℤ, rules, ◌&&◌}
+use Rattle.std.proofs.Common.{◌≡◌, refl, Bool, true, false, T, Some, None, Option, List, [], ◌∷◌, map, filter, ℕ, ◌*◌, ◌<◌, ◌≤◌, arith, length, le_trans, mul-pos, zero-lt-suc, Float, ℤ, rules, ◌&&◌}
 use Rattle.std.specs.Prelude.{option_to_list, slice_index_or}
 use Rattle.std.specs.List.{range_with_len, list_all}
-use Rattle.std.specs.Float.{float_is_finite}
-use lib.Ieee.{fin, binary64, up, down, round, mul, div, of_int, of_bits, le, lt}
-use lib.Ieee.Fits.{up_pos, down_pos}
-use lib.Ieee.Order.{round_mono}
+use lib.Ieee.{binary64, round, mul, div, of_int, of_bits, le}
 use lib.Ieee.Positive.{positive}
 use Rattle.std.proofs.Math.Nat.{mul-le-mul}
 use Rattle.std.proofs.lemmas.Bool.{false≢true}
@@ -16,19 +13,19 @@ use Rattle.std.proofs.lemmas.List.Sums.{AllPass-from_list_all}
 use Rattle.cell.specs.Boxes.{Box}
 use Rattle.table.specs.Mesh.{Cell}
 use Rattle.floats.specs.Fractions.{float, in_sheet, sheet_low, sheet_high}
-use Rattle.floats.proofs.Ranges.{In, in-positive, num-in, mul_in, div-in}
+use Rattle.floats.proofs.Ranges.{In, in-positive, num-in, div-in}
 use Rattle.floats.proofs.Bounds.{sheet-in, low-positive, high-positive}
 use Rattle.net_rows.specs.declared.rows.Node.{Node}
 use Rattle.net_rows.specs.Nodes.{in_ticks}
 use Rattle.net_rows.specs.Nets.{nth_node}
-use Rattle.net.specs.Net.{Poly, Piece, MeshNode, NetCell, Edge, One, ◌·◌, ◌÷◌, num, halves, face, distance, is_side, sheet_of, pieces, nodes_from, edges_from, patches_from, weighed, bare, weigh, network, Cornered}
+use Rattle.net.specs.Net.{Poly, Piece, MeshNode, NetCell, Edge, One, ◌÷◌, face, distance, is_side, pieces, nodes_from, edges_from, patches_from, weighed, bare, weigh, network, Cornered}
 use Rattle.net.specs.Laws.{HasArea, IsWithin, widest, IsPositive}
 use Rattle.net.proofs.All.{All, all_append, all-by, all-each, all-each-by, all_map, all-at, all_both}
 use Rattle.net.proofs.Leaves.{all-of, leaves-pieces, polys-pieces, BoxWithin, nodes-within}
 use Rattle.net.proofs.Sound.{patches-cornered}
 use Rattle.net.proofs.Every.{conducts, node-room}
 use Rattle.net.proofs.Faces.{Within, face-low, distance-low, side-distance}
-use Rattle.net.proofs.Conductances.{weighed-each, sheets-patches}
+use Rattle.net.proofs.Conductances.{weighed-each, sheets-patches, sheet-found, positive-is, weight-positive}
 use Rattle.links.specs.declared.rows.Contact.{Contact}
 use Rattle.links.specs.declared.rows.Footprint.{Footprint}
 use Rattle.links.specs.declared.rows.Via.{Via}
@@ -43,13 +40,6 @@ use Rattle.links.specs.Laws.{most_nodes, most_pairs, LinksConduct, LinkedEdgesCo
 
 abbrev Positive : Float → Type 0
 Positive x = T (positive x)
-
-positive-is : (x : Float) → Positive x → IsPositive x
-positive-is (fin false m e) p =
-    let q = mul-pos (mul-pos (ltb→lt 0 m p) (up_pos e)) (down_pos (pos 0)) in
-    let z : 0 * up (pos 0) * down e ≡ 0 = omega arith in
-    record { finite = unfold float_is_finite in refl; above_zero = unfold lt in lt→ltb (0 * up (pos 0) * down e) (m * up e * down (pos 0)) (omega arith) }
-positive-is x p = absurd p
 
 -- ---- one link's conductance
 
@@ -171,38 +161,6 @@ module _ (nodes : List Node) (few : length nodes ≤ most_nodes) where
       (all-of (λ (c : Channel). channel_in_range c ≡ true) l.channels.now channels)))
 
 -- ---- the weights
-
--- a face over a sheet resistance times a distance: the ends of their ranges
-record WeightBounds : Type 0 where
-  distance_one : Positive (num 1)
-  distance_most : Positive (num widest)
-  least_product : Positive (sheet_low · num 1)
-  most_product : Positive (sheet_high · num widest)
-  face_one : Positive (halves 1)
-  face_most : Positive (halves (widest + widest))
-  least_weight : Positive (halves 1 ÷ (sheet_high · num widest))
-  most_weight : Positive (halves (widest + widest) ÷ (sheet_low · num 1))
-
-weight_bounds : WeightBounds
-unfolding of_int round mul div
-weight_bounds = search rules
-
-weight-positive : (s : Float) (f d : ℕ) → T (in_sheet s) → 1 ≤ f → f ≤ widest + widest → 1 ≤ d → d ≤ widest → Positive (halves f ÷ (s · num d))
-weight-positive s f d p a b c e =
-    let w = weight_bounds in
-    let faces : In (halves 1) (halves (widest + widest)) (halves f) = record {
-      from = round_mono binary64 1 2 f 2 (zero-lt-suc 1) (zero-lt-suc 1) (mul-le-mul_right 2 a);
-      to = round_mono binary64 f 2 (widest + widest) 2 (zero-lt-suc 1) (zero-lt-suc 1) (mul-le-mul_right 2 b);
-    } in
-    let products = mul_in binary64 low-positive high-positive w.distance_one w.distance_most (sheet-in s p) (num-in d widest c e) in
-    in-positive w.least_weight w.most_weight (div-in binary64 w.face_one w.face_most w.least_product w.most_product faces products)
-
--- what holds of every cell with the pair holds of the first
-module _ (S : Float → Type 0) where
-  sheet-found : (cs : List NetCell) (a b : ℕ) (s : Float) → All (λ (c : NetCell). is_side c a b ≡ true → S c.sheet) cs → sheet_of cs a b ≡ Some s → S s
-  unfolding All sheet_of
-  sheet-found [] a b s h e = absurd (cc e)
-  sheet-found (c ∷ cs) a b s h e = grind (arith, h.0, sheet-found cs a b s h.1)
 
 -- any edges that conduct still do once they are weighed
 weighed-positive : (n : List MeshNode) (cs : List NetCell) (es : List Edge) → All (Within widest) n → All (Cornered n) cs → All (λ (c : NetCell). T (in_sheet c.sheet)) cs

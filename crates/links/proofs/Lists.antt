@@ -17,7 +17,7 @@ use Rattle.net.proofs.Positions.{position-left}
 use Rattle.net.proofs.All.{All, In, in-weld, weld-more, weld-has, all-by}
 use Rattle.net.proofs.Leaves.{length-pieces}
 use Rattle.net.proofs.Sound.{node-self}
-use Rattle.links.specs.Rows.{cell_corners}
+use Rattle.links.specs.Rows.{corner_numbers}
 use Rattle.links.specs.Made.{corner_lists}
 use Rattle.links.proofs.Sizes.{passed-map}
 
@@ -38,16 +38,16 @@ unfolding All
 map-same f g [] h = refl
 map-same f g (a ∷ l) h = ap₂ (λ x xs. x ∷ xs) h.0 (map-same f g l h.1)
 
-corners-in : (n : List MeshNode) (p : Poly) (rs : List Box) → flat_map cell_corners (map (patch_at n p) rs) ≡ map (number n) (flat_map (corners_at p) rs)
+corners-in : (n : List MeshNode) (p : Poly) (rs : List Box) → flat_map corner_numbers (map (patch_at n p) rs) ≡ map (number n) (flat_map (corners_at p) rs)
 corners-in n p [] = refl
 corners-in n p (r ∷ rs) =
-    ap (λ (l : List ℕ). cell_corners (patch_at n p r) ++ l) (corners-in n p rs) ∙ sym (map-append (number n) (corners_at p r) (flat_map (corners_at p) rs))
+    ap (λ (l : List ℕ). corner_numbers (patch_at n p r) ++ l) (corners-in n p rs) ∙ sym (map-append (number n) (corners_at p r) (flat_map (corners_at p) rs))
 
 module _ (n : List MeshNode) (q : Piece) (qs : List Piece) where
   abbrev here : List MeshNode
   here = weld same_node n (corners_of q)
 
-  piece-list : map (number (nodes_from here qs)) (corners_of q) ≡ flat_map cell_corners (map (patch_at here q.poly) q.leaves)
+  piece-list : map (number (nodes_from here qs)) (corners_of q) ≡ flat_map corner_numbers (map (patch_at here q.poly) q.leaves)
   unfolding corners_of
   piece-list =
       map-same (number (nodes_from here qs)) (number here) (corners_of q)
@@ -65,18 +65,18 @@ no_piece = record { poly = record { layer = 0; component = 0; sheet = Rattle.net
 
 -- list k is the corners of the cells of piece k, which stand behind those of the pieces before it
 pub list-cells : (n : List MeshNode) (qs : List Piece) (k : ℕ) → k < length qs
-    → slice_index_or (corner_lists (nodes_from n qs) qs) k [] ≡ flat_map cell_corners (take (length (get_or qs k no_piece).leaves) (drop (leaves_before qs k) (patches_from n qs)))
+    → slice_index_or (corner_lists (nodes_from n qs) qs) k [] ≡ flat_map corner_numbers (take (length (get_or qs k no_piece).leaves) (drop (leaves_before qs k) (patches_from n qs)))
 unfolding corner_lists nodes_from patches_from
 list-cells n [] k h = absurd (omega arith)
 list-cells n (q ∷ qs) zero h =
     piece-list n q qs
-    ∙ ap (flat_map cell_corners) (sym (take_at (map (patch_at (here n q qs) q.poly) q.leaves) (patches_from (here n q qs) qs) (length q.leaves) (length-map q.leaves (patch_at (here n q qs) q.poly))))
+    ∙ ap (flat_map corner_numbers) (sym (take_at (map (patch_at (here n q qs) q.poly) q.leaves) (patches_from (here n q qs) qs) (length q.leaves) (length-map q.leaves (patch_at (here n q qs) q.poly))))
 list-cells n (q ∷ qs) (suc k) h =
     let m = here n q qs in
     let own = map (patch_at m q.poly) q.leaves in
     let count : leaves_before (q ∷ qs) (suc k) ≡ length own + leaves_before qs k = sum_by-cons (λ (q : Piece). length q.leaves) q (take k qs) ∙ ap (λ (i : ℕ). i + leaves_before qs k) (sym (length-map q.leaves (patch_at m q.poly))) in
     list-cells m qs k (omega arith)
-    ∙ ap (λ (l : List NetCell). flat_map cell_corners (take (length (get_or qs k no_piece).leaves) l))
+    ∙ ap (λ (l : List NetCell). flat_map corner_numbers (take (length (get_or qs k no_piece).leaves) l))
     (sym (ap (λ (i : ℕ). drop i (own ++ patches_from m qs)) count ∙ drop-append-add own (patches_from m qs) (leaves_before qs k)))
 
 -- ---- by the numbers of leaves that a table has
@@ -121,12 +121,12 @@ module _ (row : List ℤ) (count : ℕ) where
 
     -- a polygon's list is the corners of its cells
     pub polygon-list : (k : ℕ) → k < length ps
-        → slice_index_or (corner_lists (bare qs).nodes qs) k [] ≡ flat_map cell_corners (take (length (polygon_ids row count k)) (drop (length (order_to row count k)) (bare qs).cells))
+        → slice_index_or (corner_lists (bare qs).nodes qs) k [] ≡ flat_map corner_numbers (take (length (polygon_ids row count k)) (drop (length (order_to row count k)) (bare qs).cells))
     unfolding bare
     polygon-list k h =
         let long = length-pieces (table row count) ps 0 in
         list-cells [] qs k (omega arith)
-        ∙ ap₂ (λ (m n : ℕ). flat_map cell_corners (take m (drop n (patches_from [] qs)))) (own-length k h) (before k (omega arith))
+        ∙ ap₂ (λ (m n : ℕ). flat_map corner_numbers (take m (drop n (patches_from [] qs)))) (own-length k h) (before k (omega arith))
 
     -- past the last polygon there is none
     pub no-list : (k : ℕ) → length ps ≤ k → slice_index_or (corner_lists (bare qs).nodes qs) k [] ≡ []

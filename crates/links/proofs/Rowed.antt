@@ -28,7 +28,7 @@ use Rattle.links.specs.declared.rows.Contact.{Contact}
 use Rattle.links.specs.declared.rows.Links.{Links}
 use Rattle.links.specs.declared.link.Link.TheVariants as Link
 use Rattle.links.specs.Made.{joined, nearest, conductance_of, corner_lists, contact_links, via_links, channel_links, links_of, links_on}
-use Rattle.links.specs.Rows.{cell_corners, lists_by}
+use Rattle.links.specs.Rows.{corner_numbers, lists_by}
 use Rattle.links.proofs.Begins.{begin, ended}
 use Rattle.links.proofs.Lists.{polygon-list, no-list, before}
 
@@ -99,13 +99,13 @@ module _ (row : List ℤ) (head : Head) (polygons : Polygons) (sheets : List Flo
   abbrev cells : List NetCell
   cells = (bare qs).cells
 
-  list-at : (k : ℕ) → k < max_polygons → get_or (lists_by row count cells) k [] ≡ flat_map cell_corners (take (length (polygon_ids row count k)) (drop (begin row count k) cells))
+  list-at : (k : ℕ) → k < max_polygons → get_or (lists_by row count cells) k [] ≡ flat_map corner_numbers (take (length (polygon_ids row count k)) (drop (begin row count k) cells))
   unfolding lists_by
-  list-at k h = get_or-map-range_with_len (λ p. flat_map cell_corners (take (length (polygon_ids row count p)) (drop (begin row count p) cells))) 0 max_polygons k k [] h (omega arith)
+  list-at k h = get_or-map-range_with_len (λ p. flat_map corner_numbers (take (length (polygon_ids row count p)) (drop (begin row count p) cells))) 0 max_polygons k k [] h (omega arith)
 
   list-past : (k : ℕ) → max_polygons ≤ k → get_or (lists_by row count cells) k [] ≡ []
   unfolding lists_by
-  list-past k h = get_or_past (lists_by row count cells) k [] (let n = length-map-range_with_len (λ p. flat_map cell_corners (take (length (polygon_ids row count p)) (drop (begin row count p) cells))) 0 max_polygons in omega arith)
+  list-past k h = get_or_past (lists_by row count cells) k [] (let n = length-map-range_with_len (λ p. flat_map corner_numbers (take (length (polygon_ids row count p)) (drop (begin row count p) cells))) 0 max_polygons in omega arith)
 
   lists-are : (k : ℕ) → get_or (lists_by row count cells) k [] ≡ get_or (corner_lists (bare qs).nodes qs) k []
   lists-are k =
@@ -114,7 +114,7 @@ module _ (row : List ℤ) (head : Head) (polygons : Polygons) (sheets : List Flo
       (λ (h : k < last). list-at k (omega arith) ∙ sym (polygon-list row count ps k (omega arith)))
       (λ (h : last ≤ k).
       ⊎_elim
-      (λ (g : k < max_polygons). list-at k g ∙ ap (λ (n : ℕ). flat_map cell_corners (take n (drop (begin row count k) cells))) (own-none k h))
+      (λ (g : k < max_polygons). list-at k g ∙ ap (λ (n : ℕ). flat_map corner_numbers (take n (drop (begin row count k) cells))) (own-none k h))
       (λ (g : max_polygons ≤ k). list-past k g)
       (cases_lt k max_polygons)
       ∙ sym (no-list row count ps k (omega arith)))

@@ -6,10 +6,9 @@ use native.Mathlib.Nat.{lt_of_le_of_lt, zero-mul, suc-mul, mul-one, one-mul, pow
 use Rattle.std.proofs.lemmas.Bool.{cases_lt}
 use Rattle.std.proofs.lemmas.List.{length-map}
 use Rattle.std.proofs.lemmas.Float.{T_from_true}
-use lib.Dec.{eqb, lit≤}
+use lib.Dec.{lit≤}
 use lib.Pow.{pow-add, pow_pos, pow_mono, pow-lt}
-use lib.Ieee.{fin, Format, binary64, prec, low, size, round, div, of_bits}
-use lib.Ieee.Bits.{cond_no}
+use lib.Ieee.{binary64, prec, low, size, round, div, of_bits}
 use lib.Ieee.Digits.{back}
 use lib.Ieee.Exact.{HasValue, round_exact}
 use lib.Ieee.Fits.{nearest-le, kept-lt}
@@ -17,8 +16,8 @@ use lib.Ieee.Order.{drop, kept}
 use lib.Ieee.Positive.{positive, num, den, den_pos, own_value, value_pos, positive_of_value, value→cross, values_of_le, positive-finite}
 use lib.Ieee.Scale.{grid, overflow, finite, round_same, round_val, round_under, normal_of_fraction}
 use Rattle.floats.specs.Fractions.{◌÷◌, float, sheet_high}
+use Rattle.floats.proofs.Ranges.{div_is}
 use Rattle.floats.proofs.Bounds.{float_value, sheet-positive}
-use Rattle.floats.proofs.Signs.{nonzero}
 use Rattle.net.specs.Net.{One, Edge}
 use Rattle.net.proofs.All.{All, all-each, all_map, all-at}
 use Rattle.links.specs.declared.link.Link.TheVariants as Link
@@ -62,13 +61,6 @@ same-value x a c b d h k =
 num_pos : (x : Float) → T (positive x) → 0 < num x
 num_pos x p = value_pos x (num x) (den x) p (den_pos x) (own_value x p)
 
--- a quotient of two positive numbers is a fraction, rounded
-quotient-is : (f : Format) (x y : Float) → T (positive x) → T (positive y) → div f x y ≡ round f false (num x * den y) (num y * den x)
-unfolding div
-quotient-is f (fin false m e) (fin false n d) p q = cond_no (eqb n 0) _ _ (nonzero n q)
-quotient-is f (fin false m e) y p q = absurd q
-quotient-is f x y p q = absurd p
-
 -- the format's digits and their unit
 kept-few : (p n den : ℕ) → kept p n den ≤ 2 ^ p
 kept-few p n den =
@@ -101,7 +93,7 @@ module _ (r : Float) (t : T (in_resistance r)) where
         let x = whole in
         let y = float k in
         let y-positive = positive_of_value y k 1 k-value K in
-        quotient-is binary64 x y (whole-positive r t) y-positive
+        div_is binary64 x y (whole-positive r t) y-positive
         ∙ round_same binary64 false (num x * den y) (num y * den x) p (k * q) (mul-pos (num_pos y y-positive) (den_pos x)) B
         (first (num x) (den y) k q ∙ ap₂ (λ (u w : ℕ). u * w) (value→cross x p q v) (sym (value→cross y k 1 k-value)) ∙ last p (den x) (num y))
       where
@@ -215,7 +207,7 @@ powers-share r m p q range few Q v =
     let x = One ÷ r in
     let a = num One * den r in
     let b = num r * den One in
-    let made : x ≡ round f false a b = quotient-is f One r bounds.one (sheet-positive r t) in
+    let made : x ≡ round f false a b = div_is f One r bounds.one (sheet-positive r t) in
     let end : T (finite (round f false a b)) = subst (λ (z : Float). T (finite z)) made (positive-finite x (whole-positive r t)) in
     let n = kept (prec f) (a * 2 ^ low f) b in
     let d = drop (prec f) (a * 2 ^ low f) b in

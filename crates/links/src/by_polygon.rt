@@ -2,7 +2,7 @@
 ghost use Rattle.std.specs.Prelude.{◌≡◌, ◌<◌, ◌≤◌, length, flat_map, slice_index, slice_index_or, All};
 ghost use Rattle.std.specs.List.Sorted.{IsNonDecreasing};
 ghost use Rattle.net_rows.specs.Facts.{IsSoundNode, AreKnown};
-ghost use Rattle.links.specs.Rows.{cell_corners, end_of};
+ghost use Rattle.links.specs.Rows.{corner_numbers, end_of};
 
 use crate::nearest::NodeList;
 use net_rows::{NetCell, Node};
@@ -56,7 +56,7 @@ impl<'a> NetByPolygon<'a> {
     // The cells of a polygon; none past the last.
     fn cells_of(&self, polygon: usize) -> &'a [NetCell]
         ensures known { All (λ c. AreKnown (length self.now.nodes.now) c.corners) result.now }
-        ensures corners { flat_map cell_corners result.now ≡ slice_index_or (lists_of self.now) polygon [] }
+        ensures corners { flat_map corner_numbers result.now ≡ slice_index_or (lists_of self.now) polygon [] }
     {
         if self.starts.len() <= polygon {
             return &[];
@@ -68,8 +68,8 @@ impl<'a> NetByPolygon<'a> {
     /// The nodes of a polygon; none past the last.
     #[tactic(auto, using(crate::proofs::Parts::corners_known))]
     pub fn corners_of(&self, polygon: usize) -> CornerList<'a>
-        ensures known { All (λ i. i < length self.now.nodes.now) (flat_map cell_corners result.cells.now) }
-        ensures corners { flat_map cell_corners result.cells.now ≡ slice_index_or (lists_of self.now) polygon [] }
+        ensures known { All (λ i. i < length self.now.nodes.now) (flat_map corner_numbers result.cells.now) }
+        ensures corners { flat_map corner_numbers result.cells.now ≡ slice_index_or (lists_of self.now) polygon [] }
     {
         CornerList {
             cells: self.cells_of(polygon),
@@ -78,7 +78,7 @@ impl<'a> NetByPolygon<'a> {
 }
 
 impl NodeList for CornerList<'_> {
-    ghost numbers = { λ s. flat_map cell_corners s.cells.now };
+    ghost numbers = { λ s. flat_map corner_numbers s.cells.now };
 
     fn count(&self) -> usize {
         4 * self.cells.len()

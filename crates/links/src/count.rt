@@ -21,7 +21,7 @@ use refusals::limits;
 use table::view::Table;
 
 /// How many edges each leaf has room for, without the links.
-const EDGES_A_LEAF: usize = 8;
+pub const EDGES_A_LEAF: usize = 8;
 
 // How corners inside a footprint are counted.
 #[derive(Clone, Copy, Debug, PartialEq, Eq)]

@@ -1,6 +1,5 @@
 //! The rows of links as a caller lends them: contacts between polygons, vias between layers, channels within a layer.
-ghost use Rattle.std.specs.Prelude.{◌≡◌};
-ghost use Rattle.std.specs.Prelude.{[]};
+ghost use Rattle.std.specs.Prelude.{◌≡◌, []};
 
 /// Two polygons that touch, by number. Where one is past the last polygon, or has no leaf, there is no link.
 #[repr(C)]

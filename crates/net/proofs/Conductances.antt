@@ -76,7 +76,7 @@ module _ (S : Float → Type 0) where
       (all_map (λ (c : NetCell). S c.sheet) (patch_at m q.poly) q.leaves (λ r. h.0)) (sheets-patches m qs h.1)
 
   -- of the one that is found, where it holds of every cell with the pair
-  sheet-found : (cs : List NetCell) (a b : ℕ) (s : Float) → All (λ (c : NetCell). is_side c a b ≡ true → S c.sheet) cs → sheet_of cs a b ≡ Some s → S s
+  pub sheet-found : (cs : List NetCell) (a b : ℕ) (s : Float) → All (λ (c : NetCell). is_side c a b ≡ true → S c.sheet) cs → sheet_of cs a b ≡ Some s → S s
   unfolding All sheet_of
   sheet-found [] a b s h e = absurd (cc e)
   sheet-found (c ∷ cs) a b s h e = grind (arith, h.0, sheet-found cs a b s h.1)
@@ -91,7 +91,7 @@ module _ (S : Float → Type 0) where
 
 -- ---- finite and above 0, as a test and as two facts
 
-positive-is : (x : Float) → T (positive x) → IsPositive x
+pub positive-is : (x : Float) → T (positive x) → IsPositive x
 positive-is (fin false m e) p =
     let q = mul-pos (mul-pos (ltb→lt 0 m p) (up_pos e)) (down_pos (pos 0)) in
     let z : 0 * up (pos 0) * down e ≡ 0 = omega arith in
@@ -200,7 +200,7 @@ least_resistance = least_product ÷ num widest
 abbrev most_resistance : Float
 most_resistance = most_product ÷ num 1
 
-abbrev widest_face : ℕ
+abbrev pub widest_face : ℕ
 widest_face = widest + widest
 
 -- these and what is made of them are finite and above 0
@@ -270,7 +270,7 @@ sides-positive p r s z =
     }
 
 -- a face over a sheet resistance times a distance
-weight-positive : (s : Float) (f d : ℕ) → T (in_sheet s) → 1 ≤ f → f ≤ widest_face → 1 ≤ d → d ≤ widest → Positive (halves f ÷ (s · num d))
+pub weight-positive : (s : Float) (f d : ℕ) → T (in_sheet s) → 1 ≤ f → f ≤ widest_face → 1 ≤ d → d ≤ widest → Positive (halves f ÷ (s · num d))
 weight-positive s f d p a b c e =
     in-positive bounds.low_weight bounds.high_weight
     (div-in binary64 bounds.halves_one bounds.halves_most bounds.low_product bounds.high_product (halves-in f widest_face a b) (product-in s d p c e))

@@ -18,7 +18,7 @@ in_right : (a b : List Edge) (x : Edge) → In same_pair b x → In same_pair (a
 in_right a b x h = grind (arith, length-append a b, in-more same_pair a b x, position-right same_pair a b x)
 
 -- the conductance plays no part
-any-g : (n : List MeshNode) (es : List Edge) (a b : MeshNode) (g : Float) → In same_pair es (join n a b g) → Joined n es a b
+pub any-g : (n : List MeshNode) (es : List Edge) (a b : MeshNode) (g : Float) → In same_pair es (join n a b g) → Joined n es a b
 any-g n es a b g h k = let e = position-same same_pair same_pair es es (join n a b g) (join n a b g) (join n a b k) (join n a b g) refl (λ i p. refl) in omega arith
 
 -- a side whose parts are all there
@@ -58,13 +58,20 @@ edges-in : (t : List Cell) (ps : List Poly) (pre : List Piece) (q : Piece) (qs :
 unfolding network weigh bare
 edges-in t ps pre q qs x e h = weighed-in _ _ (edges_from [] (pieces t ps 0)) x (subst (λ (z : List Piece). In same_pair (edges_from [] z) x) (sym e) (edges-append [] pre q qs x h))
 
-pub no-half-hangs : (t : List Cell) (ps : List Poly) (pre : List Piece) (q : Piece) (qs : List Piece) → pieces t ps 0 ≡ pre ++ (q ∷ qs)
-    → All (HalvedSides (so_far pre q) (network t ps).edges q.poly) q.leaves
+-- the parts of the sides of a polygon's leaves are edges of the net
+pub sides-in : (t : List Cell) (ps : List Poly) (pre : List Piece) (q : Piece) (qs : List Piece) → pieces t ps 0 ≡ pre ++ (q ∷ qs)
+    → All (λ (r : Box). All (In same_pair (network t ps).edges) (sides_at (so_far pre q) q.poly r)) q.leaves
 unfolding edges_of
-no-half-hangs t ps pre q qs e =
+sides-in t ps pre q qs e =
     let n = so_far pre q in
     let es = (network t ps).edges in
     let parts = flat_map (sides_at n q.poly) q.leaves in
-    all-by (λ (r : Box). All (In same_pair es) (sides_at n q.poly r)) (HalvedSides n es q.poly) q.leaves (λ r h. leaf-halved n es q.poly r h)
-    (all-each-back (In same_pair es) (sides_at n q.poly) q.leaves
-    (all-by (In same_pair (weld same_pair [] parts)) (In same_pair es) parts (λ x h. edges-in t ps pre q qs x e h) (weld-has same_pair pair-self [] parts)))
+    all-each-back (In same_pair es) (sides_at n q.poly) q.leaves
+    (all-by (In same_pair (weld same_pair [] parts)) (In same_pair es) parts (λ x h. edges-in t ps pre q qs x e h) (weld-has same_pair pair-self [] parts))
+
+pub no-half-hangs : (t : List Cell) (ps : List Poly) (pre : List Piece) (q : Piece) (qs : List Piece) → pieces t ps 0 ≡ pre ++ (q ∷ qs)
+    → All (HalvedSides (so_far pre q) (network t ps).edges q.poly) q.leaves
+no-half-hangs t ps pre q qs e =
+    let n = so_far pre q in
+    let es = (network t ps).edges in
+    all-by (λ (r : Box). All (In same_pair es) (sides_at n q.poly r)) (HalvedSides n es q.poly) q.leaves (λ r h. leaf-halved n es q.poly r h) (sides-in t ps pre q qs e)

@@ -8,14 +8,13 @@ ghost use Rattle.links.specs.Judged.{links_in_range};
 ghost use Rattle.network.specs.Says.{first_bad, judged};
 
 use links::Links;
+pub use links::count::EDGES_A_LEAF;
 use net_rows::Polygons;
 use refusals::{Refusal, limits};
 use table::{Head, Table};
 
 /// Room that is asked for each leaf. A cell takes one row; a link takes an edge row besides.
 pub const NODES_A_LEAF: usize = 4;
-
-pub const EDGES_A_LEAF: usize = 8;
 
 pub const WORK_A_LEAF: usize = 64;
 

@@ -40,9 +40,9 @@ fn is_upto<const N: usize>(entry: &[u64; N], key: &[u64]) -> bool
     true
 }
 
-// How many entries are below a key, which stand in front.
+/// How many entries are below a key, which stand in front.
 #[inline(always)]
-fn count_below<const N: usize>(row: &[[u64; N]], key: &[u64]) -> usize
+pub fn count_below<const N: usize>(row: &[[u64; N]], key: &[u64]) -> usize
     requires few_columns { N < 16 }
     requires key_fits { length key.now ≤ N }
     requires sorted { IsSorted (slice_cmp nat_cmp) row.now }
@@ -59,9 +59,9 @@ fn count_below<const N: usize>(row: &[[u64; N]], key: &[u64]) -> usize
     )
 }
 
-// How many entries are below a key or begin with it, which stand in front.
+/// How many entries are below a key or begin with it, which stand in front.
 #[inline(always)]
-fn count_upto<const N: usize>(row: &[[u64; N]], key: &[u64]) -> usize
+pub fn count_upto<const N: usize>(row: &[[u64; N]], key: &[u64]) -> usize
     requires few_columns { N < 16 }
     requires key_fits { length key.now ≤ N }
     requires sorted { IsSorted (slice_cmp nat_cmp) row.now }

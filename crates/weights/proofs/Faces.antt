@@ -13,7 +13,7 @@ use Rattle.net_rows.specs.declared.rows.Node.{Node}
 use Rattle.net.specs.Net.{Edge, NetCell, Way, nth, lesser_of, flat, face, distance, num, halves, Half, ◌·◌, sheet_of, weight, weighed, Ends}
 use Rattle.net.proofs.All.{All, all_map}
 use Rattle.net.proofs.Faces.{Within, face-low, distance-low}
-use Rattle.weights.specs.declared.axes.Axis.TheVariants.{Column, Row}
+use Rattle.net_rows.specs.declared.axis.Axis.TheVariants.{Column, Row}
 use Rattle.weights.specs.declared.weigh.Extents.{Extents}
 use Rattle.weights.specs.Bare.{across_of, face_of, distance_of, HasExtents, Extended}
 use Rattle.weights.proofs.Facing.{facing_at}

@@ -7,8 +7,8 @@ use Rattle.net_rows.specs.Nodes.{in_mesh}
 use Rattle.net_rows.specs.declared.rows.Node.{Node}
 use Rattle.net.specs.Net.{MeshNode, same_place, nth, nowhere, turned}
 use Rattle.net.proofs.Keys.{both, both_of}
-use Rattle.weights.specs.declared.axes.Axis.{Axis}
-use Rattle.weights.specs.declared.axes.Axis.TheVariants.{Column, Row}
+use Rattle.net_rows.specs.declared.axis.Axis.{Axis}
+use Rattle.net_rows.specs.declared.axis.Axis.TheVariants.{Column, Row}
 use Rattle.weights.specs.declared.lent.BareNet.{BareNet}
 use Rattle.weights.specs.Lines.{facing, all_facing, place_of}
 use Rattle.weights.specs.Bare.{nodes_of, faced}

@@ -1,7 +1,7 @@
 -- Gaps by ways.
 use Rattle.std.proofs.Common.{ℕ, List, arith}
 use Rattle.net.specs.Net.{MeshNode, gap}
-use Rattle.weights.specs.declared.axes.Axis.TheVariants.{Column, Row}
+use Rattle.net_rows.specs.declared.axis.Axis.TheVariants.{Column, Row}
 use Rattle.weights.specs.declared.extents.Way.TheVariants.{Up, Down, Right, Left}
 use Rattle.weights.specs.Lines.{all_facing, Gapped}
 use Rattle.weights.specs.Ways.{GapsAlong}

@@ -2,8 +2,8 @@
 use Rattle.std.proofs.Common.{◌≡◌, ℕ, ◌+◌, ◌-◌, ◌/◌, ◌<◌, List, [], ◌∷◌, Option, None, refl, sym, ap, ◌∙◌, subst, arith}
 use Rattle.cell.specs.Boxes.{mid}
 use Rattle.net.specs.Net.{MeshNode, NetCell, nth, hangs_at, box_of, size_of}
-use Rattle.weights.specs.declared.axes.Axis.{Axis}
-use Rattle.weights.specs.declared.axes.Axis.TheVariants.{Column, Row}
+use Rattle.net_rows.specs.declared.axis.Axis.{Axis}
+use Rattle.net_rows.specs.declared.axis.Axis.TheVariants.{Column, Row}
 use Rattle.weights.specs.declared.extents.Way.{Way}
 use Rattle.weights.specs.declared.extents.Way.TheVariants.{Up, Down, Right, Left}
 use Rattle.weights.specs.Lines.{facing, all_facing, place_of, IsLast, LastIs, IsStep}

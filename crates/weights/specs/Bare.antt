@@ -5,8 +5,8 @@ use Rattle.net_rows.specs.Nodes.{in_mesh}
 use Rattle.net.specs.Net.{MeshNode, NetCell, nth}
 use Rattle.net.specs.Net.Way.{up, down, right, left}
 use Rattle.weights.specs.declared.lent.BareNet.{BareNet}
-use Rattle.weights.specs.declared.axes.Axis.{Axis}
-use Rattle.weights.specs.declared.axes.Axis.TheVariants.{Column, Row}
+use Rattle.net_rows.specs.declared.axis.Axis.{Axis}
+use Rattle.net_rows.specs.declared.axis.Axis.TheVariants.{Column, Row}
 use Rattle.weights.specs.declared.weigh.Extents.{Extents}
 use Rattle.weights.specs.Lines.{all_facing, Reaches}
 

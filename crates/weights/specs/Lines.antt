@@ -5,8 +5,8 @@ use Rattle.std.specs.Option.{option_map_or}
 use Rattle.std.specs.Ordering.{nat_cmp}
 use Rattle.std.specs.Cmp.Lexicographic.{slice_cmp}
 use Rattle.net.specs.Net.{MeshNode, NetCell, Way, nth, turned, next_gap, prev_gap, extent}
-use Rattle.weights.specs.declared.axes.Axis.{Axis}
-use Rattle.weights.specs.declared.axes.Axis.TheVariants.{Column, Row}
+use Rattle.net_rows.specs.declared.axis.Axis.{Axis}
+use Rattle.net_rows.specs.declared.axis.Axis.TheVariants.{Column, Row}
 
 -- along columns a node is as it is; a row is a column once x and y are exchanged
 abbrev pub facing : Axis → MeshNode → MeshNode

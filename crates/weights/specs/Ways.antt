@@ -2,8 +2,8 @@
 use Rattle.std.specs.Prelude.{◌≡◌, ℕ, ◌<◌, List, length, slice_index}
 use Rattle.net.specs.Net.{MeshNode, Way as NetWay, gap}
 use Rattle.net.specs.Net.Way.{up, down, right, left}
-use Rattle.weights.specs.declared.axes.Axis.{Axis}
-use Rattle.weights.specs.declared.axes.Axis.TheVariants.{Column, Row}
+use Rattle.net_rows.specs.declared.axis.Axis.{Axis}
+use Rattle.net_rows.specs.declared.axis.Axis.TheVariants.{Column, Row}
 use Rattle.weights.specs.declared.extents.Way.{Way}
 use Rattle.weights.specs.declared.extents.Way.TheVariants.{Up, Down, Right, Left}
 

@@ -7,29 +7,20 @@ ghost use Rattle.weights.specs.Lines.{facing, Lined, LastIs};
 ghost use Rattle.weights.specs.Bare.{faced};
 
 use crate::lent::BareNet;
-use net_rows::MeshNode;
+use net_rows::{Axis, MeshNode};
 use sorted::{Entries, sort_entries};
 
-/// Which lines nodes are neighbours on: columns run up, rows run right.
-#[derive(Clone, Copy)]
-pub enum Axis {
-    Column,
-    Row,
-}
-
-impl Axis {
-    /// A node as it stands on the lines: x is the line, y how far along it.
-    pub fn facing(self, node: MeshNode) -> MeshNode
-        ensures { result ≡ facing self node }
-    {
-        match self {
-            Axis::Column => node,
-            Axis::Row => MeshNode {
-                x: node.y,
-                y: node.x,
-                ..node
-            },
-        }
+/// A node as it stands on the lines of an axis: x is the line, y how far along it.
+pub fn facing(axis: Axis, node: MeshNode) -> MeshNode
+    ensures { result ≡ facing axis node }
+{
+    match axis {
+        Axis::Column => node,
+        Axis::Row => MeshNode {
+            x: node.y,
+            y: node.x,
+            ..node
+        },
     }
 }
 

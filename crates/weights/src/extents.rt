@@ -7,9 +7,9 @@ ghost use Rattle.weights.specs.Lines.{Lined, Gapped, Stepped, LastIs, Reaches, r
 ghost use Rattle.weights.specs.Ways.{way_of, axis_of, axis_across, side_at, GapsAlong};
 ghost use Rattle.weights.specs.Bare.{nodes_of, faced};
 
-use crate::axes::{Axis, Entry, Step, last_at};
+use crate::axes::{Entry, Step, last_at};
 use crate::lent::BareNet;
-use net_rows::{Corners, NetCell};
+use net_rows::{Axis, Corners, NetCell};
 
 // From the k-th entry to the next one of its line; 0 at the line's end.
 fn rise_at(row: &[Entry], k: usize) -> u64

@@ -3,8 +3,8 @@ ghost use Rattle.std.specs.Prelude.{◌≡◌, ◌*◌, ◌^◌, ◌<◌, ◌≤
 ghost use Rattle.refusals.specs.Limits.{max_slots};
 ghost use Rattle.net_rows.specs.Facts.{AreKnown};
 
-use crate::axes::Axis;
-use net_rows::{MeshNode, NetCell, Node};
+use crate::axes::facing;
+use net_rows::{Axis, MeshNode, NetCell, Node};
 
 /// The nodes and the cells of a net.
 #[derive(Clone, Copy)]
@@ -28,7 +28,7 @@ impl BareNet<'_> {
         ensures value { result ≡ nth (faced self.now axis) node }
         ensures line_narrow { result.x < 2 ^ 38 }
     {
-        axis.facing(self.nodes[node].in_mesh())
+        facing(axis, self.nodes[node].in_mesh())
     }
 
     /// The corners of a cell, from the south-western one round.

@@ -3,12 +3,12 @@ ghost use Rattle.std.specs.Prelude.{◌≡◌, ◌*◌, ◌≤◌, map, length, 
 ghost use Rattle.net.specs.Net.{weighed, Ends};
 ghost use Rattle.weights.specs.Bare.{nodes_of};
 
-use crate::axes::{Axis, Entry, Step, sort_nodes};
+use crate::axes::{Entry, Step, sort_nodes};
 use crate::extents::{Way, raise_hanging, write_gaps, write_steps};
 use crate::lent::BareNet;
 use crate::sides::sort_sides;
 use crate::weigh::{Extents, weigh_edges};
-use net_rows::Edge;
+use net_rows::{Axis, Edge};
 
 /// For each corner of a cell, and so for each node and for each side of a cell: a key and an entry to sort by, the
 /// extents of the node, and the step from it.

@@ -4,10 +4,10 @@ ghost use Rattle.net.specs.Net.{weight, weighed, Ends};
 ghost use Rattle.weights.specs.Sides.{Sided};
 ghost use Rattle.weights.specs.Bare.{nodes_of, across_of, face_of, distance_of, HasExtents, Extended};
 
-use crate::axes::{Axis, Entry};
+use crate::axes::Entry;
 use crate::lent::BareNet;
 use crate::sides::first_cell;
-use net_rows::Edge;
+use net_rows::{Axis, Edge};
 
 /// How far each node reaches, in half ticks.
 #[derive(Clone, Copy)]

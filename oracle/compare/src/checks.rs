@@ -4,15 +4,17 @@
 use crate::port::{checks as port, lent, outcome_of};
 use crate::report::Report;
 use crate::rows::{difference, shown, unused};
-use calls::checks::{check_by_layer, check_network_conforming, Hanging};
+use calls::checks::{check_by_layer, check_middles_by_layer, check_network_conforming, Hanging};
 use calls::net::Net;
 use calls::sheets::Sheets;
 use calls::Answer;
+use inputs::chains::chain;
 use inputs::damage::damage;
 use inputs::large_meshes::large_mesh;
 use inputs::mesh_faults::{add_too_many, drop_polygons, spoil_rows};
 use inputs::meshes::{any_mesh, boundary_meshes, Mesh};
 use inputs::net_changes::change_net;
+use inputs::stepped_meshes::{ring_mesh, stepped_mesh, RINGS};
 use inputs::Random;
 use leafmesh::ffi::CheckOutcome;
 
@@ -27,6 +29,8 @@ const LARGE_MESHES: usize = 6;
 const FAULTY_ONE_IN: u64 = 8;
 /// How often a boundary net is changed.
 const CHANGES: usize = 300;
+/// How often a net of chains is changed besides.
+const CHANGED_ONE_IN: u64 = 8;
 
 struct Reports {
     network: Report,
@@ -34,10 +38,14 @@ struct Reports {
     /// Accepted calls that left a work room of zeros, and those that left it alone.
     cleared: u64,
     kept: u64,
+    /// Answers by layer that aren't those of middles alone, and those that name a node off the middle.
+    otherwise: u64,
+    off_middle: u64,
 }
 
-/// Boundary meshes, `count` random ones and a few large ones, each with its own net, with a changed
-/// net and now and then with a net of another table or a fault of its own.
+/// Boundary meshes, `count` random ones, half as many out of step and a few large ones, each with its
+/// own net, with a changed net, with one of chains along its sides, and now and then with a net of
+/// another table or a fault of its own.
 pub fn compare(count: u64, seed: u64) -> bool {
     let mut random = Random::new(seed);
     let mut reports = Reports {
@@ -45,15 +53,21 @@ pub fn compare(count: u64, seed: u64) -> bool {
         by_layer: Report::new("check_by_layer"),
         cleared: 0,
         kept: 0,
+        otherwise: 0,
+        off_middle: 0,
     };
-    for mesh in boundary_meshes() {
+    let rings = RINGS.map(|(target, ring)| ring_mesh(target, ring));
+    for mesh in boundary_meshes().into_iter().chain(rings) {
         let net = net_of(&mesh);
         reports.run_in_rooms(&mesh, &net);
         (0..CHANGES).for_each(|_| reports.run_changed(&mesh, &net, &mut random));
+        (0..CHANGES).for_each(|_| reports.run_chained(&mesh, &net, &mut random));
     }
-    for _ in 0..count {
-        let mesh = any_mesh(&mut random);
-        reports.run_mesh(mesh, &mut random);
+    for turn in 0..count {
+        reports.run_mesh(any_mesh(&mut random), &mut random);
+        if turn % 2 == 0 {
+            reports.run_mesh(stepped_mesh(&mut random), &mut random);
+        }
     }
     for turn in 0..LARGE_MESHES {
         let mesh = large_mesh(&mut random, turn);
@@ -78,12 +92,20 @@ fn plenty(mesh: &Mesh, net: &Net) -> usize {
         + PLENTY_AN_EDGE * net.edges.len()
 }
 
-/// Polygons as the by-layer check is lent them: it takes no sheet resistances.
-fn by_layer(mesh: &Mesh, net: &Net) -> Answer<Option<Hanging>> {
+/// The answer by layer, and that of middles alone. Polygons are as the check is lent them: it takes
+/// no sheet resistances.
+fn by_layer(mesh: &Mesh, net: &Net) -> [Answer<Option<Hanging>>; 2] {
     let table = &mesh.table;
     let r_sheet = vec![1.0; mesh.layers.len()];
     let sheets = Sheets { layer: &mesh.layers, component: &mesh.components, r_sheet: &r_sheet };
-    check_by_layer(&table.row, table.count, table.max_level, &sheets, net)
+    [check_by_layer, check_middles_by_layer]
+        .map(|check| check(&table.row, table.count, table.max_level, &sheets, net))
+}
+
+/// Whether the node isn't halfway between the ends.
+fn is_off_middle(net: &Net, found: Hanging) -> bool {
+    let [node, from, to] = [found.node, found.from, found.to].map(|node| net.nodes[node].place());
+    (0..2).any(|axis| 2 * node[axis] != from[axis] + to[axis])
 }
 
 fn expected_outcome(answer: Answer<Option<Hanging>>) -> CheckOutcome {
@@ -128,12 +150,14 @@ impl Work {
 }
 
 impl Reports {
-    /// The mesh with its own net, with a changed one, and with a net or polygons that don't fit it.
+    /// The mesh with its own net, with a changed one, with chains, and with a net or polygons that
+    /// don't fit it.
     fn run_mesh(&mut self, mesh: Mesh, random: &mut Random) {
         let net = net_of(&mesh);
         let room = random.pick(&rooms(&mesh, &net));
         self.run(&mesh, &net, room);
         self.run_changed(&mesh, &net, random);
+        self.run_chained(&mesh, &net, random);
         if random.one_in(FAULTY_ONE_IN) {
             self.run_faulty(mesh, net, random);
         }
@@ -165,6 +189,17 @@ impl Reports {
         self.run(&mesh, &net, room);
     }
 
+    /// Chains along the sides, now and then with a change of any kind.
+    fn run_chained(&mut self, mesh: &Mesh, net: &Net, random: &mut Random) {
+        let mut net = net.clone();
+        chain(&mut net, mesh, random);
+        if random.one_in(CHANGED_ONE_IN) {
+            change_net(&mut net, random);
+        }
+        let room = random.pick(&rooms(mesh, &net));
+        self.run(mesh, &net, room);
+    }
+
     /// A damaged table, polygon rows of unequal length, too few or too many of them.
     fn run_faulty(&mut self, mut mesh: Mesh, mut net: Net, random: &mut Random) {
         match random.below(4) {
@@ -190,7 +225,8 @@ impl Reports {
         judge(&mut self.network, (mesh, net), answer, got, &work);
 
         let mut work = Work::of_length(room);
-        let answer = by_layer(mesh, net);
+        let [answer, middles] = by_layer(mesh, net);
+        self.count_finds(net, answer, middles);
         let (layers, components) = (&mesh.layers, &mesh.components);
         let got = port::check_by_layer(table, lent.rows(), layers, components, &mut work.after);
         self.count_work(answer.is_ok(), &work);
@@ -204,8 +240,23 @@ impl Reports {
         }
     }
 
+    fn count_finds(
+        &mut self,
+        net: &Net,
+        answer: Answer<Option<Hanging>>,
+        middles: Answer<Option<Hanging>>,
+    ) {
+        self.otherwise += u64::from(answer != middles);
+        let off = matches!(answer, Ok(Some(found)) if is_off_middle(net, found));
+        self.off_middle += u64::from(off);
+    }
+
     /// Says what was run; true if nothing differed.
     fn print(&self) -> bool {
+        println!(
+            "checks: by layer {} answers aren't those of middles alone, {} name a node off the middle",
+            self.otherwise, self.off_middle
+        );
         println!(
             "checks: work rooms of accepted calls: {} cleared, {} kept",
             self.cleared, self.kept

@@ -1,6 +1,7 @@
 //! Seeded inputs for the comparison. The same seed gives the same inputs everywhere.
 
 pub mod boards;
+pub mod chains;
 pub mod damage;
 pub mod large_meshes;
 pub mod limit_plans;
@@ -20,6 +21,7 @@ pub mod records;
 pub mod rectangles;
 pub mod ring_faults;
 pub mod rings;
+pub mod stepped_meshes;
 pub mod tables;
 pub mod whole_boards;
 

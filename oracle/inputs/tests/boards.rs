@@ -1,7 +1,7 @@
 //! Strips, build, nets, power and the two checks, on random boards.
 
 use calls::build::{build, cells_along};
-use calls::checks::{check_by_layer, check_network_conforming};
+use calls::checks::{check_middles_by_layer, check_network_conforming};
 use calls::even::balance;
 use calls::net::Net;
 use calls::network::{network, NetRoom};
@@ -157,9 +157,10 @@ fn has_level_steps(table: &Table) -> bool {
     levels.iter().min() != levels.iter().max()
 }
 
-/// Of one polygon the two checks must agree, on sound nets and on nets with an edge taken out.
+/// Of one polygon the walk by layer that asks for middles alone must agree with the original's, on sound
+/// nets and on nets with an edge taken out.
 #[test]
-fn the_checks_agree_where_there_is_one_polygon() {
+fn the_walks_agree_on_middles_where_there_is_one_polygon() {
     let mut random = Random::new(25);
     let (mut none, mut some) = (0, 0);
     for (board, table, net) in meshes(26, 3_000) {
@@ -172,14 +173,15 @@ fn the_checks_agree_where_there_is_one_polygon() {
         }
         for net in [&net, &damaged] {
             let (row, count, level) = (&table.row, table.count, table.max_level);
-            let by_layer = check_by_layer(row, count, level, &board.sheets(), net);
+            let by_layer = check_middles_by_layer(row, count, level, &board.sheets(), net);
             assert_eq!(check_network_conforming(row, count, level, net), by_layer);
             match by_layer.expect("both are sound") {
                 None => none += 1,
                 Some(_) => some += 1,
             }
         }
-        let whole = check_by_layer(&table.row, table.count, table.max_level, &board.sheets(), &net);
+        let (row, count, level) = (&table.row, table.count, table.max_level);
+        let whole = check_middles_by_layer(row, count, level, &board.sheets(), &net);
         assert_eq!(whole, Ok(None));
     }
     assert!(none > 500 && some > 50, "{none} {some}");

@@ -15,6 +15,7 @@ use inputs::mesh_faults::{add_too_many, drop_polygons, spoil_rows};
 use inputs::meshes::{any_mesh, boundary_meshes, Mesh};
 use inputs::net_changes::change_softly;
 use inputs::nets::{random_net, random_potentials, spoil_potentials};
+use inputs::stepped_meshes::{ring_mesh, RINGS};
 use inputs::Random;
 
 const POWER: u64 = 1;
@@ -53,6 +54,7 @@ pub fn replay(count: u64, random: &mut Random) -> Replay {
         run_power(&net, random, &mut replay);
         run_checks(&mesh, &Rows::of(&net), random, &mut replay);
     }
+    run_rings(&mut replay);
     replay.draw();
     for _ in 0..DRAWS * count {
         let net = random_net(random);
@@ -63,6 +65,21 @@ pub fn replay(count: u64, random: &mut Random) -> Replay {
     }
     links::offer(&mut replay);
     replay
+}
+
+/// The three rings of docs/RULES.md, "The checks", by layer: the first by both walks, without work room
+/// and in just enough, the others by one each, since the stream is nearly full.
+fn run_rings(replay: &mut Replay) {
+    let walks: [&[bool]; 3] = [&[false, true], &[false], &[true]];
+    for ((target, ring), walks) in RINGS.into_iter().zip(walks) {
+        replay.name(&format!("a ring out of step, target {target}"));
+        let mesh = ring_mesh(target, ring);
+        let rows = Rows::of(&mesh.net().expect("a sound mesh has a net"));
+        for &quick in walks {
+            let room = if quick { work_needed(&rows) } else { 0 };
+            run_by_layer(&mesh, &rows, room, replay);
+        }
+    }
 }
 
 /// Each row holds its own number at each place; an accepted call writes the front and zeroes the
@@ -197,25 +214,37 @@ fn run_checks(mesh: &Mesh, rows: &Rows, random: &mut Random, replay: &mut Replay
     if !fits(rows) || mesh.table.row.len() > TABLE || polygons > POLYGONS {
         return;
     }
-    let (table, net) = (&mesh.table, rows.net());
-    let need = WORK_A_NODE * (rows.nodes.len() / 4) + WORK_AN_EDGE * (rows.ends.len() / 2);
+    let need = work_needed(rows);
     let room = random.pick(&[0, need.saturating_sub(1).min(40), need, need, need + 5]);
+    run_by_place(mesh, rows, room, replay);
+    run_by_layer(mesh, rows, room, replay);
+}
 
+fn work_needed(rows: &Rows) -> usize {
+    WORK_A_NODE * (rows.nodes.len() / 4) + WORK_AN_EDGE * (rows.ends.len() / 2)
+}
+
+fn run_by_place(mesh: &Mesh, rows: &Rows, room: usize, replay: &mut Replay) {
+    let table = &mesh.table;
     let mut case = lent(NETWORK_CONFORMING, rows);
     lend_table(&mut case, mesh);
-    let lent_net = net.as_ref().map_err(|why| *why);
-    let answer = lent_net
-        .and_then(|net| check_network_conforming(&table.row, table.count, table.max_level, net));
-    finish("check_network_conforming", case, answer, room, need, replay);
+    let answer = rows
+        .net()
+        .and_then(|net| check_network_conforming(&table.row, table.count, table.max_level, &net));
+    finish("check_network_conforming", case, answer, room, work_needed(rows), replay);
+}
 
+fn run_by_layer(mesh: &Mesh, rows: &Rows, room: usize, replay: &mut Replay) {
+    let table = &mesh.table;
     let mut case = lent(BY_LAYER, rows);
     lend_table(&mut case, mesh);
     lend_polygons(&mut case, mesh);
     let r_sheet = vec![1.0; mesh.layers.len()];
     let sheets = Sheets { layer: &mesh.layers, component: &mesh.components, r_sheet: &r_sheet };
-    let answer = lent_net
-        .and_then(|net| check_by_layer(&table.row, table.count, table.max_level, &sheets, net));
-    finish("check_by_layer", case, answer, room, need, replay);
+    let answer = rows
+        .net()
+        .and_then(|net| check_by_layer(&table.row, table.count, table.max_level, &sheets, &net));
+    finish("check_by_layer", case, answer, room, work_needed(rows), replay);
 }
 
 pub fn lend_table(case: &mut Case, mesh: &Mesh) {

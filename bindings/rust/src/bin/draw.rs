@@ -68,7 +68,8 @@ fn of_board(file: &str, asked: &Asked) -> Result<Picture, String> {
     }
     let (system, by) = match System::of_linked_cells(&net) {
         Ok(system) => (system, ""),
-        // A side's end that hangs itself, as polygons over each other may have: the conductances are what is left.
+        // A side's end that hangs itself, as polygons over each other may have, or a node off a side's middle, if it is
+        // joined: the conductances are what is left.
         Err(_) => (System::of_net(net.rows()), " by the net's conductances"),
     };
     let volts = system

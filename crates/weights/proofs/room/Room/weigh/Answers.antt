@@ -1,4 +1,4 @@
-use Rattle.weights.specs.declared.axes.Axis.TheVariants.{Column, Row}
+use Rattle.net_rows.specs.declared.axis.Axis.TheVariants.{Column, Row}
 use Rattle.weights.specs.Bare.{nodes_of, faced}
 use Rattle.weights.proofs.Gaps.{up-gaps, down-gaps, right-gaps, left-gaps}
 use Rattle.weights.proofs.room.Room.weigh.Goals as goal

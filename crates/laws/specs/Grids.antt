@@ -1,4 +1,4 @@
--- A polygon of one strip, and a balanced table. Definitions only.
+-- A polygon whose roots are one grid, and a balanced table. Definitions only.
 use Rattle.std.specs.Prelude.{ℕ, ◌+◌, ◌*◌, ◌<◌, ◌≤◌, ◌≡◌, true, List, length, None}
 use Rattle.cell.specs.Boxes.{Box, shares_edge}
 use Rattle.table.specs.Mesh.{Cell, at, split}
@@ -30,8 +30,9 @@ grid_box g i j =
       y1 = g.south + g.high * (j + 1);
     }
 
--- "a polygon of one strip (its roots are one grid)": each root is a cell of the grid, and no two are the same one
-pub record OneStrip (t : List Cell) (k : ℕ) : Type 0 where
+-- its roots are one grid: each root is a cell of the grid, and no two are the same one. A polygon of one strip is
+-- such a polygon
+pub record OneGrid (t : List Cell) (k : ℕ) : Type 0 where
   pub grid : Grid
   pub column : ℕ → ℕ
   pub row : ℕ → ℕ
