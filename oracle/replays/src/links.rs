@@ -9,7 +9,7 @@ use crate::loose::NetLengths;
 use crate::net::{lend_net, lend_polygons, lend_table, unused, SENTINEL};
 use crate::replay::{Case, Replay};
 use calls::limits::{COORDINATE, HALF, R_SHEET};
-use calls::links::{Channel, Contact, Footprint, Links, Terminal, Via};
+use calls::links::{Channel, Footprint, Links, Terminal, Via};
 use calls::network::{edge_rows, linked_network, roomy_network, NetRoom};
 use inputs::linked_meshes::{boundary_linked_meshes, LinkedMesh};
 use inputs::meshes::Mesh;
