@@ -1,6 +1,6 @@
 -- The by-layer check of a net made of a balanced table answers 'none' where its polygons fit; so does the check by x and y alone, whatever the
 -- table, where there is one polygon. Assumes nothing.
-use Rattle.std.proofs.Common.{◌≡◌, refl, sym, ap, ap₂, subst, ◌∙◌, true, Option, None, Some, List, [], ◌∷◌, ◌++◌, map, get_or, ℕ, ◌<◌, arith, ltb-true, ℤ, length, take, drop, IsTrue, nat_lt}
+use Rattle.std.proofs.Common.{suc, ◌≡◌, refl, sym, ap, ap₂, subst, ◌∙◌, true, Option, None, Some, List, [], ◌∷◌, ◌++◌, map, get_or, ℕ, ◌<◌, arith, ltb-true, ℤ, length, take, drop, IsTrue, nat_lt}
 use Rattle.std.specs.List.{range_with_len}
 use Rattle.std.proofs.lemmas.Bool.{true≢false}
 use Rattle.std.proofs.lemmas.Bool.Decides.{nat_tests}
@@ -23,6 +23,7 @@ use Rattle.net_rows.specs.Polygons.{polygons_below, polygons_fit}
 use Rattle.checks.specs.declared.asked.Class.{Class}
 use Rattle.checks.specs.declared.asked.Class.TheVariants.{Any, Of}
 use Rattle.checks.proofs.Faults.{leaf-inside}
+use Rattle.checks.specs.Laws.{middle_leaf_fault, middle_layer_fault}
 use Rattle.checks.specs.Checks.{leaf_fault, fault_by, net_fault, own_class, layer_fault, conforming_says, layers_says}
 use Rattle.net.specs.Net.{Poly, Net, MeshNode, Edge, Piece, same_node, same_pair, join, node_at, sw_of, se_of, ne_of, nw_of, leaves_of, pieces, weighed, bare, weigh, network}
 use Rattle.net.specs.Hang.{so_far, Halved, HalvedSides}
@@ -42,15 +43,15 @@ use Rattle.laws.specs.Grids.{Balanced, Splits}
 use Rattle.laws.specs.Built.{BuiltBoard, built}
 use Rattle.laws.specs.Fit.{BoardFits}
 use Rattle.laws.specs.Joined.{SideJoined, SidesJoined}
-use Rattle.laws.specs.MadeNets.{made, linked, FittingBoardsPass, BuiltBoardsPass, OnePolygonConforms, LinkedBoardsPass, LinkedOnePolygonConforms}
+use Rattle.laws.specs.MadeNets.{made, linked, FittingBoardsPass, BuiltBoardsPass, MiddlesAreHalved, OnePolygonConforms, LinkedBoardsPass, LinkedMiddlesAreHalved, LinkedOnePolygonConforms}
 use Rattle.laws.specs.Made.{no_poly, poly_at, layers_of, components_of, AllApart, node_row}
 use Rattle.laws.proofs.Evens.{evens-even, splits-fit, splits-apart, splits-formed, balance-fit, balance-apart}
 use Rattle.laws.proofs.BuiltHangs.{left-formed}
 use Rattle.laws.proofs.Joined.{sides-joined}
 use Rattle.laws.proofs.Placed.{cell-positive}
-use Rattle.laws.proofs.Places.{own_of, own-tells, any_tells}
+use Rattle.laws.proofs.Places.{own_of, Tells, own-tells, any_tells}
 use Rattle.laws.proofs.Pieces.{leaf-in, nodes-polys, kept, behind, nodes-are, cell-within, low}
-use Rattle.laws.proofs.Clear.{Along, AllAlong, leaf-clear, place-clear, first-clear}
+use Rattle.laws.proofs.Clear.{Along, AllAlong, leaf-clear, middles-clear, by-place, first-clear}
 use Rattle.laws.proofs.Sound.{made-sound, linked-sound}
 
 own_is : (ps : List Poly) (k : ℕ) → own_class (layers_of ps) (components_of ps) k ≡ own_of (poly_at ps k)
@@ -142,19 +143,49 @@ board-along t head ps table balanced board i h leaf l =
     (all-along net p (at cs i).box (cell-positive head.max_level cs formed i inside)
     (leaf-in (SidesJoined net p) k cs (all-from (SidesJoined net p) (at cs i).box (leaves_of cs k) (λ j m. joined j (at cs i).box m)) i inside leaf (ap (λ (c : Cell). c.polygon) cell)))
 
--- ---- by place, on a board of one polygon: every cell is of polygon 0
+-- ---- the middles alone, whatever the table
 
 -- of each leaf of each polygon the halves of its sides are among the edges
 abbrev Halves : List Cell → List Poly → List Edge → Type 0
 Halves cs ps es = (pre : List Piece) (q : Piece) (qs : List Piece) → pieces cs ps 0 ≡ pre ++ (q ∷ qs) → All (HalvedSides (so_far pre q) es q.poly) q.leaves
 
+module _ (t : List ℤ) (head : Head) (ps : List Poly) (es : List Edge) (halves : Halves (cells_in t head) ps es) (apart : AllApart ps) (below : IsTrue (polygons_below (length ps) (cells_in t head))) where
+  -- a leaf of the polygon k, by a test that tells the polygon's nodes
+  leaf-halved : (w : Class) (i k : ℕ) → i < head.count → (cell_at t i).poly ≡ k → k < length ps → Tells (made t head ps).nodes w (poly_at ps k) → (at (cells_in t head) i).kids ≡ None
+      → middle_leaf_fault (node_row (made t head ps)) es w (cell_at t i) ≡ None
+  leaf-halved w i k h e l tells leaf =
+      let cs = cells_in t head in
+      let p = poly_at ps k in
+      let pre = pieces cs (take k ps) 0 in
+      let q = piece_of cs p k in
+      let qs = pieces cs (drop (suc k) ps) (suc k) in
+      let split = pieces-at cs ps k p (slice_get-get_or ps k no_poly l) in
+      let P : Box → Type 0 = λ b. HalvedSides (so_far pre q) es p b in
+      let cell = at_table t head.count i h in
+      middles-clear (made t head ps).nodes (so_far pre q) es p w tells (no-duplicates cs ps)
+      (λ x y. rw (nodes-are cs ps, split) (kept pre q qs (behind cs ps (suc k) k apart l) x y)) (cell_at t i) (cell-within t i)
+      (subst (λ (c : Cell). P c.box) cell (leaf-in P k cs (halves pre q qs split) i (rw length-table h) leaf (ap (λ (c : Cell). c.polygon) cell ∙ e)))
+
+  own-halved : (i : ℕ) → i < head.count → (at (cells_in t head) i).kids ≡ None
+      → middle_leaf_fault (node_row (made t head ps)) es (own_class (layers_of ps) (components_of ps) (cell_at t i).poly) (cell_at t i) ≡ None
+  own-halved i h leaf =
+      let k = (cell_at t i).poly in
+      let net = made t head ps in
+      ap (λ (w : Class). middle_leaf_fault (node_row net) es w (cell_at t i)) (own_is ps k)
+      ∙ leaf-halved (own_of (poly_at ps k)) i k h refl (fits t head ps below i h) (own-tells net.nodes (low t head.count ps) (poly_at ps k)) leaf
+
+  all-halved : middle_layer_fault t head (node_row (made t head ps)) es (layers_of ps) (components_of ps) ≡ None
+  unfolding middle_layer_fault
+  all-halved =
+      first-clear (λ i. middle_leaf_fault (node_row (made t head ps)) es (own_class (layers_of ps) (components_of ps) (cell_at t i).poly) (cell_at t i)) (leaves_in t head)
+      (λ k d h. own-halved (get_or (leaves_in t head) k d) (leaf-inside t head k d h) (kidless t head k d h))
+
+-- ---- by place, on a board of one polygon: every cell is of polygon 0
+
 alone : (p : Poly) → AllApart (p ∷ [])
 alone p j k d h l = absurd (omega arith)
 
 module _ (t : List ℤ) (head : Head) (p : Poly) (es : List Edge) (halves : Halves (cells_in t head) (p ∷ []) es) (below : IsTrue (polygons_below 1 (cells_in t head))) where
-  net : Net
-  net = made t head (p ∷ [])
-
   own : All (λ (m : MeshNode). (m.layer ≡ p.layer) × (m.component ≡ p.component)) (made t head (p ∷ [])).nodes
   own =
       rw (nodes-are (cells_in t head) (p ∷ [])) (nodes-polys (λ l c. (l ≡ p.layer) × (c ≡ p.component)) (pieces (cells_in t head) (p ∷ []) 0)
@@ -162,18 +193,10 @@ module _ (t : List ℤ) (head : Head) (p : Poly) (es : List Edge) (halves : Halv
 
   any-none : (i : ℕ) → i < head.count → (at (cells_in t head) i).kids ≡ None → leaf_fault (node_row (made t head (p ∷ []))) es Any (cell_at t i) ≡ None
   any-none i h leaf =
-      let cs = cells_in t head in
       let ps = p ∷ [] in
-      let pre = pieces cs (take 0 ps) 0 in
-      let q = piece_of cs p 0 in
-      let qs = pieces cs (drop 1 ps) 1 in
-      let split = pieces-at cs ps 0 p refl in
-      let P : Box → Type 0 = λ b. HalvedSides (so_far pre q) es p b in
-      let cell = at_table t head.count i h in
-      let zeroth : (cell_at t i).poly ≡ 0 = let f = fits t head ps below i h in omega arith in
-      place-clear (made t head ps).nodes (so_far pre q) es p (any_tells (made t head ps).nodes (low t head.count ps) p own) (no-duplicates cs ps)
-      (λ x y. rw (nodes-are cs ps, split) (kept pre q qs (behind cs ps 1 0 (alone p) (omega arith)) x y)) (cell_at t i) (cell-within t i)
-      (subst (λ (c : Cell). P c.box) cell (leaf-in P 0 cs (halves pre q qs split) i (rw length-table h) leaf (ap (λ (c : Cell). c.polygon) cell ∙ zeroth)))
+      by-place (node_row (made t head ps)) es (cell_at t i)
+      ∙ leaf-halved t head ps es halves (alone p) below Any i 0 h (let f = fits t head ps below i h in omega arith) (omega arith)
+      (any_tells (made t head ps).nodes (low t head.count ps) p own) leaf
 
   one-net-fault : net_fault t head (node_row (made t head (p ∷ []))) es ≡ None
   unfolding fault_by
@@ -218,7 +241,10 @@ pub one-conforms : OnePolygonConforms
 one-conforms t head p formed below =
     edges-conform t head p (made t head (p ∷ [])).edges (made-halves t head (p ∷ [])) below formed (made-sound t head (p ∷ []) formed)
 
-pub ruleset pass = (boards-pass, built-pass, one-conforms)
+pub middles-halved : MiddlesAreHalved
+middles-halved t head ps apart below = all-halved t head ps (made t head ps).edges (made-halves t head ps) apart below
+
+pub ruleset pass = (boards-pass, built-pass, middles-halved, one-conforms)
 
 -- ---- and of nets with links
 
@@ -277,9 +303,13 @@ linked-boards t head ps l table balanced board below =
     (λ i h leaf k. rw (edges-are t head ps l) (all-more (made t head ps).nodes (made t head ps).edges (links-behind t head ps l) (poly_at ps (cell_at t i).poly) (box_of (cell_at t i)) (board-along t head ps table balanced board i h leaf k)))
     below table (linked-sound t head ps l table)
 
+pub linked-halved : LinkedMiddlesAreHalved
+unfolding linked_network Made.linked network weigh
+linked-halved t head ps l apart below = all-halved t head ps (linked t head ps l).edges (linked-halves t head ps l) apart below
+
 pub linked-conforms : LinkedOnePolygonConforms
 unfolding linked_network Made.linked network weigh
 linked-conforms t head p l formed below =
     edges-conform t head p (linked t head (p ∷ []) l).edges (linked-halves t head (p ∷ []) l) below formed (linked-sound t head (p ∷ []) l formed)
 
-pub ruleset linked_pass = (linked-boards, linked-conforms)
+pub ruleset linked_pass = (linked-boards, linked-halved, linked-conforms)

@@ -19,6 +19,7 @@ use Rattle.checks.specs.declared.asked.Place.{Place}
 use Rattle.checks.specs.declared.asked.Hanging.{Hanging}
 use Rattle.checks.specs.Nodes.{joined, last_at, node_at, nodes_between}
 use Rattle.checks.specs.Sides.{between}
+use Rattle.checks.specs.Laws.{middle_leaf_fault}
 use Rattle.checks.specs.Checks.{fault, middle_fault, first_unjoined, chain, chain_fault, side_fault, leaf_fault}
 use Rattle.checks.specs.Entries.{IsInside}
 use Rattle.checks.proofs.Between.{on_axis, next-not, between-none, between-one}
@@ -191,12 +192,12 @@ module _ (ns so : List MeshNode) (es : List Edge) (p : Poly) (w : Class) (tells 
 middle-is : (a b : ℕ) → (mid a a ≡ a) × (mid b a ≡ mid a b)
 middle-is a b = (omega arith, omega arith)
 
-pub place-clear : (ns so : List MeshNode) (es : List Edge) (p : Poly) (tells : Tells ns Any p)
+pub middles-clear : (ns so : List MeshNode) (es : List Edge) (p : Poly) (w : Class) (tells : Tells ns w p)
     (once : (i : ℕ) → i < length ns → number ns (nth ns i) ≡ i)
     (kept : (x y : ℕ) → In same_node ns (Net.node_at p x y) → In same_node so (Net.node_at p x y) × (number ns (Net.node_at p x y) ≡ number so (Net.node_at p x y)))
-    (c : Cell) → BoxWithin top (box_of c) → HalvedSides so es p (box_of c) → leaf_fault (map in_ticks ns) es Any c ≡ None
-unfolding leaf_fault side_fault middle_fault
-place-clear ns so es p tells once kept c l h =
+    (c : Cell) → BoxWithin top (box_of c) → HalvedSides so es p (box_of c) → middle_leaf_fault (map in_ticks ns) es w c ≡ None
+unfolding middle_leaf_fault middle_fault
+middles-clear ns so es p w tells once kept c l h =
     let a = l.0 in
     let b = l.1 in
     let d = l.2 in
@@ -204,7 +205,7 @@ place-clear ns so es p tells once kept c l h =
     let x : mid c.x0 c.x1 ≤ top = omega arith in
     let y : mid c.y0 c.y1 ≤ top = omega arith in
     let r = box_of c in
-    let clear = edge-clear ns so es p Any tells once kept in
+    let clear = edge-clear ns so es p w tells once kept in
     rw (
       (middle-is c.y0 0).0,
       (middle-is c.y1 0).0,
@@ -218,6 +219,11 @@ place-clear ns so es p tells once kept c l h =
       clear c.x0 c.y1 c.x0 c.y0 c.x0 (mid c.y0 c.y1) a e a b a y (halved-back so es (sw_of p r) (Net.node_at p c.x0 (mid c.y0 c.y1)) (nw_of p r) h.west),
     )
     refl
+
+-- by place the middles are all
+pub by-place : (nodes : List Node) (es : List Edge) (c : Cell) → leaf_fault nodes es Any c ≡ middle_leaf_fault nodes es Any c
+unfolding leaf_fault side_fault middle_leaf_fault
+by-place nodes es c = refl
 
 -- no fault of any, no first one
 pub first-clear : (f : ℕ → Option Hanging) (ids : List ℕ) → ((k d : ℕ) → k < length ids → f (get_or ids k d) ≡ None) → slice_get (filter_map f ids) 0 ≡ None

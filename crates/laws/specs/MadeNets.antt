@@ -1,5 +1,5 @@
 -- A made net is sound, and the checks find no fault in it: the laws that src/made.rt promises. Definitions only.
-use Rattle.std.specs.Prelude.{◌≡◌, List, [], ◌∷◌, ℤ, pos, length, All, IsTrue, Some}
+use Rattle.std.specs.Prelude.{◌≡◌, List, [], ◌∷◌, ℤ, pos, length, All, IsTrue, None, Some}
 use Rattle.refusals.specs.Said.{Said, accepted}
 use Rattle.table.specs.declared.Head.{Head}
 use Rattle.cell.specs.Cells.{no_cell}
@@ -8,11 +8,12 @@ use Rattle.table.specs.Rows.{IsTable, cells_in, head_of}
 use Rattle.coarsest.specs.Passes.{balance}
 use Rattle.net_rows.specs.Nets.{sound_net}
 use Rattle.net_rows.specs.Polygons.{polygons_below}
+use Rattle.checks.specs.Laws.{middle_layer_fault}
 use Rattle.checks.specs.Checks.{conforming_says, layers_says, layer_fault}
 use Rattle.net.specs.Net.{Poly, Net, network, One}
 use Rattle.links.specs.declared.rows.Links.{Links}
 use Rattle.links.specs.Made.{linked_network}
-use Rattle.laws.specs.Made.{layers_of, components_of, InRange, HasRoom, node_row}
+use Rattle.laws.specs.Made.{layers_of, components_of, AllApart, InRange, HasRoom, node_row}
 use Rattle.laws.specs.Grids.{Balanced, Splits}
 use Rattle.laws.specs.Fit.{BoardFits}
 use Rattle.laws.specs.Built.{BuiltBoard, built}
@@ -64,6 +65,12 @@ BuiltBoardsPass =
     → IsTrue (polygons_below (length ps) (cells_in t head))
     → net_layers_says t head ps (made t head ps) ≡ accepted []
 
+-- no middle of a side lacks a half, whatever the table, where no two polygons share layer and component
+abbrev pub MiddlesAreHalved : Type 0
+MiddlesAreHalved =
+    (t : List ℤ) (head : Head) (ps : List Poly) → AllApart ps → IsTrue (polygons_below (length ps) (cells_in t head))
+    → middle_layer_fault t head (node_row (made t head ps)) (made t head ps).edges (layers_of ps) (components_of ps) ≡ None
+
 -- and where there is one polygon the check by x and y alone does so of any table
 abbrev pub OnePolygonConforms : Type 0
 OnePolygonConforms =
@@ -76,6 +83,13 @@ LinkedBoardsPass =
     (t : List ℤ) (head : Head) (ps : List Poly) (l : Links) → IsTable t head → Balanced (cells_in t head) → BoardFits (cells_in t head) ps
     → IsTrue (polygons_below (length ps) (cells_in t head))
     → net_layers_says t head ps (linked t head ps l) ≡ accepted []
+
+abbrev pub LinkedMiddlesAreHalved : Type 0
+LinkedMiddlesAreHalved =
+    (t : List ℤ) (head : Head) (ps : List Poly) (l : Links) → AllApart ps
+    → IsTrue (polygons_below (length ps) (cells_in t head))
+    → middle_layer_fault t head (node_row (linked t head ps l)) (linked t head ps l).edges (layers_of ps) (components_of ps)
+    ≡ None
 
 abbrev pub LinkedOnePolygonConforms : Type 0
 LinkedOnePolygonConforms =

@@ -2,8 +2,9 @@
 //! which its specs state and its proof file proves.
 
 ghost use Rattle.laws.specs.MadeNets.{MadeNetsAreSound, LinkedNetsAreSound, MadeNodesHaveRoom};
-ghost use Rattle.laws.specs.MadeNets.{FittingBoardsPass, BuiltBoardsPass, OnePolygonConforms, AlikePolygonsMayHang};
-ghost use Rattle.laws.specs.MadeNets.{LinkedBoardsPass, LinkedOnePolygonConforms};
+ghost use Rattle.laws.specs.MadeNets.{FittingBoardsPass, BuiltBoardsPass, MiddlesAreHalved, OnePolygonConforms};
+ghost use Rattle.laws.specs.MadeNets.{AlikePolygonsMayHang};
+ghost use Rattle.laws.specs.MadeNets.{LinkedBoardsPass, LinkedMiddlesAreHalved, LinkedOnePolygonConforms};
 ghost use Rattle.laws.specs.Bands.{UnequalBands};
 
 /// No call refuses a made net, and its rows can hold it.
@@ -14,11 +15,13 @@ pub fn made_nets_are_sound()
     ensures nodes_have_room { MadeNodesHaveRoom }
 {}
 
-/// The by-layer check passes a balanced board whose polygons fit, and the check by place any table of one polygon.
+/// The by-layer check passes a balanced board whose polygons fit, and the check by place any table of one polygon. By
+/// layer no middle lacks a half, whatever the table, where no two polygons share layer and component.
 #[tactic(auto, using(crate::proofs::Clean::pass))]
 pub fn made_nets_pass()
     ensures board { FittingBoardsPass }
     ensures built { BuiltBoardsPass }
+    ensures middles { MiddlesAreHalved }
     ensures one_polygon_by_place { OnePolygonConforms }
 {}
 
@@ -26,6 +29,7 @@ pub fn made_nets_pass()
 #[tactic(auto, using(crate::proofs::Clean::linked_pass))]
 pub fn linked_nets_pass()
     ensures board { LinkedBoardsPass }
+    ensures middles { LinkedMiddlesAreHalved }
     ensures one_polygon_by_place { LinkedOnePolygonConforms }
 {}
 
