@@ -36,7 +36,7 @@ grep -qx "version = \"$version\"" rust/Cargo.toml || fail "Cargo.toml has anothe
 grep -qx 'license = "MIT OR Apache-2.0"' rust/Cargo.toml || fail "Cargo.toml has another licence"
 grep -q 'MIT OR Apache-2.0' ../LICENSE || fail "LICENSE has another licence"
 
-say "header and C programs, as C11 and C++17"
+say "header and C programs, as C99, C11 and C++17"
 c/run.sh
 
 say "Rust: tests, and examples build"

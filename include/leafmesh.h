@@ -1,8 +1,8 @@
 /* leafmesh: a quadtree mesh of copper outlines, and its net of conductances, across layers too.
  *
  * Link with the static library that `bindings/library.sh` makes (crates/leafmesh/out/libleafmesh.a); `install.sh
- * PREFIX` puts header, library and a file for pkg-config where compilers look. C11 and C++17; the library is for
- * x86-64 Linux.
+ * PREFIX` puts header, library and a file for pkg-config where compilers look. C99, C11 and C++17; the library is
+ * for x86-64 Linux.
  *
  * Calls. Every call takes any input and ends with an answer or a refusal; a refused call changes nothing that it
  * was lent. No call allocates, prints, or keeps anything between calls: there are no globals, so any number of
@@ -14,6 +14,11 @@
  *
  * Fractions. The calls expect the floating-point state that a thread begins with: rounding to nearest, no flush to
  * zero. With another rounding the last bit of an answer can differ, with flush to zero a subnormal power is lost.
+ *
+ * Tables. A table is a row of cells and a head: how many cells, how many of these are leaves, and the deepest level.
+ * What makes or changes a table answers its new head, and every other call judges a head against the row: where the
+ * leaves aren't as many as it says, the table is bad. leafmesh_table keeps row and head together, and the calls that
+ * begin with leafmesh_table_ hand the new head back into it, so that none can be mixed up.
  *
  * Rows. A row is a pointer and, behind it, its length: the number of entries of the pointer's own type. So the
  * length of points counts points and that of nodes counts nodes; only a table's counts numbers, eight a slot. Where
@@ -41,9 +46,9 @@ extern "C" {
 #endif
 
 /* The version of this header and its library; CHANGELOG.md says what changed. */
-#define LEAFMESH_VERSION "0.5.0"
+#define LEAFMESH_VERSION "0.6.0"
 #define LEAFMESH_VERSION_MAJOR 0
-#define LEAFMESH_VERSION_MINOR 5
+#define LEAFMESH_VERSION_MINOR 6
 #define LEAFMESH_VERSION_PATCH 0
 
 /* Ranges. */
@@ -227,10 +232,12 @@ typedef struct {
 } leafmesh_channel;
 
 /* What the library takes them for. */
-#ifdef __cplusplus
+#if defined(__cplusplus)
 #define LEAFMESH_ASSERT static_assert
-#else
+#elif defined(__STDC_VERSION__) && __STDC_VERSION__ >= 201112L
 #define LEAFMESH_ASSERT _Static_assert
+#else
+#define LEAFMESH_ASSERT(condition, words) extern const char leafmesh_asserted[(condition) ? 1 : -1]
 #endif
 LEAFMESH_ASSERT(sizeof(leafmesh_node) == 24 && offsetof(leafmesh_node, component) == 4 &&
                     offsetof(leafmesh_node, x) == 8 && offsetof(leafmesh_node, y) == 16,
@@ -252,6 +259,17 @@ typedef struct {
     uint64_t place;
     uint64_t value;
 } leafmesh_outcome;
+
+/* What a call that makes or changes a table answers: how many splits balance or conform made, and the table's new
+ * head. */
+typedef struct {
+    uint64_t number;
+    uint64_t place;
+    uint64_t splits;
+    uint64_t count;
+    uint64_t leaves;
+    uint64_t max_level;
+} leafmesh_table_outcome;
 
 /* Settings and row counts of a record. */
 typedef struct {
@@ -296,39 +314,44 @@ leafmesh_outcome leafmesh_contact(int64_t ax0, int64_t ay0, int64_t ax1, int64_t
 leafmesh_outcome leafmesh_strips(const leafmesh_point *points, size_t points_length, leafmesh_rect *out,
                                  size_t out_length);
 
-/* The base cells of a board into the table: how many. list: layers with a cell size of their own, rising. Layer,
- * component, ohms a square and number of points of each polygon stand in four rows, the points of all polygons in
- * one. list_length counts layers, the next four polygons, points_length points, table_length numbers (8 a slot).
- * Refuses 7, 3, 4, 5, 6. */
-leafmesh_outcome leafmesh_build(uint64_t max_level, uint64_t cap, uint64_t target, const leafmesh_layer *list,
+/* The base cells of a board into the table: its head; all of them are leaves. list: layers with a cell size of their
+ * own, rising. Layer, component, ohms a square and number of points of each polygon stand in four rows, the points of
+ * all polygons in one. list_length counts layers, the next four polygons, points_length points, table_length numbers
+ * (8 a slot). Refuses 7, 3, 4, 5, 6. */
+leafmesh_table_outcome leafmesh_build(uint64_t max_level, uint64_t cap, uint64_t target, const leafmesh_layer *list,
                                 size_t list_length, const uint16_t *layers, size_t layers_length,
                                 const uint32_t *components, size_t components_length, const double *sheets,
                                 size_t sheets_length, const uint64_t *counts, size_t counts_length,
                                 const leafmesh_point *points, size_t points_length, int64_t *table,
                                 size_t table_length);
 
-/* How many leaves. table_length counts numbers (8 a slot), count cells, in this call and the next six. Refuses 7. */
-leafmesh_outcome leafmesh_leaf_count(const int64_t *table, size_t table_length, size_t count, uint64_t max_level);
+/* How many leaves a head has: `leaves` itself. It looks at no table and refuses nothing, so that a number which isn't
+ * the table's is handed back too; every other call that takes a table refuses such a one by 7. */
+size_t leafmesh_leaf_count(size_t count, size_t leaves, uint64_t max_level);
 
-/* The ids of the leaves, rising: how many. out_length counts ids. Refuses 7, 6. */
-leafmesh_outcome leafmesh_leaves(const int64_t *table, size_t table_length, size_t count, uint64_t max_level,
-                                 uint64_t *out, size_t out_length);
+/* The ids of the leaves, rising: how many. Wherever a table is lent table_length counts numbers (8 a slot), count cells
+ * and leaves those without a child. out_length counts ids. Refuses 7, 6. */
+leafmesh_outcome leafmesh_leaves(const int64_t *table, size_t table_length, size_t count, size_t leaves,
+                                 uint64_t max_level, uint64_t *out, size_t out_length);
 
 /* The ids of the leaves by polygon, then id: how many. out_length counts ids. Cell i of the net is the i-th of
  * these leaves. Refuses 7, 6. */
-leafmesh_outcome leafmesh_leaf_order(const int64_t *table, size_t table_length, size_t count, uint64_t max_level,
-                                     uint64_t *out, size_t out_length);
+leafmesh_outcome leafmesh_leaf_order(const int64_t *table, size_t table_length, size_t count, size_t leaves,
+                                     uint64_t max_level, uint64_t *out, size_t out_length);
 
-/* Splits one leaf: the new count. Refuses 7, 8, 9, 10, 6. */
-leafmesh_outcome leafmesh_refine(int64_t *table, size_t table_length, size_t count, uint64_t max_level, size_t id);
+/* Splits one leaf: the new head, which has four cells and three leaves more. Refuses 7, 8, 9, 10, 6. */
+leafmesh_table_outcome leafmesh_refine(int64_t *table, size_t table_length, size_t count, size_t leaves,
+                                       uint64_t max_level, size_t id);
 
-/* Splits until no two leaves that share an edge differ by more than one level: the number of splits, each four
- * cells more. Layers play no part: what is split on one splits what lies on its sides on the others. Refuses 7, 6. */
-leafmesh_outcome leafmesh_balance(int64_t *table, size_t table_length, size_t count, uint64_t max_level);
+/* Splits until no two leaves that share an edge differ by more than one level: the number of splits, and the new head.
+ * Layers play no part: what is split on one splits what lies on its sides on the others. Refuses 7, 6. */
+leafmesh_table_outcome leafmesh_balance(int64_t *table, size_t table_length, size_t count, size_t leaves,
+                                        uint64_t max_level);
 
-/* Splits until no two leaves that share an edge differ in level: the number of splits, each four cells more.
+/* Splits until no two leaves that share an edge differ in level: the number of splits, and the new head.
  * Refuses 7, 6. */
-leafmesh_outcome leafmesh_conform(int64_t *table, size_t table_length, size_t count, uint64_t max_level);
+leafmesh_table_outcome leafmesh_conform(int64_t *table, size_t table_length, size_t count, size_t leaves,
+                                        uint64_t max_level);
 
 /* The net of a table's leaves: how many nodes, edges, cells and links. Cell i is the i-th leaf of leafmesh_leaf_order.
  * Behind the leaves' edges stand the links that contacts, vias and channels make, in this order:
@@ -348,9 +371,10 @@ leafmesh_outcome leafmesh_conform(int64_t *table, size_t table_length, size_t co
  * leafmesh_edge_rows, where there are links. Refuses 7 (a bad table, a cell of a polygon that isn't there, polygons'
  * rows of unequal length), 3 (more than 256 polygons; a sheet resistance, place: its polygon; then a resistance, a half
  * size or a place of a link, also of one that would join nothing), 6. */
-leafmesh_net_outcome leafmesh_network(const int64_t *table, size_t table_length, size_t count, uint64_t max_level,
-                                      const uint16_t *layers, size_t layers_length, const uint32_t *components,
-                                      size_t components_length, const double *sheets, size_t sheets_length,
+leafmesh_net_outcome leafmesh_network(const int64_t *table, size_t table_length, size_t count, size_t leaves,
+                                      uint64_t max_level, const uint16_t *layers, size_t layers_length,
+                                      const uint32_t *components, size_t components_length,
+                                      const double *sheets, size_t sheets_length,
                                       const leafmesh_contact_pair *contacts, size_t contacts_length,
                                       const leafmesh_via *vias, size_t vias_length, uint16_t channel_layer,
                                       const leafmesh_channel *channels, size_t channels_length,
@@ -360,9 +384,10 @@ leafmesh_net_outcome leafmesh_network(const int64_t *table, size_t table_length,
 
 /* How many edges leafmesh_network asks for: LEAFMESH_EDGES_A_LEAF for each leaf, and one for each link. SIZE_MAX also
  * stands for more than that. Lengths as there. Refuses 7, 3. */
-leafmesh_outcome leafmesh_edge_rows(const int64_t *table, size_t table_length, size_t count, uint64_t max_level,
-                                    const uint16_t *layers, size_t layers_length, const uint32_t *components,
-                                    size_t components_length, const double *sheets, size_t sheets_length,
+leafmesh_outcome leafmesh_edge_rows(const int64_t *table, size_t table_length, size_t count, size_t leaves,
+                                    uint64_t max_level, const uint16_t *layers, size_t layers_length,
+                                    const uint32_t *components, size_t components_length,
+                                    const double *sheets, size_t sheets_length,
                                     const leafmesh_contact_pair *contacts, size_t contacts_length,
                                     const leafmesh_via *vias, size_t vias_length, uint16_t channel_layer,
                                     const leafmesh_channel *channels, size_t channels_length);
@@ -385,10 +410,11 @@ leafmesh_outcome leafmesh_power(const leafmesh_node *nodes, size_t nodes_length,
  * zero afterwards) it takes n log n steps; the room may be empty. Lengths count nodes, edges, cells and numbers of work
  * room. Refuses 7 (a bad table or net). */
 leafmesh_check_outcome leafmesh_check_network_conforming(const int64_t *table, size_t table_length, size_t count,
-                                                         uint64_t max_level, const leafmesh_node *nodes,
-                                                         size_t nodes_length, const leafmesh_edge *edges,
-                                                         size_t edges_length, const leafmesh_cell *cells,
-                                                         size_t cells_length, uint64_t *work, size_t work_length);
+                                                         size_t leaves, uint64_t max_level,
+                                                         const leafmesh_node *nodes, size_t nodes_length,
+                                                         const leafmesh_edge *edges, size_t edges_length,
+                                                         const leafmesh_cell *cells, size_t cells_length,
+                                                         uint64_t *work, size_t work_length);
 
 /* The first node between the ends of a leaf edge that lacks an edge of the net to the point before or after it, and
  * the leaf edge's ends. The points are the ends and every node between them, of nodes of the leaf's own layer and
@@ -396,7 +422,8 @@ leafmesh_check_outcome leafmesh_check_network_conforming(const int64_t *table, s
  * work room as above, with which it takes n log n steps, and log n for each node inside each leaf edge. Refuses 7 (as
  * before; a cell of a polygon that isn't there, polygons' rows of unequal length). */
 leafmesh_check_outcome leafmesh_check_by_layer(const int64_t *table, size_t table_length, size_t count,
-                                               uint64_t max_level, const leafmesh_node *nodes, size_t nodes_length,
+                                               size_t leaves, uint64_t max_level,
+                                               const leafmesh_node *nodes, size_t nodes_length,
                                                const leafmesh_edge *edges, size_t edges_length,
                                                const leafmesh_cell *cells, size_t cells_length,
                                                const uint16_t *layers, size_t layers_length,
@@ -430,6 +457,144 @@ static inline void leafmesh_outlines(const leafmesh_polygon *polygons, size_t po
         components[i] = (uint32_t)polygons[i].component;
         counts[i] = polygons[i].points;
     }
+}
+
+/* A table: a lent row and its head. Only the calls below set the head. */
+typedef struct {
+    int64_t *row;
+    size_t length; /* of the row, in numbers: 8 a slot */
+    size_t count, leaves;
+    uint64_t max_level;
+} leafmesh_table;
+
+/* A row that no table is in yet: leafmesh_table_build comes next. */
+static inline leafmesh_table leafmesh_table_on(int64_t *row, size_t length)
+{
+    leafmesh_table table;
+    table.row = row;
+    table.length = length;
+    table.count = 0;
+    table.leaves = 0;
+    table.max_level = 0;
+    return table;
+}
+
+/* The new head goes into the table where the call was accepted; otherwise all stays as it was. */
+static inline leafmesh_table_outcome leafmesh_table_keep(leafmesh_table *table, leafmesh_table_outcome outcome)
+{
+    if (outcome.number == LEAFMESH_ACCEPTED) {
+        table->count = (size_t)outcome.count;
+        table->leaves = (size_t)outcome.leaves;
+        table->max_level = outcome.max_level;
+    }
+    return outcome;
+}
+
+/* leafmesh_build into this table's row. */
+static inline leafmesh_table_outcome
+leafmesh_table_build(leafmesh_table *table, uint64_t max_level, uint64_t cap, uint64_t target,
+                     const leafmesh_layer *list, size_t list_length, const uint16_t *layers, size_t layers_length,
+                     const uint32_t *components, size_t components_length, const double *sheets, size_t sheets_length,
+                     const uint64_t *counts, size_t counts_length, const leafmesh_point *points, size_t points_length)
+{
+    return leafmesh_table_keep(table, leafmesh_build(max_level, cap, target, list, list_length, layers, layers_length,
+                                                     components, components_length, sheets, sheets_length, counts,
+                                                     counts_length, points, points_length, table->row,
+                                                     table->length));
+}
+
+/* leafmesh_leaf_count of this table. */
+static inline size_t leafmesh_table_leaf_count(const leafmesh_table *table)
+{
+    return leafmesh_leaf_count(table->count, table->leaves, table->max_level);
+}
+
+/* leafmesh_leaves of this table. */
+static inline leafmesh_outcome leafmesh_table_leaves(const leafmesh_table *table, uint64_t *out, size_t out_length)
+{
+    return leafmesh_leaves(table->row, table->length, table->count, table->leaves, table->max_level, out, out_length);
+}
+
+/* leafmesh_leaf_order of this table. */
+static inline leafmesh_outcome leafmesh_table_leaf_order(const leafmesh_table *table, uint64_t *out,
+                                                         size_t out_length)
+{
+    return leafmesh_leaf_order(table->row, table->length, table->count, table->leaves, table->max_level, out,
+                               out_length);
+}
+
+/* leafmesh_refine of this table. */
+static inline leafmesh_table_outcome leafmesh_table_refine(leafmesh_table *table, size_t id)
+{
+    return leafmesh_table_keep(table, leafmesh_refine(table->row, table->length, table->count, table->leaves,
+                                                      table->max_level, id));
+}
+
+/* leafmesh_balance of this table. */
+static inline leafmesh_table_outcome leafmesh_table_balance(leafmesh_table *table)
+{
+    return leafmesh_table_keep(
+        table, leafmesh_balance(table->row, table->length, table->count, table->leaves, table->max_level));
+}
+
+/* leafmesh_conform of this table. */
+static inline leafmesh_table_outcome leafmesh_table_conform(leafmesh_table *table)
+{
+    return leafmesh_table_keep(
+        table, leafmesh_conform(table->row, table->length, table->count, table->leaves, table->max_level));
+}
+
+/* leafmesh_network of this table. */
+static inline leafmesh_net_outcome
+leafmesh_table_network(const leafmesh_table *table, const uint16_t *layers, size_t layers_length,
+                       const uint32_t *components, size_t components_length, const double *sheets,
+                       size_t sheets_length, const leafmesh_contact_pair *contacts, size_t contacts_length,
+                       const leafmesh_via *vias, size_t vias_length, uint16_t channel_layer,
+                       const leafmesh_channel *channels, size_t channels_length, leafmesh_node *nodes,
+                       size_t nodes_length, leafmesh_edge *edges, size_t edges_length, leafmesh_cell *cells,
+                       size_t cells_length, uint64_t *work, size_t work_length)
+{
+    return leafmesh_network(table->row, table->length, table->count, table->leaves, table->max_level, layers,
+                            layers_length, components, components_length, sheets, sheets_length, contacts,
+                            contacts_length, vias, vias_length, channel_layer, channels, channels_length, nodes,
+                            nodes_length, edges, edges_length, cells, cells_length, work, work_length);
+}
+
+/* leafmesh_edge_rows of this table. */
+static inline leafmesh_outcome
+leafmesh_table_edge_rows(const leafmesh_table *table, const uint16_t *layers, size_t layers_length,
+                         const uint32_t *components, size_t components_length, const double *sheets,
+                         size_t sheets_length, const leafmesh_contact_pair *contacts, size_t contacts_length,
+                         const leafmesh_via *vias, size_t vias_length, uint16_t channel_layer,
+                         const leafmesh_channel *channels, size_t channels_length)
+{
+    return leafmesh_edge_rows(table->row, table->length, table->count, table->leaves, table->max_level, layers,
+                              layers_length, components, components_length, sheets, sheets_length, contacts,
+                              contacts_length, vias, vias_length, channel_layer, channels, channels_length);
+}
+
+/* leafmesh_check_network_conforming with this table. */
+static inline leafmesh_check_outcome
+leafmesh_table_check_network_conforming(const leafmesh_table *table, const leafmesh_node *nodes, size_t nodes_length,
+                                        const leafmesh_edge *edges, size_t edges_length, const leafmesh_cell *cells,
+                                        size_t cells_length, uint64_t *work, size_t work_length)
+{
+    return leafmesh_check_network_conforming(table->row, table->length, table->count, table->leaves,
+                                             table->max_level, nodes, nodes_length, edges, edges_length, cells,
+                                             cells_length, work, work_length);
+}
+
+/* leafmesh_check_by_layer with this table. */
+static inline leafmesh_check_outcome
+leafmesh_table_check_by_layer(const leafmesh_table *table, const leafmesh_node *nodes, size_t nodes_length,
+                              const leafmesh_edge *edges, size_t edges_length, const leafmesh_cell *cells,
+                              size_t cells_length, const uint16_t *layers, size_t layers_length,
+                              const uint32_t *components, size_t components_length, uint64_t *work,
+                              size_t work_length)
+{
+    return leafmesh_check_by_layer(table->row, table->length, table->count, table->leaves, table->max_level, nodes,
+                                   nodes_length, edges, edges_length, cells, cells_length, layers, layers_length,
+                                   components, components_length, work, work_length);
 }
 
 #ifdef __cplusplus

@@ -66,6 +66,12 @@ function test_table(    n) {
     for (n = 1; n <= tests; n++) print "| " test_name[n] " | " test_cells[n] " | " test_time[n] " |"
 }
 
+function leaf_count_table(    n) {
+    print "| Cells | ns a call |"
+    print "|---|---|"
+    for (n = 1; n <= leaf_counts; n++) print "| " by_thousands(count_cells[n]) " | " count_time[n] " |"
+}
+
 function p4est_table(    n) {
     if (forests == 0) { print p4est_words "."; return }
     print "| Forest | Finest level | Leaves before | Leaves after | Port | p4est | Ratio |"
@@ -114,10 +120,16 @@ FNR == NR && /^(balance|conform), .*, (exponents|[0-9]+ slots, [0-9]+ to [0-9]+ 
     next
 }
 
-FNR == NR && /^leaf count, .* ns a cell$/ {
-    test_name[++tests] = between("^leaf count, ", ", [0-9]+ cells: ")
-    test_cells[tests] = between("^leaf count, " test_name[tests] ", ", " cells: ")
+FNR == NR && /^leaves, .* ns a cell$/ {
+    test_name[++tests] = between("^leaves, ", ", [0-9]+ cells: ")
+    test_cells[tests] = between("^leaves, " test_name[tests] ", ", " cells: ")
     test_time[tests] = between(" cells: ", " ns a cell")
+    next
+}
+
+FNR == NR && /^leaf count, [0-9]+ cells: .* ns$/ {
+    count_cells[++leaf_counts] = between("^leaf count, ", " cells: ")
+    count_time[leaf_counts] = between(" cells: ", " ns$")
     next
 }
 
@@ -158,6 +170,7 @@ FNR == NR { print "not understood: " $0 >"/dev/stderr"; exit 1 }
 /^CONFORM$/ { hostile_table("conform"); next }
 /^CONFORM_GROWTH$/ { growth_table("conform"); next }
 /^TEST$/ { test_table(); next }
+/^LEAF_COUNT$/ { leaf_count_table(); next }
 /^P4EST$/ { p4est_table(); next }
 /^GROWTH$/ { print "- " growth "."; next }
 /^STACK$/ { stack_table(); next }

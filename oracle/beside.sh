@@ -1,17 +1,24 @@
 #!/bin/sh
 # Times two builds of the library beside each other, in one process, and prints new over old.
 #
-#   beside.sh OLD [NEW]    two static libraries of this header; NEW is crates/leafmesh/out/libleafmesh.a if not named
+#   beside.sh OLD [NEW]                   two static libraries of this header; NEW is crates/leafmesh/out/libleafmesh.a
+#                                         if not named
+#   beside.sh --without-leaves OLD [NEW]  OLD is from before version 0.6.0: its calls take no number of leaves
 #
-# OLD may also be one whose network takes no links, from before version 0.4.0, or whose by-layer check looks at middles
-# alone, from before 0.5.0: where that answers otherwise it is told.
+# Such an OLD may also be one whose network takes no links, from before version 0.4.0, or whose by-layer check looks at
+# middles alone, from before 0.5.0: where that answers otherwise it is told.
 #
 # The builds are linked in two orders, and the least time of both counts: where the linker places a loop makes up to a
 # fifth of a short call. What takes less than 20 us in both is left out.
 set -eu
 
+differ=
+if [ "${1:-}" = --without-leaves ]; then
+    differ=-DWITHOUT_LEAVES
+    shift
+fi
 [ $# -ge 1 ] || {
-    echo "usage: beside.sh OLD [NEW]" >&2
+    echo "usage: beside.sh [--without-leaves] OLD [NEW]" >&2
     exit 2
 }
 here=$(cd "$(dirname "$0")" && pwd)
@@ -27,10 +34,9 @@ awk '{ print $1, "before_" $1 }' "$folder/names" >"$folder/renamed"
 objcopy --keep-global-symbols="$folder/names" "$folder/whole.o" "$folder/kept.o"
 objcopy --redefine-syms="$folder/renamed" "$folder/kept.o" "$folder/old.o"
 
-links=
-grep -qx leafmesh_edge_rows "$folder/names" || links=-DWITHOUT_LINKS
+grep -qx leafmesh_edge_rows "$folder/names" || differ="$differ -DWITHOUT_LINKS"
 # shellcheck disable=SC2086
-cc -std=gnu11 -O2 -Wall -Wextra -Werror $links -I "$here/../include" -c "$here/beside/beside.c" -o "$folder/beside.o"
+cc -std=gnu11 -O2 -Wall -Wextra -Werror $differ -I "$here/../include" -c "$here/beside/beside.c" -o "$folder/beside.o"
 cc "$folder/beside.o" "$folder/old.o" "$new" -o "$folder/old_first"
 ld -r --whole-archive "$new" -o "$folder/new.o"
 cc "$folder/beside.o" "$folder/new.o" "$folder/old.o" -o "$folder/new_first"

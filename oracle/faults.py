@@ -24,6 +24,7 @@ ROOT = os.path.dirname(ORACLE)
 TABLE, NET, BOARDS, OUTLINE = "replay_table", "replay_net", "replay_boards", "replay_outline"
 FORMED = "table/src/formed.rt"
 SLOTS = "table/src/slots.rt"
+HEAD = "table/src/lib.rt"
 LIMITS = "refusals/src/limits.rt"
 RECORD_LIMITS = "record/src/board.rt"
 PARTS = "record/src/parts.rt"
@@ -37,23 +38,24 @@ JUDGE = "network/src/judge.rt"
 POLYGONS = "net_rows/src/polygons.rt"
 NETWORK = "network/src/lib.rt"
 
-SHEETS = """    if let Some(p) = judge::first_bad(sheets) {
+SHEETS = """    if let Some(p) = first_bad(sheets) {
         return Err(Refusal::OutOfRange(p));
-    }
-"""
-ROOM = """    let room = Room {
-        nodes: nodes.len(),
-        edges: edges.len(),
-        cells: cells.len(),
-        work: work.len(),
-    };
-    if !room.holds(table.leaf_count()) {
-        return Err(Refusal::NoRoom);
     }
 """
 POLYGON_COUNT = """    if limits::POLYGONS < polygons.layers.len() {
         return Err(Refusal::OutOfRange(0));
     }
+"""
+JUDGED = "    let table = judge(row, head, polygons, sheets, links)?;\n    let room"
+ROOM_FIRST = "    if work.len() < 128 {\n        return Err(Refusal::NoRoom);\n    }\n" + JUDGED
+LEAVES = "leaves_of(t, n, m) == Some(head.leaves)"
+AT_MOST = "match leaves_of(t, n, m) { Some(leaves) => head.leaves <= leaves, None => false }"
+GROWN = "            head: grown,\n"
+STALE = """            head: Head {
+                count: grown.count,
+                leaves: head.leaves,
+                max_level: head.max_level,
+            },
 """
 
 # What is wrong, the program that shall see it, the file, what stands there and what is put in its place.
@@ -63,7 +65,7 @@ FAULTS = [
     ("length of whole slots dropped", TABLE, FORMED, "(size % 8 == 0) & ", ""),
     ("16,385 slots", TABLE, FORMED, " & (size / 8 <= limits::SLOTS)", ""),
     ("count past the slots", TABLE, FORMED, " & (n <= size / 8)", ""),
-    ("spare slots not looked at", TABLE, FORMED, "rest_zero(t, n) && cells_ok", "cells_ok"),
+    ("spare slots not looked at", TABLE, FORMED, " && rest_zero(t, n) && leaves_of", " && leaves_of"),
     ("a spare slot's last number not looked at", TABLE, FORMED, "\n        & is_at(t, b + 7, 0)", ""),
     ("root of any level", TABLE, FORMED, "(c.level == 0) & side_ok(step, c.x0", "side_ok(step, c.x0"),
     ("root of any width", TABLE, FORMED, " & side_ok(step, c.x0, c.x1)", ""),
@@ -92,6 +94,18 @@ FAULTS = [
     ("fewer than four children", TABLE, FORMED, "if self.count - i < 4 || ", "if self.count < i || "),
     ("parent not before its children", TABLE, FORMED, " || i as u64 <= p {", " || p == Cell::NO_CELL {"),
     ("not one of its parent's four", TABLE, FORMED, "is_at(self.row, q * 8 + 6, i as i64) & kids_ok", "kids_ok"),
+    ("the head's leaves not asked", TABLE, FORMED, LEAVES, "leaves_of(t, n, m).is_some()"),
+    ("the head's leaves not asked by a net", NET, FORMED, LEAVES, "leaves_of(t, n, m).is_some()"),
+    ("fewer leaves than there are", TABLE, FORMED, LEAVES, AT_MOST),
+    ("more leaves than there are", TABLE, FORMED, LEAVES, AT_MOST.replace("<=", ">=")),
+    ("half of the leaves' bits", TABLE, FORMED, "Some(head.leaves)", "Some(head.leaves % 4294967296)"),
+    ("a leaf for each cell", TABLE, FORMED, "Some(n - (n - roots) / 4)", "Some(n)"),
+    ("a leaf for each child", TABLE, FORMED, "next == i + 1", "next == i"),
+    ("leaf count: the cells", TABLE, "table/src/leaves.rt", "    head.leaves\n", "    head.count\n"),
+    ("refine: four leaves more", TABLE, HEAD, "leaves: self.leaves + 3,", "leaves: self.leaves + 4,"),
+    ("refine: the leaves of before", TABLE, HEAD, "leaves: self.leaves + 3,", "leaves: self.leaves,"),
+    ("balance and conform: the leaves of before", TABLE, "even/src/lib.rt", GROWN, STALE),
+    ("build: no leaves", OUTLINE, HEAD, "leaves: count,", "leaves: 0,"),
     ("level 13", BOARDS, LIMITS, "MAX_LEVEL: u64 = 12;", "MAX_LEVEL: u64 = 13;"),
     ("level 11", BOARDS, LIMITS, "MAX_LEVEL: u64 = 12;", "MAX_LEVEL: u64 = 11;"),
     ("257 polygons", BOARDS, RECORD_LIMITS, "polygons: POLYGONS as u16", "polygons: POLYGONS as u16 + 1"),
@@ -143,22 +157,22 @@ FAULTS = [
     ("build: components of another length", OUTLINE, OUTLINES, "(self.components.len() == n) & ", ""),
     ("build: sheets of another length", OUTLINE, OUTLINES, " & (self.sheets.len() == n)", ""),
     ("build: counts that don't add up", OUTLINE, OUTLINES, "    left == 0\n", "    left < 2\n"),
-    ("network: bad table", NET, NETWORK, "ok_or(Refusal::BadTable)?", "ok_or(Refusal::NoRoom)?"),
+    ("network: bad table", NET, JUDGE, "ok_or(Refusal::BadTable)?", "ok_or(Refusal::NoRoom)?"),
     ("network: index at the count", NET, POLYGONS, "polygon(id) < count", "polygon(id) <= count"),
     ("network: components of another length", NET, POLYGONS, "self.layers.len() == self.components.len() && ", ""),
-    ("network: sheets of another length", NET, NETWORK, " || sheets.len() != polygons.layers.len()", ""),
-    ("network: 257 polygons", NET, NETWORK, "limits::POLYGONS < polygons", "limits::POLYGONS + 1 < polygons"),
-    ("network: 256 polygons refused", NET, NETWORK, "limits::POLYGONS < polygons", "limits::POLYGONS <= polygons"),
-    ("network: no sheet judged", NET, NETWORK, SHEETS, ""),
-    ("network: the last bad sheet", NET, NETWORK, "OutOfRange(p)", "OutOfRange(sheets.len() - 1)"),
+    ("network: sheets of another length", NET, JUDGE, " || sheets.len() != polygons.layers.len()", ""),
+    ("network: 257 polygons", NET, JUDGE, "limits::POLYGONS < polygons", "limits::POLYGONS + 1 < polygons"),
+    ("network: 256 polygons refused", NET, JUDGE, "limits::POLYGONS < polygons", "limits::POLYGONS <= polygons"),
+    ("network: no sheet judged", NET, JUDGE, SHEETS, ""),
+    ("network: the last bad sheet", NET, JUDGE, "OutOfRange(p)", "OutOfRange(sheets.len() - 1)"),
     ("network: a sheet above 2^40", NET, LIMITS, "1099511627776.0", "1099511627776.001"),
     ("network: a node short", NET, JUDGE, "self.nodes / NODES", "(self.nodes + 1) / NODES"),
-    ("network: an edge short", NET, JUDGE, "self.edges / EDGES", "(self.edges + 1) / EDGES"),
+    ("network: an edge short", NET, NETWORK, "links, room.edges)", "links, room.edges + 1)"),
     ("network: a cell short", NET, JUDGE, "self.cells)", "self.cells + 1)"),
     ("network: a work number short", NET, JUDGE, "self.work / WORK", "(self.work + 1) / WORK"),
     ("network: no room looked at", NET, NETWORK, "if !room.holds(", "if room.holds(9000 + "),
-    ("network: the room before the sheet", NET, NETWORK, SHEETS + ROOM, ROOM + SHEETS),
-    ("network: the sheet before the polygon count", NET, NETWORK, POLYGON_COUNT + SHEETS, SHEETS + POLYGON_COUNT),
+    ("network: the room before the sheet", NET, NETWORK, JUDGED, ROOM_FIRST),
+    ("network: the sheet before the polygon count", NET, JUDGE, POLYGON_COUNT + SHEETS, SHEETS + POLYGON_COUNT),
 ]
 
 

@@ -1,5 +1,5 @@
 /* A ring that is filled while the program runs, as a reader of layouts would: a comb of as many teeth as the first
- * word says, through strips, record and build. It is C11 and C++17 alike. */
+ * word says, through strips, record and build. It is C99, C11 and C++17 alike. */
 #include "leafmesh.h"
 
 #include <stdio.h>
@@ -11,7 +11,7 @@ enum { TEETH = 100, POINTS = 4 * TEETH, SLOTS = 1024 };
 static leafmesh_point ring[POINTS];
 static leafmesh_rect strips[LEAFMESH_STRIPS_LENGTH(POINTS)];
 static uint8_t record[LEAFMESH_RECORD_LENGTH(1, 1, POINTS, 0)];
-static int64_t table[LEAFMESH_TABLE_LENGTH(SLOTS)];
+static int64_t row[LEAFMESH_TABLE_LENGTH(SLOTS)];
 
 /* A back 8 high under teeth 8 wide and 8 high, 8 apart: so many points. */
 static size_t fill(int64_t teeth)
@@ -77,13 +77,14 @@ int main(int argc, char **argv)
     uint32_t components[1];
     uint64_t counts[1];
     leafmesh_outlines(polygon, 1, layers, components, counts);
-    const leafmesh_outcome built =
-        leafmesh_build(back.level, back.cap, back.target, cells, 1, layers, 1, components, 1, sheet, 1, counts, 1,
-                       ring, back.points, table, LENGTH(table));
+    leafmesh_table table = leafmesh_table_on(row, LENGTH(row));
+    const leafmesh_table_outcome built =
+        leafmesh_table_build(&table, back.level, back.cap, back.target, cells, 1, layers, 1, components, 1, sheet, 1,
+                             counts, 1, ring, back.points);
     if (!is_accepted("build", built.number, built.place)) {
         return 1;
     }
     printf("leafmesh %s: %u points, %u strips, %u bytes, %u cells\n", LEAFMESH_VERSION, (unsigned)points,
-           (unsigned)cut.value, (unsigned)written.value, (unsigned)built.value);
+           (unsigned)cut.value, (unsigned)written.value, (unsigned)table.count);
     return fflush(stdout) == 0 ? 0 : 1;
 }

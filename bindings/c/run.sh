@@ -1,6 +1,6 @@
 #!/bin/sh
-# Installs header and library into a folder of its own, builds the C programs against them by pkg-config, as C11 and
-# what can be as C++17, with every warning an error, runs them, and holds what they print to what is expected.
+# Installs header and library into a folder of its own, builds the C programs against them by pkg-config, as C99 and
+# C11 and what can be as C++17, with every warning an error, runs them, and holds what they print to what is expected.
 set -eu
 cd "$(dirname "$0")"
 for tool in cc c++ pkg-config; do
@@ -19,16 +19,18 @@ strict="-Wall -Wextra -pedantic -Werror"
 echo '#include <leafmesh.h>' >"$folder/header.c"
 # shellcheck disable=SC2086
 {
+    cc -std=c99 $strict $cflags -c "$folder/header.c" -o "$folder/header.o"
     cc -std=c11 $strict $cflags -c "$folder/header.c" -o "$folder/header.o"
     c++ -x c++ -std=c++17 $strict $cflags -c "$folder/header.c" -o "$folder/header.o"
     cc -std=c11 $strict $cflags outline_to_net.c $libs -o "$folder/outline_to_net"
+    cc -std=c99 $strict $cflags ring.c $libs -o "$folder/ring_c99"
     cc -std=c11 $strict $cflags ring.c $libs -o "$folder/ring_c"
     c++ -std=c++17 $strict $cflags -x c++ ring.c -x none $libs -o "$folder/ring_cpp"
 }
 "$folder/outline_to_net" >"$folder/printed.txt"
 diff expected.txt "$folder/printed.txt"
 version=$(pkg-config --modversion leafmesh)
-for ring in ring_c ring_cpp; do
+for ring in ring_c99 ring_c ring_cpp; do
     "$folder/$ring" 12 >"$folder/printed.txt"
     echo "leafmesh $version: 48 points, 13 strips, 816 bytes, 140 cells" | diff - "$folder/printed.txt"
 done

@@ -17,11 +17,14 @@
 #define ENOUGH 1e6 /* microseconds, for all turns of a row but the first two */
 #define STRIPS LEAFMESH_STRIPS_LENGTH(LEAFMESH_RING_POINTS)
 
+/* A call that says how many leaves a table has. */
+typedef size_t leaves_of(const int64_t *table, size_t table_length, size_t count, size_t leaves, uint64_t max_level);
+
 /* A build, as far as it is timed. */
 typedef struct {
     __typeof__(leafmesh_strips) *strips;
     __typeof__(leafmesh_build) *build;
-    __typeof__(leafmesh_leaf_count) *leaf_count;
+    leaves_of *leaf_count;
     __typeof__(leafmesh_leaf_order) *leaf_order;
     __typeof__(leafmesh_refine) *refine;
     __typeof__(leafmesh_balance) *balance;
@@ -35,61 +38,182 @@ typedef struct {
 } library;
 
 extern __typeof__(leafmesh_strips) before_leafmesh_strips;
+extern __typeof__(leafmesh_power) before_leafmesh_power;
+extern __typeof__(leafmesh_read) before_leafmesh_read;
+extern __typeof__(leafmesh_write) before_leafmesh_write;
+
+static size_t now_leaf_count(const int64_t *table, size_t table_length, size_t count, size_t leaves,
+                             uint64_t max_level)
+{
+    (void)table, (void)table_length;
+    return leafmesh_leaf_count(count, leaves, max_level);
+}
+
+#define TABLE_LENT const int64_t *table, size_t table_length, size_t count
+#define POLYGONS_LENT \
+    const uint16_t *layers, size_t layers_length, const uint32_t *components, size_t components_length
+#define SHEETS_LENT const double *sheets, size_t sheets_length
+#define LINKS_LENT \
+    const leafmesh_contact_pair *contacts, size_t contacts_length, const leafmesh_via *vias, size_t vias_length, \
+        uint16_t channel_layer, const leafmesh_channel *channels, size_t channels_length
+#define NET_WRITTEN \
+    leafmesh_node *nodes, size_t nodes_length, leafmesh_edge *edges, size_t edges_length, leafmesh_cell *cells, \
+        size_t cells_length, uint64_t *work, size_t work_length
+#define NET_LENT \
+    const leafmesh_node *nodes, size_t nodes_length, const leafmesh_edge *edges, size_t edges_length, \
+        const leafmesh_cell *cells, size_t cells_length
+
+#ifdef WITHOUT_LEAVES
+/* As it was before version 0.6.0: no call took the number of leaves, and a head was added up by the caller. */
+leafmesh_outcome before_leafmesh_build(uint64_t max_level, uint64_t cap, uint64_t target, const leafmesh_layer *list,
+                                       size_t list_length, POLYGONS_LENT, SHEETS_LENT, const uint64_t *counts,
+                                       size_t counts_length, const leafmesh_point *points, size_t points_length,
+                                       int64_t *table, size_t table_length);
+leafmesh_outcome before_leafmesh_leaf_count(TABLE_LENT, uint64_t max_level);
+leafmesh_outcome before_leafmesh_leaf_order(TABLE_LENT, uint64_t max_level, uint64_t *out, size_t out_length);
+leafmesh_outcome before_leafmesh_refine(int64_t *table, size_t table_length, size_t count, uint64_t max_level,
+                                        size_t id);
+leafmesh_outcome before_leafmesh_balance(int64_t *table, size_t table_length, size_t count, uint64_t max_level);
+leafmesh_outcome before_leafmesh_conform(int64_t *table, size_t table_length, size_t count, uint64_t max_level);
+leafmesh_check_outcome before_leafmesh_check_network_conforming(TABLE_LENT, uint64_t max_level, NET_LENT,
+                                                                uint64_t *work, size_t work_length);
+leafmesh_check_outcome before_leafmesh_check_by_layer(TABLE_LENT, uint64_t max_level, NET_LENT, POLYGONS_LENT,
+                                                      uint64_t *work, size_t work_length);
+
+/* The head after so many splits of a table with this one. */
+static leafmesh_table_outcome head_after(leafmesh_outcome o, uint64_t splits, size_t count, size_t leaves,
+                                         uint64_t max_level)
+{
+    if (o.number != LEAFMESH_ACCEPTED)
+        return (leafmesh_table_outcome){o.number, o.place, 0, 0, 0, 0};
+    return (leafmesh_table_outcome){0, 0, 0, count + 4 * splits, leaves + 3 * splits, max_level};
+}
+
+static leafmesh_table_outcome before_build(uint64_t max_level, uint64_t cap, uint64_t target,
+                                           const leafmesh_layer *list, size_t list_length, POLYGONS_LENT, SHEETS_LENT,
+                                           const uint64_t *counts, size_t counts_length, const leafmesh_point *points,
+                                           size_t points_length, int64_t *table, size_t table_length)
+{
+    const leafmesh_outcome o = before_leafmesh_build(max_level, cap, target, list, list_length, layers, layers_length,
+                                                     components, components_length, sheets, sheets_length, counts,
+                                                     counts_length, points, points_length, table, table_length);
+    return head_after(o, 0, o.value, o.value, max_level);
+}
+
+static size_t before_leaf_count(TABLE_LENT, size_t leaves, uint64_t max_level)
+{
+    (void)leaves;
+    return before_leafmesh_leaf_count(table, table_length, count, max_level).value;
+}
+
+static leafmesh_outcome before_leaf_order(TABLE_LENT, size_t leaves, uint64_t max_level, uint64_t *out,
+                                          size_t out_length)
+{
+    (void)leaves;
+    return before_leafmesh_leaf_order(table, table_length, count, max_level, out, out_length);
+}
+
+static leafmesh_table_outcome before_refine(int64_t *table, size_t table_length, size_t count, size_t leaves,
+                                            uint64_t max_level, size_t id)
+{
+    return head_after(before_leafmesh_refine(table, table_length, count, max_level, id), 1, count, leaves, max_level);
+}
+
+static leafmesh_table_outcome evened(leafmesh_outcome o, size_t count, size_t leaves, uint64_t max_level)
+{
+    leafmesh_table_outcome after = head_after(o, o.value, count, leaves, max_level);
+    after.splits = o.value;
+    return after;
+}
+
+static leafmesh_table_outcome before_balance(int64_t *table, size_t table_length, size_t count, size_t leaves,
+                                             uint64_t max_level)
+{
+    return evened(before_leafmesh_balance(table, table_length, count, max_level), count, leaves, max_level);
+}
+
+static leafmesh_table_outcome before_conform(int64_t *table, size_t table_length, size_t count, size_t leaves,
+                                             uint64_t max_level)
+{
+    return evened(before_leafmesh_conform(table, table_length, count, max_level), count, leaves, max_level);
+}
+
+static leafmesh_check_outcome before_by_place(TABLE_LENT, size_t leaves, uint64_t max_level, NET_LENT, uint64_t *work,
+                                              size_t work_length)
+{
+    (void)leaves;
+    return before_leafmesh_check_network_conforming(table, table_length, count, max_level, nodes, nodes_length, edges,
+                                                    edges_length, cells, cells_length, work, work_length);
+}
+
+static leafmesh_check_outcome before_by_layer(TABLE_LENT, size_t leaves, uint64_t max_level, NET_LENT, POLYGONS_LENT,
+                                              uint64_t *work, size_t work_length)
+{
+    (void)leaves;
+    return before_leafmesh_check_by_layer(table, table_length, count, max_level, nodes, nodes_length, edges,
+                                          edges_length, cells, cells_length, layers, layers_length, components,
+                                          components_length, work, work_length);
+}
+
+#ifdef WITHOUT_LINKS
+/* As it was before version 0.4.0. No call here has links. */
+typedef struct {
+    uint64_t number, place, nodes, edges, cells;
+} outcome_without_links;
+outcome_without_links before_leafmesh_network(TABLE_LENT, uint64_t max_level, POLYGONS_LENT, SHEETS_LENT, NET_WRITTEN);
+#define LINKS
+#else
+leafmesh_net_outcome before_leafmesh_network(TABLE_LENT, uint64_t max_level, POLYGONS_LENT, SHEETS_LENT, LINKS_LENT,
+                                             NET_WRITTEN);
+#define LINKS contacts, contacts_length, vias, vias_length, channel_layer, channels, channels_length,
+#endif
+
+static leafmesh_net_outcome before_network(TABLE_LENT, size_t leaves, uint64_t max_level, POLYGONS_LENT, SHEETS_LENT,
+                                           LINKS_LENT, NET_WRITTEN)
+{
+    (void)leaves, (void)contacts, (void)vias, (void)channels, (void)channel_layer;
+    (void)contacts_length, (void)vias_length, (void)channels_length;
+    const __typeof__(before_leafmesh_network(table, table_length, count, max_level, layers, layers_length, components,
+                                             components_length, sheets, sheets_length, LINKS nodes, nodes_length, edges,
+                                             edges_length, cells, cells_length, work, work_length)) o =
+        before_leafmesh_network(table, table_length, count, max_level, layers, layers_length, components,
+                                components_length, sheets, sheets_length, LINKS nodes, nodes_length, edges,
+                                edges_length, cells, cells_length, work, work_length);
+    return (leafmesh_net_outcome){o.number, o.place, o.nodes, o.edges, o.cells, 0};
+}
+#else
 extern __typeof__(leafmesh_build) before_leafmesh_build;
 extern __typeof__(leafmesh_leaf_count) before_leafmesh_leaf_count;
 extern __typeof__(leafmesh_leaf_order) before_leafmesh_leaf_order;
 extern __typeof__(leafmesh_refine) before_leafmesh_refine;
 extern __typeof__(leafmesh_balance) before_leafmesh_balance;
 extern __typeof__(leafmesh_conform) before_leafmesh_conform;
-#ifdef WITHOUT_LINKS
-/* As it was before version 0.4.0. */
-typedef struct {
-    uint64_t number, place, nodes, edges, cells;
-} outcome_without_links;
-outcome_without_links before_leafmesh_network(const int64_t *table, size_t table_length, size_t count,
-                                              uint64_t max_level, const uint16_t *layers, size_t layers_length,
-                                              const uint32_t *components, size_t components_length,
-                                              const double *sheets, size_t sheets_length, leafmesh_node *nodes,
-                                              size_t nodes_length, leafmesh_edge *edges, size_t edges_length,
-                                              leafmesh_cell *cells, size_t cells_length, uint64_t *work,
-                                              size_t work_length);
-
-/* No call here has links. */
-static leafmesh_net_outcome before_network(const int64_t *table, size_t table_length, size_t count, uint64_t max_level,
-                                           const uint16_t *layers, size_t layers_length, const uint32_t *components,
-                                           size_t components_length, const double *sheets, size_t sheets_length,
-                                           const leafmesh_contact_pair *contacts, size_t contacts_length,
-                                           const leafmesh_via *vias, size_t vias_length, uint16_t channel_layer,
-                                           const leafmesh_channel *channels, size_t channels_length,
-                                           leafmesh_node *nodes, size_t nodes_length, leafmesh_edge *edges,
-                                           size_t edges_length, leafmesh_cell *cells, size_t cells_length,
-                                           uint64_t *work, size_t work_length)
-{
-    (void)contacts, (void)vias, (void)channels, (void)channel_layer;
-    (void)contacts_length, (void)vias_length, (void)channels_length;
-    const outcome_without_links o = before_leafmesh_network(
-        table, table_length, count, max_level, layers, layers_length, components, components_length, sheets,
-        sheets_length, nodes, nodes_length, edges, edges_length, cells, cells_length, work, work_length);
-    return (leafmesh_net_outcome){o.number, o.place, o.nodes, o.edges, o.cells, 0};
-}
-#else
 extern __typeof__(leafmesh_network) before_leafmesh_network;
-#define before_network before_leafmesh_network
-#endif
-extern __typeof__(leafmesh_power) before_leafmesh_power;
 extern __typeof__(leafmesh_check_network_conforming) before_leafmesh_check_network_conforming;
 extern __typeof__(leafmesh_check_by_layer) before_leafmesh_check_by_layer;
-extern __typeof__(leafmesh_read) before_leafmesh_read;
-extern __typeof__(leafmesh_write) before_leafmesh_write;
+#define before_build before_leafmesh_build
+#define before_leaf_order before_leafmesh_leaf_order
+#define before_refine before_leafmesh_refine
+#define before_balance before_leafmesh_balance
+#define before_conform before_leafmesh_conform
+#define before_network before_leafmesh_network
+#define before_by_place before_leafmesh_check_network_conforming
+#define before_by_layer before_leafmesh_check_by_layer
+
+static size_t before_leaf_count(TABLE_LENT, size_t leaves, uint64_t max_level)
+{
+    (void)table, (void)table_length;
+    return before_leafmesh_leaf_count(count, leaves, max_level);
+}
+#endif
 
 static const library builds[2] = {
-    {leafmesh_strips, leafmesh_build, leafmesh_leaf_count, leafmesh_leaf_order, leafmesh_refine, leafmesh_balance,
+    {leafmesh_strips, leafmesh_build, now_leaf_count, leafmesh_leaf_order, leafmesh_refine, leafmesh_balance,
      leafmesh_conform, leafmesh_network, leafmesh_power, leafmesh_check_network_conforming, leafmesh_check_by_layer,
      leafmesh_read, leafmesh_write},
-    {before_leafmesh_strips, before_leafmesh_build, before_leafmesh_leaf_count, before_leafmesh_leaf_order,
-     before_leafmesh_refine, before_leafmesh_balance, before_leafmesh_conform, before_network,
-     before_leafmesh_power, before_leafmesh_check_network_conforming, before_leafmesh_check_by_layer,
-     before_leafmesh_read, before_leafmesh_write},
+    {before_leafmesh_strips, before_build, before_leaf_count, before_leaf_order, before_refine, before_balance,
+     before_conform, before_network, before_leafmesh_power, before_by_place, before_by_layer, before_leafmesh_read,
+     before_leafmesh_write},
 };
 
 /* What the calls are lent, and what is written, by build. */
@@ -123,7 +247,7 @@ _Static_assert(LEAFMESH_CHECK_WORK_LENGTH(LEAFMESH_NODES_LENGTH(LEAFMESH_SLOTS),
 static struct {
     const char *name;
     int64_t table[LEAFMESH_TABLE_LENGTH(LEAFMESH_SLOTS)];
-    size_t count;
+    size_t count, leaves;
     uint64_t max_level;
     size_t polygons;
     uint16_t layers[LEAFMESH_POLYGONS];
@@ -165,34 +289,35 @@ static uint64_t random_number(void)
 
 static void leaf_count(const library *l, rows *r)
 {
-    SAY(l->leaf_count(r->table, sizeof r->table / 8, board.count, board.max_level));
+    SAY(l->leaf_count(r->table, sizeof r->table / 8, board.count, board.leaves, board.max_level));
 }
 
 static void leaf_order(const library *l, rows *r)
 {
-    SAY(l->leaf_order(r->table, sizeof r->table / 8, board.count, board.max_level, r->order, LEAFMESH_SLOTS));
+    SAY(l->leaf_order(r->table, sizeof r->table / 8, board.count, board.leaves, board.max_level, r->order,
+                      LEAFMESH_SLOTS));
 }
 
 static void refine(const library *l, rows *r)
 {
-    SAY(l->refine(r->table, sizeof r->table / 8, board.count, board.max_level, board.count - 1));
+    SAY(l->refine(r->table, sizeof r->table / 8, board.count, board.leaves, board.max_level, board.count - 1));
 }
 
 static void balance(const library *l, rows *r)
 {
-    SAY(l->balance(r->table, sizeof r->table / 8, board.count, board.max_level));
+    SAY(l->balance(r->table, sizeof r->table / 8, board.count, board.leaves, board.max_level));
 }
 
 static void conform(const library *l, rows *r)
 {
-    SAY(l->conform(r->table, sizeof r->table / 8, board.count, board.max_level));
+    SAY(l->conform(r->table, sizeof r->table / 8, board.count, board.leaves, board.max_level));
 }
 
 static void network(const library *l, rows *r)
 {
-    SAY(l->network(r->table, sizeof r->table / 8, board.count, board.max_level, board.layers, board.polygons,
-                   board.components, board.polygons, board.sheets, board.polygons, NULL, 0, NULL, 0, 0, NULL, 0,
-                   r->nodes, sizeof r->nodes / sizeof *r->nodes, r->edges, sizeof r->edges / sizeof *r->edges,
+    SAY(l->network(r->table, sizeof r->table / 8, board.count, board.leaves, board.max_level, board.layers,
+                   board.polygons, board.components, board.polygons, board.sheets, board.polygons, NULL, 0, NULL, 0, 0,
+                   NULL, 0, r->nodes, sizeof r->nodes / sizeof *r->nodes, r->edges, sizeof r->edges / sizeof *r->edges,
                    r->cells, sizeof r->cells / sizeof *r->cells, work, LEAFMESH_WORK_LENGTH(LEAFMESH_SLOTS)));
 }
 
@@ -204,24 +329,25 @@ static void power(const library *l, rows *r)
 
 static void by_place(const library *l, rows *r)
 {
-    SAY(l->by_place(r->table, sizeof r->table / 8, board.count, board.max_level, r->nodes, board.net.nodes, r->edges,
-                    board.net.edges, r->cells, board.net.cells, work,
+    SAY(l->by_place(r->table, sizeof r->table / 8, board.count, board.leaves, board.max_level, r->nodes,
+                    board.net.nodes, r->edges, board.net.edges, r->cells, board.net.cells, work,
                     LEAFMESH_CHECK_WORK_LENGTH(board.net.nodes, board.net.edges)));
 }
 
 static void by_layer(const library *l, rows *r)
 {
-    SAY(l->by_layer(r->table, sizeof r->table / 8, board.count, board.max_level, r->nodes, board.net.nodes, r->edges,
-                    board.net.edges, r->cells, board.net.cells, board.layers, board.polygons, board.components,
-                    board.polygons, work, LEAFMESH_CHECK_WORK_LENGTH(board.net.nodes, board.net.edges)));
+    SAY(l->by_layer(r->table, sizeof r->table / 8, board.count, board.leaves, board.max_level, r->nodes,
+                    board.net.nodes, r->edges, board.net.edges, r->cells, board.net.cells, board.layers,
+                    board.polygons, board.components, board.polygons, work,
+                    LEAFMESH_CHECK_WORK_LENGTH(board.net.nodes, board.net.edges)));
 }
 
 /* The walk without work room. */
 static void by_layer_plain(const library *l, rows *r)
 {
-    SAY(l->by_layer(r->table, sizeof r->table / 8, board.count, board.max_level, r->nodes, board.net.nodes, r->edges,
-                    board.net.edges, r->cells, board.net.cells, board.layers, board.polygons, board.components,
-                    board.polygons, NULL, 0));
+    SAY(l->by_layer(r->table, sizeof r->table / 8, board.count, board.leaves, board.max_level, r->nodes,
+                    board.net.nodes, r->edges, board.net.edges, r->cells, board.net.cells, board.layers,
+                    board.polygons, board.components, board.polygons, NULL, 0));
 }
 
 static void strips(const library *l, rows *r)
@@ -280,13 +406,20 @@ static void root(int64_t x, int64_t y, int64_t side, int64_t polygon)
 {
     int64_t slot[LEAFMESH_SLOT] = {x, y, x + side, y + side, 0, LEAFMESH_NO_CELL, LEAFMESH_NO_CELL, polygon};
     memcpy(board.table + LEAFMESH_SLOT * board.count++, slot, sizeof slot);
+    board.leaves++;
+}
+
+static void keep_head(leafmesh_table_outcome o)
+{
+    if (o.number == LEAFMESH_ACCEPTED) {
+        board.count = o.count;
+        board.leaves = o.leaves;
+    }
 }
 
 static void split(size_t id)
 {
-    leafmesh_outcome o = leafmesh_refine(board.table, sizeof board.table / 8, board.count, board.max_level, id);
-    if (o.number == LEAFMESH_ACCEPTED)
-        board.count = o.value;
+    keep_head(leafmesh_refine(board.table, sizeof board.table / 8, board.count, board.leaves, board.max_level, id));
 }
 
 static void begin(const char *name, size_t polygons, uint64_t max_level)
@@ -342,9 +475,7 @@ static void neck(void)
             c[LEAFMESH_Y0] < y + near)
             split(id);
     }
-    leafmesh_outcome o = leafmesh_balance(board.table, sizeof board.table / 8, board.count, board.max_level);
-    if (o.number == LEAFMESH_ACCEPTED)
-        board.count += 4 * o.value;
+    keep_head(leafmesh_balance(board.table, sizeof board.table / 8, board.count, board.leaves, board.max_level));
     time_board();
 }
 
@@ -410,6 +541,7 @@ static void box(int64_t x0, int64_t y0, int64_t x1, int64_t y1)
 {
     int64_t slot[LEAFMESH_SLOT] = {x0, y0, x1, y1, 0, LEAFMESH_NO_CELL, LEAFMESH_NO_CELL, 0};
     memcpy(board.table + LEAFMESH_SLOT * board.count++, slot, sizeof slot);
+    board.leaves++;
 }
 
 /* One root over a row of others, an odd number of them, so that none of their corners is at its middle. */

@@ -164,16 +164,16 @@ static double balance_table(const forest *f, cell_list *leaves, size_t *leaves_b
     *leaves_before = list_before.count;
     free(list_before.cells);
     double best = 1e9, start = now();
-    leafmesh_outcome outcome = {0, 0, 0};
+    leafmesh_table_outcome outcome = {0, 0, 0, 0, 0, 0};
     for (int round = 0; round < LEAST_ROUNDS || now() - start < ENOUGH; round++) {
         memcpy(table, before, length * sizeof *table);
         double from = now();
-        outcome = leafmesh_balance(table, length, count, (uint64_t)f->max_level);
+        outcome = leafmesh_balance(table, length, count, list_before.count, (uint64_t)f->max_level);
         double took = now() - from;
         if (took < best) best = took;
     }
     if (outcome.number != 0) fail(f, "balance is refused");
-    *leaves = leaves_of_table(table, count + 4 * outcome.value);
+    *leaves = leaves_of_table(table, outcome.count);
     free(before);
     free(table);
     return best;

@@ -85,7 +85,7 @@ static leafmesh_polygon polygons[LEAFMESH_POLYGONS];
 static size_t polygon_count;
 static uint64_t max_level, target;
 static int64_t table[LEAFMESH_SLOT * SLOTS], kept[LEAFMESH_SLOT * SLOTS];
-static size_t count, room, id;
+static size_t count, leaf_number, room, id;
 static uint64_t ids[SLOTS];
 static leafmesh_node nodes[LEAFMESH_NODES_LENGTH(SLOTS)];
 static leafmesh_edge edges[LEAFMESH_EDGES_LENGTH(SLOTS)];
@@ -99,6 +99,7 @@ static size_t link_count, edge_room = LEAFMESH_EDGES_LENGTH(SLOTS);
 static size_t work_length, edge_count, byte_count;
 static uint8_t bytes[1 << 15];
 static leafmesh_outcome outcome;
+static leafmesh_table_outcome made;
 static leafmesh_net_outcome net;
 static leafmesh_check_outcome checked;
 static leafmesh_read_outcome record;
@@ -115,54 +116,58 @@ static void strips(void)
 
 static void build(void)
 {
-    outcome = CALL(leafmesh_build)(max_level, LEAFMESH_CAP, target, NULL, 0, layers, polygon_count, components,
-                                   polygon_count, sheets, polygon_count, counts, polygon_count, points, point_count,
-                                   table, LEAFMESH_SLOT * room);
+    made = CALL(leafmesh_build)(max_level, LEAFMESH_CAP, target, NULL, 0, layers, polygon_count, components,
+                                polygon_count, sheets, polygon_count, counts, polygon_count, points, point_count,
+                                table, LEAFMESH_SLOT * room);
+    outcome.number = made.number;
 }
 
 static void leaf_count(void)
 {
-    outcome = CALL(leafmesh_leaf_count)(table, LEAFMESH_SLOT * SLOTS, count, max_level);
+    outcome.value = CALL(leafmesh_leaf_count)(count, leaf_number, max_level);
 }
 
 static void leaves(void)
 {
-    outcome = CALL(leafmesh_leaves)(table, LEAFMESH_SLOT * SLOTS, count, max_level, ids, room);
+    outcome = CALL(leafmesh_leaves)(table, LEAFMESH_SLOT * SLOTS, count, leaf_number, max_level, ids, room);
 }
 
 static void leaf_order(void)
 {
-    outcome = CALL(leafmesh_leaf_order)(table, LEAFMESH_SLOT * SLOTS, count, max_level, ids, room);
+    outcome = CALL(leafmesh_leaf_order)(table, LEAFMESH_SLOT * SLOTS, count, leaf_number, max_level, ids, room);
 }
 
 static void refine(void)
 {
-    outcome = CALL(leafmesh_refine)(table, LEAFMESH_SLOT * room, count, max_level, id);
+    made = CALL(leafmesh_refine)(table, LEAFMESH_SLOT * room, count, leaf_number, max_level, id);
+    outcome.number = made.number;
 }
 
 static void balance(void)
 {
-    outcome = CALL(leafmesh_balance)(table, LEAFMESH_SLOT * room, count, max_level);
+    made = CALL(leafmesh_balance)(table, LEAFMESH_SLOT * room, count, leaf_number, max_level);
+    outcome.number = made.number;
 }
 
 static void conform(void)
 {
-    outcome = CALL(leafmesh_conform)(table, LEAFMESH_SLOT * room, count, max_level);
+    made = CALL(leafmesh_conform)(table, LEAFMESH_SLOT * room, count, leaf_number, max_level);
+    outcome.number = made.number;
 }
 
 static void network(void)
 {
-    net = CALL(leafmesh_network)(table, LEAFMESH_SLOT * SLOTS, count, max_level, layers, polygon_count, components,
-                                 polygon_count, sheets, polygon_count, contacts, link_count, vias, link_count, 1,
-                                 channels, link_count, nodes, LEAFMESH_NODES_LENGTH(SLOTS), edges, edge_room, cells,
-                                 LEAFMESH_CELLS_LENGTH(SLOTS), work, work_length);
+    net = CALL(leafmesh_network)(table, LEAFMESH_SLOT * SLOTS, count, leaf_number, max_level, layers, polygon_count,
+                                 components, polygon_count, sheets, polygon_count, contacts, link_count, vias,
+                                 link_count, 1, channels, link_count, nodes, LEAFMESH_NODES_LENGTH(SLOTS), edges,
+                                 edge_room, cells, LEAFMESH_CELLS_LENGTH(SLOTS), work, work_length);
 }
 
 static void edge_rows(void)
 {
-    outcome = CALL(leafmesh_edge_rows)(table, LEAFMESH_SLOT * SLOTS, count, max_level, layers, polygon_count,
-                                       components, polygon_count, sheets, polygon_count, contacts, link_count, vias,
-                                       link_count, 1, channels, link_count);
+    outcome = CALL(leafmesh_edge_rows)(table, LEAFMESH_SLOT * SLOTS, count, leaf_number, max_level, layers,
+                                       polygon_count, components, polygon_count, sheets, polygon_count, contacts,
+                                       link_count, vias, link_count, 1, channels, link_count);
 }
 
 static void power(void)
@@ -173,16 +178,17 @@ static void power(void)
 
 static void check_network_conforming(void)
 {
-    checked = CALL(leafmesh_check_network_conforming)(table, LEAFMESH_SLOT * SLOTS, count, max_level, nodes, net.nodes,
-                                                      edges, edge_count, cells, net.cells, work, work_length);
+    checked = CALL(leafmesh_check_network_conforming)(table, LEAFMESH_SLOT * SLOTS, count, leaf_number, max_level,
+                                                      nodes, net.nodes, edges, edge_count, cells, net.cells, work,
+                                                      work_length);
 }
 
 static void check_by_layer(void)
 {
     checked =
-        CALL(leafmesh_check_by_layer)(table, LEAFMESH_SLOT * SLOTS, count, max_level, nodes, net.nodes, edges,
-                                      edge_count, cells, net.cells, layers, polygon_count, components, polygon_count,
-                                      work, work_length);
+        CALL(leafmesh_check_by_layer)(table, LEAFMESH_SLOT * SLOTS, count, leaf_number, max_level, nodes, net.nodes,
+                                      edges, edge_count, cells, net.cells, layers, polygon_count, components,
+                                      polygon_count, work, work_length);
 }
 
 static void read_record(void)
@@ -274,6 +280,13 @@ static void many_squares(int64_t side)
     }
 }
 
+/* The head that the last call answered. */
+static void keep_head(void)
+{
+    count = made.count;
+    leaf_number = made.leaves;
+}
+
 /* The roots of a square board. */
 static void square_board(int64_t cells, uint64_t levels)
 {
@@ -285,7 +298,7 @@ static void square_board(int64_t cells, uint64_t levels)
     target = (uint64_t)side;
     room = SLOTS;
     PREPARE(leafmesh_build, build);
-    count = outcome.value;
+    keep_head();
 }
 
 /* Splits a root down to the last level, always the same quadrant. */
@@ -295,7 +308,7 @@ static void split_down(size_t root, size_t quadrant)
     for (uint64_t level = 0; level < max_level; level++) {
         PREPARE(leafmesh_refine, refine);
         id = count + quadrant;
-        count = outcome.value;
+        keep_head();
     }
 }
 
@@ -315,7 +328,7 @@ static void board_with_net(int64_t cells, uint64_t levels)
 {
     split_board(cells, levels);
     PREPARE(leafmesh_balance, balance);
-    count += 4 * outcome.value;
+    keep_head();
     work_length = WORK;
     callee = (void (*)(void))leafmesh_network;
     network();

@@ -1,15 +1,12 @@
-//! From outline to net, by the library's own calls: two pads joined by a neck, split where the neck is, balanced,
-//! and solved on the cells to show their power. (`Mesh` holds the same calls in one; examples/neck has a board in
-//! millimetres.)
+//! From outline to net, by the calls of `Table`: two pads joined by a neck, split where the neck is, balanced,
+//! and solved on the cells to show their power. (`Mesh` has the same calls and a row of its own; examples/neck has a
+//! board in millimetres.)
 //!
 //! `cargo run --example outline_to_net`
 
 use leafmesh::columns::Y0;
 use leafmesh::solving::{across, System};
-use leafmesh::{
-    balance, build, check_by_layer, leaf_count, leaf_order, network, power, refine, Head, Net,
-    Outlines, Point, Refusal, Settings, SLOT, TICK,
-};
+use leafmesh::{power, Net, Outlines, Point, Refusal, Settings, Table, SLOT, TICK};
 use std::error::Error;
 use std::io::{stdout, Write};
 
@@ -42,12 +39,13 @@ fn main() -> Result<(), Box<dyn Error>> {
         counts: &[12],
         points: &RING,
     };
-    let mut table = vec![0; SLOT * 256];
-    let (splits, head) = meshed(outlines, &mut table)?;
-    writeln!(out, "{splits} split(s) to balance, {} cells", head.count)?;
+    let mut row = vec![0; SLOT * 256];
+    let (splits, table) = meshed(outlines, &mut row)?;
+    let cells = table.head().count;
+    writeln!(out, "{splits} split(s) to balance, {cells} cells")?;
 
-    let leaves = leaf_count(&table, head)?;
-    let net = network(&table, head, outlines)?;
+    let leaves = table.leaf_count();
+    let net = table.network(outlines)?;
     writeln!(
         out,
         "{leaves} leaves, {} nodes, {} edges",
@@ -55,7 +53,7 @@ fn main() -> Result<(), Box<dyn Error>> {
         net.edges.len()
     )?;
 
-    let found = check_by_layer(&table, head, net.rows(), outlines)?;
+    let found = table.check_by_layer(net.rows(), outlines)?;
     writeln!(out, "a node that isn't joined along a side: {found:?}")?;
 
     let system = System::of_cells(net.rows())?;
@@ -65,8 +63,8 @@ fn main() -> Result<(), Box<dyn Error>> {
     let (cell, watts) = hottest(&net, &volts)?;
     // Cell i of the net is the i-th leaf of the order.
     let mut order = vec![0; leaves];
-    leaf_order(&table, head, &mut order)?;
-    let slot = &table[SLOT * order[cell] as usize..][..SLOT];
+    table.leaf_order(&mut order)?;
+    let slot = &table.row()[SLOT * order[cell] as usize..][..SLOT];
     let area = (slot[2] - slot[0]) as f64 * TICK * (slot[3] - slot[1]) as f64 * TICK;
     let amperes = (watts / (area * SHEET)).sqrt();
     writeln!(
@@ -78,21 +76,20 @@ fn main() -> Result<(), Box<dyn Error>> {
 }
 
 /// The base cells, the one in the middle band and one of its quarters split, balanced.
-fn meshed(outlines: Outlines, table: &mut [i64]) -> Result<(usize, Head), Refusal> {
+fn meshed<'a>(outlines: Outlines, row: &'a mut [i64]) -> Result<(usize, Table<'a>), Refusal> {
     let settings = Settings {
         max_level: 2,
         cap: 256,
         target: 16,
     };
-    let mut head = build(settings, &[], outlines, table)?;
-    for id in 0..head.count {
-        if table[SLOT * id + Y0] == 16 {
-            head = refine(table, head, id)?;
+    let mut table = Table::build(settings, &[], outlines, row)?;
+    for id in 0..table.head().count {
+        if table.row()[SLOT * id + Y0] == 16 {
+            table.refine(id)?;
         }
     }
-    let quarter = head.count - 4;
-    head = refine(table, head, quarter)?;
-    balance(table, head)
+    table.refine(table.head().count - 4)?;
+    Ok((table.balance()?, table))
 }
 
 /// The cell of the most power, and how many watts it has.

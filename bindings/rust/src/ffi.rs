@@ -1,6 +1,6 @@
 //! The raw declarations of include/leafmesh.h, which says what each function does. A row is a pointer and
 //! the number of its entries; where the number is 0 the pointer may be null. The functions of the crate's
-//! root are these behind slices and `Result`.
+//! root and of [`Table`](crate::Table) are these behind slices and `Result`.
 //!
 //! # Safety
 //!
@@ -20,6 +20,19 @@ pub struct Outcome {
     pub number: u64,
     pub place: u64,
     pub value: u64,
+}
+
+/// What a call that makes or changes a table answers: the splits of balance or conform, and the new head; zeros behind
+/// a refusal.
+#[repr(C)]
+#[derive(Clone, Copy, Debug, Default, PartialEq, Eq)]
+pub struct TableOutcome {
+    pub number: u64,
+    pub place: u64,
+    pub splits: u64,
+    pub count: u64,
+    pub leaves: u64,
+    pub max_level: u64,
 }
 
 /// Settings and row counts of a record; zeros behind a refusal.
@@ -62,6 +75,9 @@ pub struct CheckOutcome {
     pub to: u64,
 }
 
+/// What [`leafmesh_balance`] and [`leafmesh_conform`] are called as.
+pub type Evening = unsafe extern "C" fn(*mut i64, usize, usize, usize, u64) -> TableOutcome;
+
 extern "C" {
     pub fn leafmesh_contact(
         ax0: i64,
@@ -97,17 +113,13 @@ extern "C" {
         points_length: usize,
         table: *mut i64,
         table_length: usize,
-    ) -> Outcome;
-    pub fn leafmesh_leaf_count(
-        table: *const i64,
-        table_length: usize,
-        count: usize,
-        max_level: u64,
-    ) -> Outcome;
+    ) -> TableOutcome;
+    pub fn leafmesh_leaf_count(count: usize, leaves: usize, max_level: u64) -> usize;
     pub fn leafmesh_leaves(
         table: *const i64,
         table_length: usize,
         count: usize,
+        leaves: usize,
         max_level: u64,
         out: *mut u64,
         out_length: usize,
@@ -116,6 +128,7 @@ extern "C" {
         table: *const i64,
         table_length: usize,
         count: usize,
+        leaves: usize,
         max_level: u64,
         out: *mut u64,
         out_length: usize,
@@ -124,25 +137,29 @@ extern "C" {
         table: *mut i64,
         table_length: usize,
         count: usize,
+        leaves: usize,
         max_level: u64,
         id: usize,
-    ) -> Outcome;
+    ) -> TableOutcome;
     pub fn leafmesh_balance(
         table: *mut i64,
         table_length: usize,
         count: usize,
+        leaves: usize,
         max_level: u64,
-    ) -> Outcome;
+    ) -> TableOutcome;
     pub fn leafmesh_conform(
         table: *mut i64,
         table_length: usize,
         count: usize,
+        leaves: usize,
         max_level: u64,
-    ) -> Outcome;
+    ) -> TableOutcome;
     pub fn leafmesh_network(
         table: *const i64,
         table_length: usize,
         count: usize,
+        leaves: usize,
         max_level: u64,
         layers: *const u16,
         layers_length: usize,
@@ -170,6 +187,7 @@ extern "C" {
         table: *const i64,
         table_length: usize,
         count: usize,
+        leaves: usize,
         max_level: u64,
         layers: *const u16,
         layers_length: usize,
@@ -201,6 +219,7 @@ extern "C" {
         table: *const i64,
         table_length: usize,
         count: usize,
+        leaves: usize,
         max_level: u64,
         nodes: *const Node,
         nodes_length: usize,
@@ -215,6 +234,7 @@ extern "C" {
         table: *const i64,
         table_length: usize,
         count: usize,
+        leaves: usize,
         max_level: u64,
         nodes: *const Node,
         nodes_length: usize,

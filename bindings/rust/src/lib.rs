@@ -4,8 +4,9 @@
 //! millimetres there and back. Sheet resistance is in ohms a square, potential in volts, power in watts, conductance in
 //! siemens. Every call takes any input and answers `Ok`, or `Err` with a [`Refusal`]; a refused call changes nothing
 //! that it was lent. No call of the library allocates or keeps anything, so any number of threads may call at once;
-//! what is lent stands in the caller's rows. [`Mesh`], [`read`], [`network`], [`linked_network`] and the two checks take
-//! rows from the heap; [`network_with`], [`check_network_conforming_with`] and [`check_by_layer_with`] take lent ones.
+//! what is lent stands in the caller's rows. [`Mesh`], [`read`], [`Table::network`], [`Table::linked_network`] and the
+//! two checks take rows from the heap; [`Table::network_with`], [`Table::check_network_conforming_with`] and
+//! [`Table::check_by_layer_with`] take lent ones.
 //! [`limits`] has the ranges, [`columns`] the places of numbers in a slot and of corners in a cell. [`Links`] are what
 //! joins polygons and layers: contacts, vias and channels.
 //!
@@ -13,18 +14,19 @@
 //! copper of the layer and where two polygons of a component meet: see docs/CONDUCTANCES.md. [`solving`] shows
 //! how to solve on the cells instead.
 //!
-//! **Where bands of a ring get cells of unequal width the net is wrong**, and [`check_by_layer`] names a node that isn't
-//! joined: [`Mesh`] and the tools refuse such a board ([`Unmeshed`]). It is proved not to happen where all coordinates of
-//! a polygon are multiples of its base cell, which a [`Pitch`] sees to, no strip is longer than [`Settings::cap`] of them,
-//! and no two polygons of one layer and component touch.
+//! **Where bands of a ring get cells of unequal width the net is wrong**, and [`Table::check_by_layer`] names a node
+//! that isn't joined: [`Mesh`] and the tools refuse such a board ([`Unmeshed`]). It is proved not to happen where all
+//! coordinates of a polygon are multiples of its base cell, which a [`Pitch`] sees to, no strip is longer than
+//! [`Settings::cap`] of them, and no two polygons of one layer and component touch.
 //!
-//! [`Mesh`] holds a table, its polygons and the calls in one; the functions of this page are the library's own.
+//! [`Table`] holds a lent row and its head, which every call keeps; [`Mesh`] holds a row of its own, its polygons and
+//! the calls in one. The library's own calls, over any row and any head, are in [`ffi`].
 //!
 //! The build links `libleafmesh.a` from crates/leafmesh/out under the repository's root, where
 //! bindings/library.sh leaves it, or from the folder that `LEAFMESH_LIBRARY` names.
 //!
 //! ```
-//! use leafmesh::{balance, build, network, power, refine, Outlines, Settings};
+//! use leafmesh::{power, Outlines, Settings, Table};
 //!
 //! // One square of 8 by 8 ticks, in base cells of 8: one cell, split once.
 //! let outlines = Outlines {
@@ -35,13 +37,13 @@
 //!     points: &[[0, 0], [8, 0], [8, 8], [0, 8]],
 //! };
 //! let settings = Settings { max_level: 2, cap: 256, target: 8 };
-//! let mut table = vec![0; 8 * 64];
-//! let head = build(settings, &[], outlines, &mut table)?;
-//! let head = refine(&mut table, head, 0)?;
-//! let (splits, head) = balance(&mut table, head)?;
-//! assert_eq!((splits, head.count), (0, 5));
+//! let mut row = vec![0; 8 * 64];
+//! let mut table = Table::build(settings, &[], outlines, &mut row)?;
+//! table.refine(0)?;
+//! assert_eq!(table.balance()?, 0);
+//! assert_eq!((table.head().count, table.leaf_count()), (5, 4));
 //!
-//! let net = network(&table, head, outlines)?;
+//! let net = table.network(outlines)?;
 //! assert_eq!((net.nodes.len(), net.edges.len(), net.cells.len()), (9, 12, 4));
 //!
 //! // One volt along x, over two cells of one ohm in line, twice.
@@ -56,6 +58,7 @@
 
 pub mod drawing;
 pub mod ffi;
+mod lent;
 mod links;
 mod marks;
 mod mesh;
@@ -65,6 +68,7 @@ pub mod printed;
 mod refusal;
 pub mod sides;
 pub mod solving;
+mod table;
 pub mod text;
 #[doc(hidden)]
 pub mod tool;
@@ -75,8 +79,9 @@ pub use links::{Channel, Contact, Footprint, Link, Links, OwnedLinks, Terminal, 
 pub use mesh::{Mesh, Polygons};
 pub use net::{Cell, Counts, Edge, Net, NetRoom, NetRows, Node};
 pub use pitch::{Misfit, Pitch, Why};
-use refusal::{judged, judged_net, judged_read};
+use refusal::{judged, judged_read};
 pub use refusal::{Reason, Refusal};
+pub use table::Table;
 pub use unmeshed::{Idle, Loose, TooLong, Unmeshed};
 
 /// x and y in ticks.
@@ -127,11 +132,13 @@ pub mod columns {
     pub const NW: usize = 3;
 }
 
-/// What a table has beside its row: how many cells, and how deep they may be split.
-#[derive(Clone, Copy, Debug, PartialEq, Eq)]
+/// What a table has beside its row: how many cells, how many of them are leaves, and how deep they may be split.
+#[derive(Clone, Copy, Debug, Default, PartialEq, Eq)]
 pub struct Head {
     /// How many cells, split ones among them.
     pub count: usize,
+    /// How many of them are leaves: every call refuses a table that has another number of them.
+    pub leaves: usize,
     /// The deepest level, 0 to 12.
     pub max_level: u64,
 }
@@ -164,8 +171,9 @@ pub struct Outlines<'a> {
     pub points: &'a [Point],
 }
 
-/// A node inside a leaf edge that isn't joined along it: at the middle, and not to both ends ([`check_network_conforming`]),
-/// or anywhere, and not to the points before and after it ([`check_by_layer`]).
+/// A node inside a leaf edge that isn't joined along it: at the middle, and not to both ends
+/// ([`Table::check_network_conforming`]), or anywhere, and not to the points before and after it
+/// ([`Table::check_by_layer`]).
 #[derive(Clone, Copy, Debug, PartialEq, Eq)]
 pub struct Hanging {
     /// The node.
@@ -212,313 +220,9 @@ pub fn strips(ring: &[Point], out: &mut [Rect]) -> Result<usize, Refusal> {
     Ok(judged(outcome)? as usize)
 }
 
-/// The level-0 table of a board. `list` gives some layers a cell size of their own (0: the target),
-/// with rising layers. All slots that are not filled become zero.
-///
-/// # Errors
-///
-/// [`Reason::BadTable`] for rows that don't fit together, [`Reason::OutOfRange`], [`Reason::Slanted`],
-/// [`Reason::UnevenCell`] and [`Reason::NoRoom`], in that order.
-pub fn build(
-    settings: Settings,
-    list: &[[u64; 2]],
-    outlines: Outlines,
-    table: &mut [i64],
-) -> Result<Head, Refusal> {
-    let outcome = unsafe {
-        ffi::leafmesh_build(
-            settings.max_level,
-            settings.cap,
-            settings.target,
-            list.as_ptr(),
-            list.len(),
-            outlines.layers.as_ptr(),
-            outlines.layers.len(),
-            outlines.components.as_ptr(),
-            outlines.components.len(),
-            outlines.sheets.as_ptr(),
-            outlines.sheets.len(),
-            outlines.counts.as_ptr(),
-            outlines.counts.len(),
-            outlines.points.as_ptr(),
-            outlines.points.len(),
-            table.as_mut_ptr(),
-            table.len(),
-        )
-    };
-    Ok(Head {
-        count: judged(outcome)? as usize,
-        max_level: settings.max_level,
-    })
-}
-
-/// How many leaves a table has.
-///
-/// # Errors
-///
-/// [`Reason::BadTable`].
-pub fn leaf_count(table: &[i64], head: Head) -> Result<usize, Refusal> {
-    let outcome = unsafe {
-        ffi::leafmesh_leaf_count(table.as_ptr(), table.len(), head.count, head.max_level)
-    };
-    Ok(judged(outcome)? as usize)
-}
-
-/// The ids of the leaves, rising, into the front of `out`. Answers how many.
-///
-/// # Errors
-///
-/// [`Reason::BadTable`], [`Reason::NoRoom`].
-pub fn leaves(table: &[i64], head: Head, out: &mut [u64]) -> Result<usize, Refusal> {
-    let (to, room) = (out.as_mut_ptr(), out.len());
-    let outcome = unsafe {
-        ffi::leafmesh_leaves(
-            table.as_ptr(),
-            table.len(),
-            head.count,
-            head.max_level,
-            to,
-            room,
-        )
-    };
-    Ok(judged(outcome)? as usize)
-}
-
-/// The ids of the leaves by polygon, then id, into the front of `out`. Answers how many. Cell i of the net is the
-/// i-th of these leaves.
-///
-/// # Errors
-///
-/// [`Reason::BadTable`], [`Reason::NoRoom`].
-pub fn leaf_order(table: &[i64], head: Head, out: &mut [u64]) -> Result<usize, Refusal> {
-    let (to, room) = (out.as_mut_ptr(), out.len());
-    let outcome = unsafe {
-        ffi::leafmesh_leaf_order(
-            table.as_ptr(),
-            table.len(),
-            head.count,
-            head.max_level,
-            to,
-            room,
-        )
-    };
-    Ok(judged(outcome)? as usize)
-}
-
-/// Splits the leaf with this id into four.
-///
-/// # Errors
-///
-/// [`Reason::BadTable`], [`Reason::NoSuchCell`], [`Reason::AlreadySplit`], [`Reason::FinestLevel`], [`Reason::NoRoom`].
-pub fn refine(table: &mut [i64], head: Head, id: usize) -> Result<Head, Refusal> {
-    let (row, length) = (table.as_mut_ptr(), table.len());
-    let outcome = unsafe { ffi::leafmesh_refine(row, length, head.count, head.max_level, id) };
-    Ok(Head {
-        count: judged(outcome)? as usize,
-        ..head
-    })
-}
-
-/// Splits leaves until no two that share an edge differ by more than one level, and no more than that
-/// needs. Answers the number of splits and the new head. Layers play no part: what is split on one splits what lies
-/// on its sides on the others.
-///
-/// # Errors
-///
-/// [`Reason::BadTable`], [`Reason::NoRoom`].
-pub fn balance(table: &mut [i64], head: Head) -> Result<(usize, Head), Refusal> {
-    let (row, length) = (table.as_mut_ptr(), table.len());
-    let outcome = unsafe { ffi::leafmesh_balance(row, length, head.count, head.max_level) };
-    Ok(grown(judged(outcome)?, head))
-}
-
-/// The same until no two leaves that share an edge differ in level.
-///
-/// # Errors
-///
-/// [`Reason::BadTable`], [`Reason::NoRoom`].
-pub fn conform(table: &mut [i64], head: Head) -> Result<(usize, Head), Refusal> {
-    let (row, length) = (table.as_mut_ptr(), table.len());
-    let outcome = unsafe { ffi::leafmesh_conform(row, length, head.count, head.max_level) };
-    Ok(grown(judged(outcome)?, head))
-}
-
-fn grown(splits: u64, head: Head) -> (usize, Head) {
-    let splits = splits as usize;
-    (
-        splits,
-        Head {
-            count: head.count + 4 * splits,
-            ..head
-        },
-    )
-}
-
-/// The net of a table's leaves, without links, in rows from the heap. Of the outlines layers, components and sheets are
-/// read. Cell i is [`leaf_order`]'s i-th leaf.
-///
-/// # Errors
-///
-/// [`Reason::BadTable`] for polygons' rows of unequal length too, [`Reason::OutOfRange`] for a sheet resistance or more
-/// than 256 polygons.
-pub fn network(table: &[i64], head: Head, outlines: Outlines) -> Result<Net, Refusal> {
-    linked_network(table, head, outlines, Links::default())
-}
-
-/// The same with links behind the leaves' edges: those of the contacts, then those of the vias, then those of the
-/// channels. What finds no node on one side makes no link.
-///
-/// ```
-/// use leafmesh::{build, linked_network, Footprint, Links, Outlines, Settings, Via};
-///
-/// // The same square of 4 by 4 ticks on two layers.
-/// let square = [[0, 0], [4, 0], [4, 4], [0, 4]];
-/// let outlines = Outlines {
-///     layers: &[1, 2],
-///     components: &[0, 0],
-///     sheets: &[1.0, 1.0],
-///     counts: &[4, 4],
-///     points: &[square, square].concat(),
-/// };
-/// let mut table = vec![0; 8 * 2];
-/// let head = build(Settings { max_level: 1, cap: 256, target: 4 }, &[], outlines, &mut table)?;
-///
-/// // A via of 1 ohm over the east side: two nodes on each layer, four pairs.
-/// let footprint = Footprint { x: 4, y: 2, half_width: 1, half_height: 2 };
-/// let vias = [Via { bottom: 1, top: 2, component: 0, footprint, resistance: 1.0 }];
-/// let net = linked_network(&table, head, outlines, Links { vias: &vias, ..Links::default() })?;
-/// assert_eq!((net.edges.len(), net.links), (8 + 4, 4));
-/// assert!(net.links().iter().all(|link| link.conductance == 0.25));
-/// # Ok::<(), leafmesh::Refusal>(())
-/// ```
-///
-/// # Errors
-///
-/// Those of [`network`]; [`Reason::OutOfRange`] for a resistance, a half size or a place of a link too, also of one that
-/// would join nothing; [`Reason::NoRoom`] where the heap has too little, since a via of large footprint can make
-/// billions of edges.
-pub fn linked_network(
-    table: &[i64],
-    head: Head,
-    outlines: Outlines,
-    links: Links,
-) -> Result<Net, Refusal> {
-    let leaves = leaf_count(table, head)?;
-    let mut net = Net {
-        nodes: vec![Node::default(); limits::NODES_A_LEAF * leaves],
-        edges: edges_lent(edge_rows(table, head, outlines, links)?)?,
-        cells: vec![Cell::default(); limits::CELLS_A_LEAF * leaves],
-        links: 0,
-    };
-    let room = NetRoom {
-        nodes: &mut net.nodes,
-        edges: &mut net.edges,
-        cells: &mut net.cells,
-        work: &mut vec![0; limits::WORK_A_LEAF * leaves],
-    };
-    let counts = network_with(table, head, outlines, links, room)?;
-    net.nodes.truncate(counts.nodes);
-    net.edges.truncate(counts.edges);
-    net.cells.truncate(counts.cells);
-    net.links = counts.links;
-    Ok(net)
-}
-
-/// So many edges from the heap, if it has them.
-fn edges_lent(rows: usize) -> Result<Vec<Edge>, Refusal> {
-    let no_room = Refusal {
-        reason: Reason::NoRoom,
-        place: 0,
-    };
-    let mut edges = Vec::new();
-    edges.try_reserve_exact(rows).map_err(|_| no_room)?;
-    edges.resize(rows, Edge::default());
-    Ok(edges)
-}
-
-/// The same into the front of lent rows; the work room is zero afterwards.
-///
-/// # Errors
-///
-/// Those of [`linked_network`], then [`Reason::NoRoom`].
-pub fn network_with(
-    table: &[i64],
-    head: Head,
-    outlines: Outlines,
-    links: Links,
-    room: NetRoom,
-) -> Result<Counts, Refusal> {
-    let outcome = unsafe {
-        ffi::leafmesh_network(
-            table.as_ptr(),
-            table.len(),
-            head.count,
-            head.max_level,
-            outlines.layers.as_ptr(),
-            outlines.layers.len(),
-            outlines.components.as_ptr(),
-            outlines.components.len(),
-            outlines.sheets.as_ptr(),
-            outlines.sheets.len(),
-            links.contacts.as_ptr(),
-            links.contacts.len(),
-            links.vias.as_ptr(),
-            links.vias.len(),
-            links.channel_layer,
-            links.channels.as_ptr(),
-            links.channels.len(),
-            room.nodes.as_mut_ptr(),
-            room.nodes.len(),
-            room.edges.as_mut_ptr(),
-            room.edges.len(),
-            room.cells.as_mut_ptr(),
-            room.cells.len(),
-            room.work.as_mut_ptr(),
-            room.work.len(),
-        )
-    };
-    judged_net(outcome)
-}
-
-/// How many edge rows [`network_with`] asks for: [`limits::EDGES_A_LEAF`] for each leaf, and one for each link.
-/// `usize::MAX` also stands for more than that.
-///
-/// # Errors
-///
-/// Those of [`linked_network`].
-pub fn edge_rows(
-    table: &[i64],
-    head: Head,
-    outlines: Outlines,
-    links: Links,
-) -> Result<usize, Refusal> {
-    let outcome = unsafe {
-        ffi::leafmesh_edge_rows(
-            table.as_ptr(),
-            table.len(),
-            head.count,
-            head.max_level,
-            outlines.layers.as_ptr(),
-            outlines.layers.len(),
-            outlines.components.as_ptr(),
-            outlines.components.len(),
-            outlines.sheets.as_ptr(),
-            outlines.sheets.len(),
-            links.contacts.as_ptr(),
-            links.contacts.len(),
-            links.vias.as_ptr(),
-            links.vias.len(),
-            links.channel_layer,
-            links.channels.as_ptr(),
-            links.channels.len(),
-        )
-    };
-    Ok(judged(outcome)? as usize)
-}
-
 /// The power of each cell of a net in watts, from the potential of each node in volts, into the front of `answers`.
-/// Cell i is [`leaf_order`]'s i-th leaf. With its area A in square metres a cell of power P carries, on average, a
-/// sheet current of J = sqrt(P / (A · r_sheet)) amperes a metre.
+/// Cell i is [`Table::leaf_order`]'s i-th leaf. With its area A in square metres a cell of power P carries, on average,
+/// a sheet current of J = sqrt(P / (A · r_sheet)) amperes a metre.
 ///
 /// # Errors
 ///
@@ -540,103 +244,6 @@ pub fn power(net: NetRows, potentials: &[f64], answers: &mut [f64]) -> Result<()
         )
     };
     judged(outcome).map(|_| ())
-}
-
-/// The first leaf edge whose middle node lacks a half, nodes being found by their place alone. Its work room comes
-/// from the heap, so that it takes n log n steps.
-///
-/// # Errors
-///
-/// [`Reason::BadTable`].
-pub fn check_network_conforming(
-    table: &[i64],
-    head: Head,
-    net: NetRows,
-) -> Result<Option<Hanging>, Refusal> {
-    check_network_conforming_with(table, head, net, &mut net.check_work())
-}
-
-/// The same in a lent work room, which may be empty. With [`limits::check_work`] numbers and at most
-/// [`limits::CHECK_NODES`] nodes the check takes n log n steps, and the room is zero after an accepted call; with less
-/// it walks over all nodes for each side, and the room keeps what it held.
-///
-/// # Errors
-///
-/// [`Reason::BadTable`].
-pub fn check_network_conforming_with(
-    table: &[i64],
-    head: Head,
-    net: NetRows,
-    work: &mut [u64],
-) -> Result<Option<Hanging>, Refusal> {
-    let outcome = unsafe {
-        ffi::leafmesh_check_network_conforming(
-            table.as_ptr(),
-            table.len(),
-            head.count,
-            head.max_level,
-            net.nodes.as_ptr(),
-            net.nodes.len(),
-            net.edges.as_ptr(),
-            net.edges.len(),
-            net.cells.as_ptr(),
-            net.cells.len(),
-            work.as_mut_ptr(),
-            work.len(),
-        )
-    };
-    refusal::judged_check(outcome)
-}
-
-/// The first node between the ends of a leaf edge that lacks an edge to the point before or after it: the points are the
-/// ends and every node between them, of the leaf's own layer and component. It takes its work room as
-/// [`check_network_conforming`] does, n log n steps, and log n for each node inside each leaf edge.
-///
-/// # Errors
-///
-/// [`Reason::BadTable`].
-pub fn check_by_layer(
-    table: &[i64],
-    head: Head,
-    net: NetRows,
-    outlines: Outlines,
-) -> Result<Option<Hanging>, Refusal> {
-    check_by_layer_with(table, head, net, outlines, &mut net.check_work())
-}
-
-/// The same in a lent work room, as in [`check_network_conforming_with`].
-///
-/// # Errors
-///
-/// [`Reason::BadTable`].
-pub fn check_by_layer_with(
-    table: &[i64],
-    head: Head,
-    net: NetRows,
-    outlines: Outlines,
-    work: &mut [u64],
-) -> Result<Option<Hanging>, Refusal> {
-    let outcome = unsafe {
-        ffi::leafmesh_check_by_layer(
-            table.as_ptr(),
-            table.len(),
-            head.count,
-            head.max_level,
-            net.nodes.as_ptr(),
-            net.nodes.len(),
-            net.edges.as_ptr(),
-            net.edges.len(),
-            net.cells.as_ptr(),
-            net.cells.len(),
-            outlines.layers.as_ptr(),
-            outlines.layers.len(),
-            outlines.components.as_ptr(),
-            outlines.components.len(),
-            work.as_mut_ptr(),
-            work.len(),
-        )
-    };
-    refusal::judged_check(outcome)
 }
 
 /// A board as a record holds it.
@@ -661,7 +268,7 @@ pub struct Board {
 }
 
 impl Board {
-    /// What [`build`] takes.
+    /// What [`Table::build`] takes.
     pub fn settings(&self) -> Settings {
         Settings {
             max_level: self.max_level,

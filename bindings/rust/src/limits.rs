@@ -54,7 +54,7 @@ pub const EDGES_A_LEAF: usize = 8;
 /// Cells that a net needs for each leaf.
 pub const CELLS_A_LEAF: usize = 1;
 
-/// Work numbers that [`network`](crate::network) needs for each leaf.
+/// Work numbers that [`Table::network`](crate::Table::network) needs for each leaf.
 pub const WORK_A_LEAF: usize = 64;
 
 /// Work numbers for each node with which a check takes n log n steps.

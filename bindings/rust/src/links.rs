@@ -74,7 +74,8 @@ pub struct Channel {
 const _: () =
     assert!(size_of::<Contact>() == 16 && size_of::<Via>() == 48 && size_of::<Channel>() == 56);
 
-/// What joins polygons and layers, as [`linked_network`](crate::linked_network) takes it. By default there is nothing.
+/// What joins polygons and layers, as [`Table::linked_network`](crate::Table::linked_network) takes it. By default
+/// there is nothing.
 #[derive(Clone, Copy, Debug, Default, PartialEq)]
 pub struct Links<'a> {
     /// The first of the links.

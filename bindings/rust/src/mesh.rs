@@ -1,15 +1,15 @@
-//! A board's mesh and net with rooms of their own: the calls of the crate's root, one after another.
+//! A board's mesh and net with rooms of their own: the calls of [`Table`], one after another.
 
 use crate::columns::{FIRST_CHILD, LEVEL, POLYGON, X0, Y1};
+use crate::lent::Lent;
 use crate::sides::has_side;
 use crate::unmeshed::{refused, Idle, Loose, TooLong, Unmeshed};
 use crate::{
-    balance, build, check_by_layer, edge_rows, leaf_count, leaf_order, limits, linked_network,
-    refine, Board, Hanging, Head, Links, Net, NetRows, Outlines, Point, Reason, Rect, Refusal,
-    Settings, NO_CELL, SLOT, SLOTS,
+    Board, Hanging, Head, Links, Net, NetRows, Outlines, Point, Reason, Rect, Refusal, Settings,
+    Table, NO_CELL, SLOT, SLOTS,
 };
 
-/// Polygons by rows, owned: what [`build`] and [`network`](crate::network) take as [`Outlines`].
+/// Polygons by rows, owned: what [`Table::build`] and [`Table::network`] take as [`Outlines`].
 #[derive(Clone, Debug, Default, PartialEq)]
 pub struct Polygons {
     /// The layer of each polygon.
@@ -47,7 +47,7 @@ impl Polygons {
 }
 
 impl Board {
-    /// The polygons of a board as [`build`] takes them.
+    /// The polygons of a board as [`Table::build`] takes them.
     ///
     /// # Errors
     ///
@@ -76,7 +76,7 @@ impl Board {
 pub struct Mesh {
     /// Eight numbers a slot; [`columns`](crate::columns) names them.
     pub table: Vec<i64>,
-    /// How many of the slots are cells, and the deepest level.
+    /// How many of the slots are cells, how many of these leaves, and the deepest level.
     pub head: Head,
     /// What the board was cut by.
     pub settings: Settings,
@@ -87,19 +87,21 @@ pub struct Mesh {
 }
 
 impl Mesh {
-    /// The base cells of a board. `list` gives some layers a cell size of their own, as in [`build`].
+    /// The base cells of a board. `list` gives some layers a cell size of their own, as in [`Table::build`].
     ///
     /// # Errors
     ///
-    /// Those of [`build`]. Where a base cell is uneven since its strip is too long, [`Unmeshed::TooLong`].
+    /// Those of [`Table::build`]. Where a base cell is uneven since its strip is too long, [`Unmeshed::TooLong`].
     pub fn new(
         settings: Settings,
         list: &[[u64; 2]],
         polygons: Polygons,
     ) -> Result<Self, Unmeshed> {
         let mut table = vec![0; SLOT * SLOTS];
-        let head = build(settings, list, polygons.outlines(), &mut table)
-            .map_err(|refusal| refused(refusal, settings, list, polygons.outlines()))?;
+        let outlines = polygons.outlines();
+        let head = Table::build(settings, list, outlines, &mut table)
+            .map_err(|refusal| refused(refusal, settings, list, outlines))?
+            .head();
         Ok(Mesh {
             table,
             head,
@@ -113,7 +115,7 @@ impl Mesh {
     ///
     /// # Errors
     ///
-    /// Those of [`Mesh::new`], [`refine`], [`balance`], [`Board::polygons`] and [`Mesh::net`].
+    /// Those of [`Mesh::new`], [`Table::refine`], [`Table::balance`], [`Board::polygons`] and [`Mesh::net`].
     pub fn of_board(board: &Board) -> Result<Self, Unmeshed> {
         let mesh = Mesh::unjudged(board)?;
         mesh.net()?;
@@ -124,7 +126,7 @@ impl Mesh {
     ///
     /// # Errors
     ///
-    /// Those of [`Mesh::new`], [`refine`], [`balance`] and [`Board::polygons`].
+    /// Those of [`Mesh::new`], [`Table::refine`], [`Table::balance`] and [`Board::polygons`].
     pub fn unjudged(board: &Board) -> Result<Self, Unmeshed> {
         let mut mesh = Mesh::new(board.settings(), &board.layers, board.polygons()?)?;
         for &id in &board.splits {
@@ -134,13 +136,22 @@ impl Mesh {
         Ok(mesh)
     }
 
+    fn lent(&self) -> Lent<'_> {
+        Lent {
+            row: &self.table,
+            head: self.head,
+        }
+    }
+
     /// Splits one leaf.
     ///
     /// # Errors
     ///
-    /// Those of [`refine`].
+    /// Those of [`Table::refine`], and [`Reason::BadTable`].
     pub fn refine(&mut self, id: usize) -> Result<(), Refusal> {
-        self.head = refine(&mut self.table, self.head, id)?;
+        let mut table = Table::unjudged(&mut self.table, self.head);
+        table.refine(id)?;
+        self.head = table.head();
         Ok(())
     }
 
@@ -148,21 +159,23 @@ impl Mesh {
     ///
     /// # Errors
     ///
-    /// Those of [`balance`].
+    /// Those of [`Table::balance`], and [`Reason::BadTable`].
     pub fn balance(&mut self) -> Result<usize, Refusal> {
-        let (splits, head) = balance(&mut self.table, self.head)?;
-        self.head = head;
+        let mut table = Table::unjudged(&mut self.table, self.head);
+        let splits = table.balance()?;
+        self.head = table.head();
         Ok(splits)
     }
 
-    /// The leaves' ids in [`leaf_order`]: cell i of the net is the i-th of them.
+    /// The leaves' ids in [`Table::leaf_order`]: cell i of the net is the i-th of them.
     ///
     /// # Errors
     ///
-    /// Those of [`leaf_order`].
+    /// Those of [`Table::leaf_order`], and [`Reason::BadTable`].
     pub fn order(&self) -> Result<Vec<usize>, Refusal> {
-        let mut ids = vec![0; leaf_count(&self.table, self.head)?];
-        leaf_order(&self.table, self.head, &mut ids)?;
+        self.lent().judge()?;
+        let mut ids = vec![0; self.lent().leaf_count()];
+        self.lent().leaf_order(&mut ids)?;
         Ok(ids.into_iter().map(|id| id as usize).collect())
     }
 
@@ -170,7 +183,7 @@ impl Mesh {
     ///
     /// # Errors
     ///
-    /// Those of [`network`](crate::network); [`Unmeshed::TooLong`] or [`Unmeshed::Loose`] where the net would be wrong,
+    /// Those of [`Table::network`]; [`Unmeshed::TooLong`] or [`Unmeshed::Loose`] where the net would be wrong,
     /// since [`Mesh::check`] names a node inside a leaf's side.
     pub fn net(&self) -> Result<Net, Unmeshed> {
         self.linked_net(Links::default())
@@ -180,7 +193,8 @@ impl Mesh {
     ///
     /// # Errors
     ///
-    /// Those of [`linked_network`] and of [`Mesh::net`]; [`Unmeshed::Idle`] for the first link that joins nothing.
+    /// Those of [`Table::linked_network`] and of [`Mesh::net`]; [`Unmeshed::Idle`] for the first link that joins
+    /// nothing.
     pub fn linked_net(&self, links: Links) -> Result<Net, Unmeshed> {
         let net = self.unjudged_linked_net(links)?;
         if let Some(hanging) = self.check(net.rows())? {
@@ -193,34 +207,34 @@ impl Mesh {
         }
     }
 
-    /// The net of the leaves, without links, whatever stands inside their sides: as [`network`](crate::network) makes it.
+    /// The net of the leaves, without links, whatever stands inside their sides: as [`Table::network`] makes it.
     ///
     /// # Errors
     ///
-    /// Those of [`network`](crate::network).
+    /// Those of [`Table::network`].
     pub fn unjudged_net(&self) -> Result<Net, Refusal> {
         self.unjudged_linked_net(Links::default())
     }
 
     /// The net of leaves and links, whatever stands inside the leaves' sides, and whether the links join anything: as
-    /// [`linked_network`] makes it.
+    /// [`Table::linked_network`] makes it.
     ///
     /// # Errors
     ///
-    /// Those of [`linked_network`].
+    /// Those of [`Table::linked_network`].
     pub fn unjudged_linked_net(&self, links: Links) -> Result<Net, Refusal> {
-        linked_network(&self.table, self.head, self.polygons.outlines(), links)
+        self.lent().linked_network(self.polygons.outlines(), links)
     }
 
     /// How many edges each link makes, in the order of [`Links::each`]: that of the net's links.
     ///
     /// # Errors
     ///
-    /// Those of [`edge_rows`].
+    /// Those of [`Table::edge_rows`], and [`Reason::BadTable`].
     pub fn edges_of_links(&self, links: Links) -> Result<Vec<usize>, Refusal> {
-        let own = limits::EDGES_A_LEAF * leaf_count(&self.table, self.head)?;
-        let outlines = self.polygons.outlines();
-        let count = |(_, one)| Ok(edge_rows(&self.table, self.head, outlines, one)? - own);
+        let rows = |links| self.lent().edge_rows(self.polygons.outlines(), links);
+        let own = rows(Links::default())?;
+        let count = |(_, one)| Ok(rows(one)? - own);
         links.each().map(count).collect()
     }
 
@@ -229,12 +243,15 @@ impl Mesh {
     ///
     /// # Errors
     ///
-    /// Those of [`check_by_layer`].
+    /// Those of [`Table::check_by_layer`], and [`Reason::BadTable`].
     pub fn check(&self, net: NetRows) -> Result<Option<Hanging>, Refusal> {
-        check_by_layer(&self.table, self.head, net, self.polygons.outlines())
+        let work = &mut net.check_work();
+        self.lent()
+            .check_by_layer(net, self.polygons.outlines(), work)
     }
 
-    /// Why a node inside a side isn't joined along it: a strip of the same copper that is too long, or the place itself.
+    /// Why a node inside a side isn't joined along it: a strip of the same copper that is too long, or the place
+    /// itself.
     fn why_loose(&self, net: &Net, hanging: Hanging) -> Unmeshed {
         let Hanging { node, from, to } = hanging;
         let (on, rows) = (net.nodes[node], &self.polygons);

@@ -52,7 +52,7 @@ pub struct Net {
     pub nodes: Vec<Node>,
     /// By polygon, as docs/RULES.md has their order; then the links.
     pub edges: Vec<Edge>,
-    /// Cell i is [`leaf_order`](crate::leaf_order)'s i-th leaf.
+    /// Cell i is [`Table::leaf_order`](crate::Table::leaf_order)'s i-th leaf.
     pub cells: Vec<Cell>,
     /// How many of the edges are links.
     pub links: usize,
@@ -98,7 +98,8 @@ impl NetRows<'_> {
 pub struct NetRoom<'a> {
     /// [`NODES_A_LEAF`](limits::NODES_A_LEAF) for each leaf.
     pub nodes: &'a mut [Node],
-    /// [`EDGES_A_LEAF`](limits::EDGES_A_LEAF) for each leaf, and one for each link: [`edge_rows`](crate::edge_rows).
+    /// [`EDGES_A_LEAF`](limits::EDGES_A_LEAF) for each leaf, and one for each link:
+    /// [`Table::edge_rows`](crate::Table::edge_rows).
     pub edges: &'a mut [Edge],
     /// [`CELLS_A_LEAF`](limits::CELLS_A_LEAF) for each leaf.
     pub cells: &'a mut [Cell],

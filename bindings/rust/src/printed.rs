@@ -2,8 +2,8 @@
 
 use crate::sides::{corners_of, has_side};
 use crate::{
-    check_by_layer, Board, Edge, Hanging, Head, Mesh, Net, NetRows, Node, Outlines, Rect, Refusal,
-    Unmeshed, COORDINATE, MAX_LEVEL, NO_CELL,
+    Board, Edge, Hanging, Head, Mesh, Net, NetRows, Node, Outlines, Rect, Refusal, Table, Unmeshed,
+    COORDINATE, MAX_LEVEL, NO_CELL,
 };
 use std::collections::{BTreeMap, BTreeSet};
 use std::fmt::Write;
@@ -24,7 +24,7 @@ pub struct Leaf {
 /// What leafnet printed for an accepted board. Every edge names nodes that are there.
 #[derive(Clone, Debug, Default, PartialEq)]
 pub struct Printed {
-    /// In [`leaf_order`](crate::leaf_order).
+    /// In [`Table::leaf_order`](crate::Table::leaf_order).
     pub leaves: Vec<Leaf>,
     /// By their numbers.
     pub nodes: Vec<Node>,
@@ -213,14 +213,14 @@ pub fn show_mesh(board: &Board, mesh: &Mesh, net: &Net) -> Result<String, Unmesh
     Ok(text)
 }
 
-/// The first node that [`check_by_layer`] names, by polygon, and the leaf's id: the net is wrong there. The text has no
-/// table, so every leaf stands as a base cell in one of its polygon's own; and it doesn't say of what layer and component
-/// a polygon is, which is taken to be one that has all corners of its leaves. Where several have, each must have such a
-/// node.
+/// The first node that [`Table::check_by_layer`] names, by polygon, and the leaf's id: the net is wrong there. The text
+/// has no table, so every leaf stands as a base cell in one of its polygon's own; and it doesn't say of what layer and
+/// component a polygon is, which is taken to be one that has all corners of its leaves. Where several have, each must
+/// have such a node.
 ///
 /// # Errors
 ///
-/// Those of [`check_by_layer`], of a text that leafnet never prints.
+/// Those of [`Table::check_by_layer`], of a text that leafnet never prints.
 pub fn loose(printed: &Printed) -> Result<Option<(usize, Hanging)>, Refusal> {
     let nodes: BTreeSet<Node> = printed.nodes.iter().copied().collect();
     let coppers: BTreeSet<(u16, u32)> = nodes
@@ -266,9 +266,10 @@ fn named(
         let [x0, y0, x1, y1] = leaf.rect;
         [x0, y0, x1, y1, 0, NO_CELL, NO_CELL, 0]
     };
-    let table: Vec<i64> = leaves.iter().flat_map(root).collect();
+    let mut row: Vec<i64> = leaves.iter().flat_map(root).collect();
     let head = Head {
         count: leaves.len(),
+        leaves: leaves.len(),
         max_level: 0,
     };
     let net = NetRows {
@@ -283,7 +284,7 @@ fn named(
         counts: &[],
         points: &[],
     };
-    let Some(hanging) = check_by_layer(&table, head, net, outlines)? else {
+    let Some(hanging) = Table::of(&mut row, head)?.check_by_layer(net, outlines)? else {
         return Ok(None);
     };
     let place = |node: usize| [printed.nodes[node].x, printed.nodes[node].y];

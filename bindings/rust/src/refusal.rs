@@ -1,7 +1,7 @@
 //! Why a call is refused.
 
-use crate::ffi::{CheckOutcome, NetOutcome, Outcome, ReadOutcome};
-use crate::{Counts, Hanging};
+use crate::ffi::{CheckOutcome, NetOutcome, Outcome, ReadOutcome, TableOutcome};
+use crate::{Counts, Hanging, Head};
 use std::error::Error;
 use std::fmt;
 
@@ -120,6 +120,17 @@ fn refused(number: u64, place: u64) -> Result<(), Refusal> {
 pub fn judged(outcome: Outcome) -> Result<u64, Refusal> {
     refused(outcome.number, outcome.place)?;
     Ok(outcome.value)
+}
+
+/// The splits and the new head.
+pub fn judged_table(outcome: TableOutcome) -> Result<(usize, Head), Refusal> {
+    refused(outcome.number, outcome.place)?;
+    let head = Head {
+        count: outcome.count as usize,
+        leaves: outcome.leaves as usize,
+        max_level: outcome.max_level,
+    };
+    Ok((outcome.splits as usize, head))
 }
 
 pub fn judged_read(outcome: ReadOutcome) -> Result<ReadOutcome, Refusal> {

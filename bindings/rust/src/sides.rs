@@ -13,7 +13,7 @@ pub struct Inside {
     /// The side's ends, anticlockwise round the cell.
     pub ends: [usize; 2],
     /// Whether it stands at the middle. Where it doesn't, bands of unequal cells meet, or a finer
-    /// polygon touches: no side is cut there, and [`check_by_layer`](crate::check_by_layer) tells whether
+    /// polygon touches: no side is cut there, and [`Table::check_by_layer`](crate::Table::check_by_layer) tells whether
     /// it is joined along the side all the same.
     pub middle: bool,
 }

@@ -21,7 +21,7 @@ pub enum Field<'a> {
 ///
 /// # Errors
 ///
-/// Those of [`leaf_order`](crate::leaf_order).
+/// Those of [`Table::leaf_order`](crate::Table::leaf_order).
 pub fn of_mesh(mesh: &Mesh, net: NetRows, fields: &[Field]) -> Result<String, Refusal> {
     of_rows(mesh, net, &[], fields)
 }

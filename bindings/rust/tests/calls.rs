@@ -15,56 +15,95 @@ fn outlines() -> Outlines<'static> {
     }
 }
 
+const SETTINGS: Settings = Settings {
+    max_level: 2,
+    cap: 256,
+    target: 8,
+};
+
 /// Roots (0,0,8,8) and (8,0,16,8), max_level 2; 0 split, then 3.
-fn two_roots(slots: usize) -> (Vec<i64>, Head) {
-    let settings = Settings {
-        max_level: 2,
-        cap: 256,
-        target: 8,
-    };
-    let mut table = vec![0; SLOT * slots];
-    let head = build(settings, &[], outlines(), &mut table).expect("two roots");
-    let head = refine(&mut table, head, 0).expect("a leaf");
-    let head = refine(&mut table, head, 3).expect("a leaf");
-    (table, head)
+fn two_roots(row: &mut [i64]) -> Table<'_> {
+    let mut table = Table::build(SETTINGS, &[], outlines(), row).expect("two roots");
+    table.refine(0).expect("a leaf");
+    table.refine(3).expect("a leaf");
+    table
+}
+
+fn row(slots: usize) -> Vec<i64> {
+    vec![0; SLOT * slots]
+}
+
+/// Count and leaves.
+fn sizes(table: &Table) -> (usize, usize) {
+    let head = table.head();
+    assert_eq!(table.leaf_count(), head.leaves);
+    let listed = table.leaves(&mut vec![0; head.leaves]);
+    assert_eq!(listed, Ok(head.leaves));
+    (head.count, head.leaves)
+}
+
+/// Every call keeps the head, and a refused one leaves it.
+#[test]
+fn leaves_are_kept_beside_the_count() {
+    let mut row = row(64);
+    let mut table = Table::build(SETTINGS, &[], outlines(), &mut row).expect("two roots");
+    assert_eq!(sizes(&table), (2, 2));
+    table.refine(0).expect("a leaf");
+    assert_eq!(sizes(&table), (6, 5));
+    table.refine(3).expect("a leaf");
+    assert_eq!(sizes(&table), (10, 8));
+    assert!(table.refine(3).is_err() && table.refine(10).is_err());
+    assert_eq!(sizes(&table), (10, 8));
+    assert_eq!(table.balance(), Ok(1));
+    assert_eq!(sizes(&table), (14, 11));
+    assert_eq!(table.conform(), Ok(7));
+    assert_eq!(sizes(&table), (42, 32));
+    assert_eq!(table.conform(), Ok(0));
+    assert_eq!(sizes(&table), (42, 32));
 }
 
 #[test]
 fn balance_splits_what_it_must() {
-    let (mut table, head) = two_roots(64);
-    let (splits, head) = balance(&mut table, head).expect("room");
-    assert_eq!((splits, head.count), (1, 14));
-    assert_eq!(leaf_count(&table, head), Ok(11));
+    let mut row = row(64);
+    let mut table = two_roots(&mut row);
+    assert_eq!(table.balance(), Ok(1));
+    assert_eq!(sizes(&table), (14, 11));
 }
 
 #[test]
 fn conform_splits_more() {
-    let (mut table, head) = two_roots(64);
-    let (splits, head) = conform(&mut table, head).expect("room");
-    assert_eq!((splits, head.count), (8, 42));
+    let mut row = row(64);
+    let mut table = two_roots(&mut row);
+    assert_eq!(table.conform(), Ok(8));
+    assert_eq!(sizes(&table), (42, 32));
 }
 
 #[test]
 fn no_room_leaves_the_table() {
-    let (table, head) = two_roots(64);
-    let mut short = table[..SLOT * 13].to_vec();
+    let mut row = row(64);
+    let table = two_roots(&mut row);
+    let (head, row) = (table.head(), table.row().to_vec());
+    let mut short = row[..SLOT * 13].to_vec();
     let before = short.clone();
+    let mut table = Table::of(&mut short, head).expect("the same table");
     assert_eq!(
-        balance(&mut short, head),
+        table.balance(),
         Err(Refusal {
             reason: Reason::NoRoom,
             place: 0
         })
     );
-    assert_eq!(short, before);
-    let mut enough = table[..SLOT * 14].to_vec();
-    assert!(balance(&mut enough, head).is_ok());
+    assert_eq!((table.head(), table.row()), (head, &before[..]));
+    let mut enough = row[..SLOT * 14].to_vec();
+    let mut table = Table::of(&mut enough, head).expect("the same table");
+    assert!(table.balance().is_ok());
 }
 
 #[test]
 fn refusals_have_words() {
-    let (mut table, head) = two_roots(64);
-    let refusal = refine(&mut table, head, 99).expect_err("no such cell");
+    let mut row = row(64);
+    let mut table = two_roots(&mut row);
+    let refusal = table.refine(99).expect_err("no such cell");
     assert_eq!(
         refusal,
         Refusal {
@@ -77,13 +116,14 @@ fn refusals_have_words() {
         "refused 8 99: there is no cell with this id"
     );
     assert_eq!(
-        refine(&mut table, head, 0).map_err(|r| r.reason),
+        table.refine(0).map_err(|r| r.reason),
         Err(Reason::AlreadySplit)
     );
-    table[0] += 1;
+    let head = table.head();
+    row[0] += 1;
     assert_eq!(
-        leaf_count(&table, head).map_err(|r| r.reason),
-        Err(Reason::BadTable)
+        Table::of(&mut row, head).expect_err("a bad table").reason,
+        Reason::BadTable
     );
 }
 
@@ -101,41 +141,44 @@ fn empty_rows_are_no_trouble() {
         cap: 1,
         target: 1,
     };
-    let head = build(settings, &[], nothing, &mut []).expect("an empty board");
-    assert_eq!(head.count, 0);
-    assert_eq!(balance(&mut [], head), Ok((0, head)));
-    let net = network(&[], head, nothing).expect("an empty net");
+    let mut table = Table::build(settings, &[], nothing, &mut []).expect("an empty board");
+    assert_eq!(sizes(&table), (0, 0));
+    assert_eq!(table.balance(), Ok(0));
+    assert_eq!(sizes(&table), (0, 0));
+    let net = table.network(nothing).expect("an empty net");
     assert_eq!(net, Net::default());
     assert_eq!(power(net.rows(), &[], &mut []), Ok(()));
 }
 
 #[test]
 fn net_and_checks_agree() {
-    let (mut table, head) = two_roots(64);
-    let (_, head) = balance(&mut table, head).expect("room");
-    let made = network(&table, head, outlines()).expect("a net");
+    let mut row = row(64);
+    let mut table = two_roots(&mut row);
+    table.balance().expect("room");
+    let made = table.network(outlines()).expect("a net");
     assert_eq!(made.cells.len(), 11);
     let net = made.rows();
     for room in [0, 4096] {
         let mut work = vec![0; room];
         assert_eq!(
-            check_network_conforming_with(&table, head, net, &mut work),
+            table.check_network_conforming_with(net, &mut work),
             Ok(None)
         );
         assert_eq!(
-            check_by_layer_with(&table, head, net, outlines(), &mut work),
+            table.check_by_layer_with(net, outlines(), &mut work),
             Ok(None)
         );
         assert!(work.iter().all(|&w| w == 0));
     }
-    assert_eq!(check_network_conforming(&table, head, net), Ok(None));
+    assert_eq!(table.check_network_conforming(net), Ok(None));
 }
 
 /// The net lies in front of rows that are long enough, what is behind it stays, and the work room is zero.
 #[test]
 fn a_net_in_lent_rows_is_the_same() {
-    let (table, head) = two_roots(64);
-    let net = network(&table, head, outlines()).expect("a net");
+    let mut row = row(64);
+    let table = two_roots(&mut row);
+    let net = table.network(outlines()).expect("a net");
     let lent = |leaves: usize| {
         let mut nodes = vec![
             Node {
@@ -165,7 +208,7 @@ fn a_net_in_lent_rows_is_the_same() {
             cells: &mut cells,
             work: &mut work,
         };
-        let counts = network_with(&table, head, outlines(), Links::default(), room);
+        let counts = table.network_with(outlines(), Links::default(), room);
         (
             counts,
             Net {
@@ -202,25 +245,31 @@ fn a_net_in_lent_rows_is_the_same() {
 /// With exactly the work room that a check asks for it is used, and with one number less it isn't.
 #[test]
 fn a_checks_work_room_is_as_long_as_it_says() {
-    let (table, head) = two_roots(64);
-    let net = network(&table, head, outlines()).expect("a net");
+    let mut row = row(64);
+    let table = two_roots(&mut row);
+    let net = table.network(outlines()).expect("a net");
     let enough = limits::check_work(net.nodes.len(), net.edges.len());
     for (length, left) in [(enough, 0), (enough - 1, 7)] {
         let mut work = vec![7; length];
-        check_by_layer_with(&table, head, net.rows(), outlines(), &mut work).expect("sound");
+        table
+            .check_by_layer_with(net.rows(), outlines(), &mut work)
+            .expect("sound");
         assert!(work.iter().all(|&w| w == left));
     }
 }
 
 #[test]
 fn a_net_without_an_edge_is_found_out() {
-    let (table, head) = two_roots(64);
-    let net = network(&table, head, outlines()).expect("a net");
+    let mut row = row(64);
+    let table = two_roots(&mut row);
+    let net = table.network(outlines()).expect("a net");
     let quick = |net: NetRows| {
-        let quick = check_by_layer(&table, head, net, outlines()).expect("sound");
+        let quick = table.check_by_layer(net, outlines()).expect("sound");
         assert_eq!(
             quick,
-            check_by_layer_with(&table, head, net, outlines(), &mut []).expect("sound")
+            table
+                .check_by_layer_with(net, outlines(), &mut [])
+                .expect("sound")
         );
         quick
     };
@@ -248,9 +297,9 @@ fn one_cell_of_one_ohm() {
         cap: 256,
         target: 4,
     };
-    let mut table = vec![0; SLOT];
-    let head = build(settings, &[], square, &mut table).expect("one root");
-    let net = network(&table, head, square).expect("a net");
+    let mut row = row(1);
+    let table = Table::build(settings, &[], square, &mut row).expect("one root");
+    let net = table.network(square).expect("a net");
     let mut watts = [0.0];
     power(net.rows(), &[0.0, 1.0, 1.0, 0.0], &mut watts).expect("in range");
     assert_eq!(watts, [1.0]);
@@ -270,23 +319,23 @@ fn calls_need_little_stack() {
         cap: 256,
         target: 16,
     };
-    let mut table = vec![0; SLOT * SLOTS];
+    let mut row = row(SLOTS);
     let mut order = vec![0; 1_100];
     let (mut work, mut strips_room) = (vec![0; 1 << 16], [[0; 4]; 1]);
     let mut calls = || -> Result<(), Refusal> {
         strips(square.points, &mut strips_room)?;
-        let head = build(settings, &[], square, &mut table)?;
-        let head = refine(&mut table, head, 500)?;
-        let head = refine(&mut table, head, head.count - 1)?;
-        let (_, head) = balance(&mut table, head)?;
-        leaf_order(&table, head, &mut order)?;
-        let net = network(&table, head, square)?;
+        let mut table = Table::build(settings, &[], square, &mut row)?;
+        table.refine(500)?;
+        table.refine(table.head().count - 1)?;
+        table.balance()?;
+        table.leaf_order(&mut order)?;
+        let net = table.network(square)?;
         assert_eq!(
-            check_network_conforming_with(&table, head, net.rows(), &mut work)?,
+            table.check_network_conforming_with(net.rows(), &mut work)?,
             None
         );
         assert_eq!(
-            check_by_layer_with(&table, head, net.rows(), square, &mut work)?,
+            table.check_by_layer_with(net.rows(), square, &mut work)?,
             None
         );
         Ok(())
@@ -297,4 +346,125 @@ fn calls_need_little_stack() {
             .spawn_scoped(scope, || calls().expect("accepted"))
             .expect("a thread");
     });
+}
+
+/// Numbers of leaves that a table of `leaves` hasn't.
+fn wrong(leaves: usize) -> impl Iterator<Item = usize> {
+    let huge = [u32::MAX as usize, 1 << 63, usize::MAX, usize::MAX / 64, 0];
+    [leaves - 1, leaves + 1]
+        .into_iter()
+        .chain(huge)
+        .filter(move |&other| other != leaves)
+}
+
+/// Every raw call refuses such a head and writes nothing, but for leaf_count, which looks at no table.
+#[test]
+fn another_number_of_leaves_is_refused_by_every_call() {
+    let mut own = row(64);
+    let table = two_roots(&mut own);
+    let net = table.network(outlines()).expect("a net");
+    let Head {
+        count,
+        leaves,
+        max_level,
+    } = table.head();
+    let before = table.row().to_vec();
+    let none = Outlines {
+        layers: &[],
+        components: &[],
+        sheets: &[],
+        ..outlines()
+    };
+    for wrong in wrong(leaves) {
+        let mut row = before.clone();
+        let (at, length) = (row.as_mut_ptr(), row.len());
+        let mut ids = [7; 64];
+        let (out, room) = (ids.as_mut_ptr(), ids.len());
+        let (nodes, edges, cells) = (&net.nodes[..], &net.edges[..], &net.cells[..]);
+        let bare = ffi::Outcome {
+            number: 7,
+            ..ffi::Outcome::default()
+        };
+        let unchanged = ffi::TableOutcome {
+            number: 7,
+            ..ffi::TableOutcome::default()
+        };
+        let unchecked = ffi::CheckOutcome {
+            number: 7,
+            ..ffi::CheckOutcome::default()
+        };
+        // SAFETY: each pointer comes with the length of its row, or is null before a length of 0.
+        unsafe {
+            assert_eq!(ffi::leafmesh_leaf_count(count, wrong, max_level), wrong);
+            let listed = ffi::leafmesh_leaves(at, length, count, wrong, max_level, out, room);
+            assert_eq!(listed, bare);
+            let listed = ffi::leafmesh_leaf_order(at, length, count, wrong, max_level, out, room);
+            assert_eq!(listed, bare);
+            for id in [1, 0, 99] {
+                let split = ffi::leafmesh_refine(at, length, count, wrong, max_level, id);
+                assert_eq!(split, unchanged);
+            }
+            let even = ffi::leafmesh_balance(at, length, count, wrong, max_level);
+            assert_eq!(even, unchanged);
+            let even = ffi::leafmesh_conform(at, length, count, wrong, max_level);
+            assert_eq!(even, unchanged);
+            let found = ffi::leafmesh_check_network_conforming(
+                at,
+                length,
+                count,
+                wrong,
+                max_level,
+                nodes.as_ptr(),
+                nodes.len(),
+                edges.as_ptr(),
+                edges.len(),
+                cells.as_ptr(),
+                cells.len(),
+                std::ptr::null_mut(),
+                0,
+            );
+            assert_eq!(found, unchecked);
+        }
+        assert_eq!((row, ids), (before.clone(), [7; 64]));
+        let head = Head {
+            count,
+            leaves: wrong,
+            max_level,
+        };
+        let mut row = before.clone();
+        let refused = Table::of(&mut row, head).expect_err("another number of leaves");
+        assert_eq!((refused.reason, refused.place), (Reason::BadTable, 0));
+        // Before polygons and their values are looked at.
+        for outlines in [outlines(), none] {
+            stale_mesh(&before, head, outlines, &net);
+        }
+    }
+}
+
+/// A mesh whose head was written over: all calls refuse it, and no row is made by its number.
+fn stale_mesh(row: &[i64], head: Head, outlines: Outlines, net: &Net) {
+    let mut mesh = Mesh {
+        table: row.to_vec(),
+        head,
+        settings: SETTINGS,
+        list: vec![],
+        polygons: Polygons {
+            layers: outlines.layers.to_vec(),
+            components: outlines.components.to_vec(),
+            sheets: outlines.sheets.to_vec(),
+            ..Polygons::default()
+        },
+    };
+    let bad = Refusal {
+        reason: Reason::BadTable,
+        place: 0,
+    };
+    assert_eq!(mesh.order(), Err(bad));
+    assert_eq!(mesh.unjudged_net(), Err(bad));
+    assert_eq!(mesh.net(), Err(Unmeshed::Refused(bad)));
+    assert_eq!(mesh.edges_of_links(Links::default()), Err(bad));
+    assert_eq!(mesh.check(net.rows()), Err(bad));
+    assert_eq!(mesh.refine(1), Err(bad));
+    assert_eq!(mesh.balance(), Err(bad));
+    assert_eq!((&mesh.table[..], mesh.head), (row, head));
 }

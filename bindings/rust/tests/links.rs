@@ -30,15 +30,15 @@ impl Squares {
     }
 }
 
-fn table() -> (Vec<i64>, Head) {
+type Row = [i64; SLOT * LEAVES];
+
+fn table(row: &mut Row) -> Table<'_> {
     let settings = Settings {
         max_level: 1,
         cap: 256,
         target: 4,
     };
-    let mut table = vec![0; SLOT * LEAVES];
-    let head = build(settings, &[], Squares::new().outlines(), &mut table).expect("two roots");
-    (table, head)
+    Table::build(settings, &[], Squares::new().outlines(), row).expect("two roots")
 }
 
 /// Four pairs over the east side.
@@ -120,10 +120,15 @@ fn number_and_place(refusal: Refusal) -> (u64, usize) {
 
 /// What the two squares answer with these links, by both calls.
 fn answered(links: Links) -> Result<usize, (u64, usize)> {
-    let (table, head) = table();
+    let mut row: Row = [0; SLOT * LEAVES];
+    let table = table(&mut row);
     let squares = Squares::new();
-    let rows = edge_rows(&table, head, squares.outlines(), links).map_err(number_and_place);
-    let made = linked_network(&table, head, squares.outlines(), links).map_err(number_and_place);
+    let rows = table
+        .edge_rows(squares.outlines(), links)
+        .map_err(number_and_place);
+    let made = table
+        .linked_network(squares.outlines(), links)
+        .map_err(number_and_place);
     assert_eq!(
         rows,
         made.as_ref().map(|net| 16 + net.links).map_err(|why| *why)
@@ -133,7 +138,8 @@ fn answered(links: Links) -> Result<usize, (u64, usize)> {
 
 #[test]
 fn a_row_short_changes_nothing_and_a_row_more_stays() {
-    let (table, head) = table();
+    let mut row: Row = [0; SLOT * LEAVES];
+    let table = table(&mut row);
     let squares = Squares::new();
     let contacts = [Contact { from: 0, to: 1 }, Contact { from: 0, to: 2 }];
     let links = Links {
@@ -142,18 +148,20 @@ fn a_row_short_changes_nothing_and_a_row_more_stays() {
         channel_layer: 1,
         channels: &[channel()],
     };
-    let need = edge_rows(&table, head, squares.outlines(), links).expect("in range");
+    let need = table
+        .edge_rows(squares.outlines(), links)
+        .expect("in range");
     assert_eq!(need, 16 + 1 + 4 + 1);
     for less in 1..=need - 16 {
         let mut short = Rows::of(LEAVES, need - less);
         let before = short.clone();
-        let refused = network_with(&table, head, squares.outlines(), links, short.room());
+        let refused = table.network_with(squares.outlines(), links, short.room());
         assert_eq!(refused.map_err(number_and_place), Err((6, 0)));
         assert_eq!(short, before);
     }
     for more in 0..3 {
         let mut rows = Rows::of(LEAVES, need + more);
-        let counts = network_with(&table, head, squares.outlines(), links, rows.room());
+        let counts = table.network_with(squares.outlines(), links, rows.room());
         let counts = counts.expect("room");
         assert_eq!(
             (counts.nodes, counts.edges, counts.cells, counts.links),
@@ -166,22 +174,27 @@ fn a_row_short_changes_nothing_and_a_row_more_stays() {
 
 #[test]
 fn without_rows_the_net_is_the_leaves_alone() {
-    let (table, head) = table();
+    let mut row: Row = [0; SLOT * LEAVES];
+    let table = table(&mut row);
     let squares = Squares::new();
-    let alone = network(&table, head, squares.outlines()).expect("a net");
+    let alone = table.network(squares.outlines()).expect("a net");
     let none = Links {
         channel_layer: 9,
         ..Links::default()
     };
-    let linked = linked_network(&table, head, squares.outlines(), none).expect("a net");
+    let linked = table
+        .linked_network(squares.outlines(), none)
+        .expect("a net");
     assert_eq!(alone, linked);
     assert!(alone.links().is_empty() && none.is_empty());
-    assert_eq!(edge_rows(&table, head, squares.outlines(), none), Ok(16));
+    assert_eq!(table.edge_rows(squares.outlines(), none), Ok(16));
     let links = Links {
         vias: &[via()],
         ..Links::default()
     };
-    let linked = linked_network(&table, head, squares.outlines(), links).expect("a net");
+    let linked = table
+        .linked_network(squares.outlines(), links)
+        .expect("a net");
     assert_eq!(linked.links, 4);
     assert_eq!((&linked.nodes, &linked.cells), (&alone.nodes, &alone.cells));
     assert_eq!(linked.edges[..8], alone.edges);
@@ -266,7 +279,8 @@ fn values_at_their_limits_and_past_them() {
 /// 7, then the polygons' 3, then a link's 3, then 6.
 #[test]
 fn refusals_in_their_order() {
-    let (table, head) = table();
+    let mut row: Row = [0; SLOT * LEAVES];
+    let table = table(&mut row);
     let mut squares = Squares::new();
     let bad = [Via {
         resistance: f64::NAN,
@@ -280,22 +294,22 @@ fn refusals_in_their_order() {
         vias: &[via()],
         ..Links::default()
     };
-    let refused = |squares: &Squares, links: Links, edges: usize, head: Head| {
+    let refused = |outlines: Outlines, links: Links, edges: usize| {
         let mut rows = Rows::of(LEAVES, edges);
         let before = rows.clone();
-        let answer = network_with(&table, head, squares.outlines(), links, rows.room());
+        let answer = table.network_with(outlines, links, rows.room());
         assert_eq!(rows, before);
         number_and_place(answer.expect_err("a refusal"))
     };
-    assert_eq!(refused(&squares, sound, 19, head), (6, 0));
-    assert_eq!(refused(&squares, links, 0, head), (3, 0));
+    assert_eq!(refused(squares.outlines(), sound, 19), (6, 0));
+    assert_eq!(refused(squares.outlines(), links, 0), (3, 0));
     squares.sheets[1] = 0.0;
-    assert_eq!(refused(&squares, links, 0, head), (3, 1));
-    let no_level = Head {
-        max_level: 13,
-        ..head
+    assert_eq!(refused(squares.outlines(), links, 0), (3, 1));
+    let torn = Outlines {
+        components: &[0],
+        ..squares.outlines()
     };
-    assert_eq!(refused(&squares, links, 0, no_level), (7, 0));
+    assert_eq!(refused(torn, links, 0), (7, 0));
 }
 
 /// A contact's numbers have no range.

@@ -115,8 +115,9 @@ fn across(wide: i64, target: u64, cap: u64) -> Result<usize, (u64, usize)> {
         cap,
         target,
     };
-    let head = build(settings, &[], outlines, &mut [0; 8 * SLOT]).map_err(number_of)?;
-    Ok(head.count)
+    let mut row = [0; 8 * SLOT];
+    let table = Table::build(settings, &[], outlines, &mut row).map_err(number_of)?;
+    Ok(table.head().count)
 }
 
 #[test]
@@ -144,28 +145,31 @@ fn contacts() {
 
 /// A table of these roots, split and balanced: the splits that balance made, and the table.
 fn balanced(roots: &[Rect], splits: &[usize]) -> (usize, Vec<i64>, Head) {
-    let mut table = vec![0; 64 * SLOT];
-    for (slot, root) in table.chunks_exact_mut(SLOT).zip(roots) {
+    let mut row = vec![0; 64 * SLOT];
+    for (slot, root) in row.chunks_exact_mut(SLOT).zip(roots) {
         slot[..4].copy_from_slice(root);
         slot[columns::PARENT] = NO_CELL;
         slot[columns::FIRST_CHILD] = NO_CELL;
     }
-    let mut head = Head {
+    let head = Head {
         count: roots.len(),
+        leaves: roots.len(),
         max_level: 3,
     };
+    let mut table = Table::of(&mut row, head).expect("roots");
     for &id in splits {
-        head = refine(&mut table, head, id).expect("a leaf");
+        table.refine(id).expect("a leaf");
     }
-    let (made, head) = balance(&mut table, head).expect("room");
-    (made, table, head)
+    let made = table.balance().expect("room");
+    let head = table.head();
+    (made, row, head)
 }
 
 #[test]
 fn balance_in_a_row_and_over_one_another() {
     let row = [[0, 0, 16, 16], [16, 0, 32, 16], [32, 0, 48, 16]];
     let (made, table, head) = balanced(&row, &[0, 4, 8]);
-    assert_eq!((made, head.count), (2, 23));
+    assert_eq!((made, head.count, head.leaves), (2, 23, 18));
     let first_child = |id: usize| table[SLOT * id + columns::FIRST_CHILD];
     assert_eq!(
         [first_child(1), first_child(15), first_child(2)],
@@ -249,9 +253,10 @@ const TWO_SQUARES: &str =
 
 /// The links that the two squares have, in rows of just enough length; in one less they are refused.
 fn links_of(links: Links) -> Vec<([usize; 2], f64)> {
-    let mesh = meshed(TWO_SQUARES).0;
-    let (table, head, outlines) = (&mesh.table, mesh.head, mesh.polygons.outlines());
-    let rows = edge_rows(table, head, outlines, links).expect("in range");
+    let mut mesh = meshed(TWO_SQUARES).0;
+    let outlines = mesh.polygons.outlines();
+    let table = Table::of(&mut mesh.table, mesh.head).expect("a table");
+    let rows = table.edge_rows(outlines, links).expect("in range");
     let mut net = Net {
         nodes: vec![Node::default(); 8],
         edges: vec![Edge::default(); rows],
@@ -267,7 +272,7 @@ fn links_of(links: Links) -> Vec<([usize; 2], f64)> {
             cells,
             work,
         };
-        network_with(table, head, outlines, links, room).map_err(number_of)
+        table.network_with(outlines, links, room).map_err(number_of)
     };
     assert_eq!(call(&mut short, &mut work), Err(refused(6, 0)));
     assert!(work.iter().all(|&w| w == 7));
@@ -356,8 +361,8 @@ fn the_nearest_goes_by_rounded_squares() {
         ([a, 2, a + 2, 4], 1),
         ([a, 0, a + 2, 2], 1),
     ];
-    let mut table = vec![0; 3 * SLOT];
-    for (slot, (root, polygon)) in table.chunks_exact_mut(SLOT).zip(roots) {
+    let mut row = vec![0; 3 * SLOT];
+    for (slot, (root, polygon)) in row.chunks_exact_mut(SLOT).zip(roots) {
         slot[..4].copy_from_slice(&root);
         slot[columns::PARENT] = NO_CELL;
         slot[columns::FIRST_CHILD] = NO_CELL;
@@ -365,6 +370,7 @@ fn the_nearest_goes_by_rounded_squares() {
     }
     let head = Head {
         count: 3,
+        leaves: 3,
         max_level: 0,
     };
     let outlines = Outlines {
@@ -378,7 +384,8 @@ fn the_nearest_goes_by_rounded_squares() {
         contacts: &[Contact { from: 0, to: 1 }],
         ..Links::default()
     };
-    let net = linked_network(&table, head, outlines, links).expect("a net");
+    let table = Table::of(&mut row, head).expect("roots");
+    let net = table.linked_network(outlines, links).expect("a net");
     assert_eq!(
         net.links().iter().map(parts).collect::<Vec<_>>(),
         [([0, 4], 1.0)]
@@ -423,8 +430,9 @@ fn layers_over_each_other() {
     let square = "0 0\n8 0\n8 8\n0 8\n";
     let text =
         format!("level 1\ntarget 8\npolygon 1 0 1\n{square}polygon 2 0 1\n{square}split 0\n");
-    let (mesh, net) = meshed(&text);
-    let named = check_network_conforming(&mesh.table, mesh.head, net.rows());
+    let (mut mesh, net) = meshed(&text);
+    let table = Table::of(&mut mesh.table, mesh.head).expect("a table");
+    let named = table.check_network_conforming(net.rows());
     assert_eq!(
         named,
         Ok(Some(Hanging {
@@ -456,35 +464,18 @@ fn leafnets_text() {
 
 #[test]
 fn just_past_a_limit() {
-    assert!(matches!(
-        leaf_count(
-            &vec![0; SLOT * SLOTS],
-            Head {
-                count: 0,
-                max_level: 12
-            }
-        ),
-        Ok(0)
-    ));
-    let long = vec![0; SLOT * (SLOTS + 1)];
-    let bad = leaf_count(
-        &long,
-        Head {
-            count: 0,
-            max_level: 12,
-        },
-    )
-    .expect_err("too many slots");
-    assert_eq!(number_of(bad), refused(7, 0));
-    let bad = leaf_count(
-        &[],
-        Head {
-            count: 0,
-            max_level: 13,
-        },
-    )
-    .expect_err("too deep");
-    assert_eq!(number_of(bad), refused(7, 0));
+    let of_zeros = |slots: usize, max_level| {
+        let head = Head {
+            max_level,
+            ..Head::default()
+        };
+        let mut row = vec![0; SLOT * slots];
+        let table = Table::of(&mut row, head).map_err(number_of)?;
+        Ok(table.leaf_count())
+    };
+    assert_eq!(of_zeros(SLOTS, 12), Ok(0));
+    assert_eq!(of_zeros(SLOTS + 1, 12), Err(refused(7, 0)));
+    assert_eq!(of_zeros(0, 13), Err(refused(7, 0)));
     assert!(strips(&vec![[0, 0]; limits::RING_POINTS], &mut []).is_ok());
     let bad = strips(&vec![[0, 0]; limits::RING_POINTS + 1], &mut []).expect_err("too many points");
     assert_eq!(number_of(bad), refused(3, 0));
@@ -494,8 +485,8 @@ fn just_past_a_limit() {
             cap: 1,
             target: 1,
         };
-        let bad =
-            build(settings, &[], Polygons::default().outlines(), &mut []).expect_err("too deep");
+        let none = Polygons::default();
+        let bad = Table::build(settings, &[], none.outlines(), &mut []).expect_err("too deep");
         assert_eq!(number_of(bad), refused(3, 0));
     }
 }

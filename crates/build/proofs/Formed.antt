@@ -9,6 +9,7 @@ use Rattle.cell.proofs.Offsets.{below?}
 use Rattle.cell.proofs.Contact.{and_left, and_right}
 use Rattle.refusals.specs.Said.{Said, accepted}
 use Rattle.std.specs.List.{AllByRecursion}
+use Rattle.table.specs.Rows.{head_values}
 use Rattle.strips.specs.Walk.{Sound}
 use Rattle.strips.specs.declared.walk.Strip.{Strip}
 use Rattle.strips.proofs.Bounds.{strips-sound, sound-first, sound-rest}
@@ -16,7 +17,8 @@ use Rattle.strips.proofs.Picking.{split}
 use Rattle.build.specs.declared.grid.Cut.{Cut}
 use Rattle.build.specs.Grid.{Root, row_of, row_to, grid_to, roots_in, cut_of, even_strip, all_even, flat}
 use Rattle.build.specs.Board.{Board, polygons, unit, size_at, strips_at, roots_at, roots_to, roots_of}
-use Rattle.build.specs.Says.{rows_shaped, settings_ok, judge_from, even_from, room_for, build_says, filled, build_leaves}
+use Rattle.build.specs.Says.{rows_shaped, settings_ok, judge_from, even_from, room_for, roots_head, build_says, filled, build_leaves}
+use Rattle.build.specs.Laws.{Accepts}
 use Rattle.build.specs.Steps.{Sizes, Cuts, Fit, Tabled}
 use Rattle.build.proofs.Cutting.{cuts}
 use Rattle.build.proofs.Placing.{row_at, length-row, no-grid, grid-more, length-flat}
@@ -95,8 +97,8 @@ filled-roots b size e =
           ∙ zero_row (size - length (roots_of b) * 8) (j - length (roots_of b) * 8);
     }
 
-same_count : (m n : ℕ) → ◌≡◌ {A = Said} (accepted (m ∷ [])) (accepted (n ∷ [])) → m ≡ n
-same_count m n e = cc
+same_count : (M m n : ℕ) → ◌≡◌ {A = Said} (accepted (m ∷ m ∷ M ∷ [])) (accepted (n ∷ n ∷ M ∷ [])) → m ≡ n
+same_count M m n e = cc
 
 -- what an accepted call was found to have, and what it leaves
 pub record Passed (b : Board) (t u : List ℤ) (n : ℕ) : Type 0 where
@@ -107,30 +109,33 @@ pub record Passed (b : Board) (t u : List ℤ) (n : ℕ) : Type 0 where
   pub room : n ≤ length t / 8
   pub left : u ≡ filled b (length t)
 
-module _ (b : Board) (components : List ℕ) (sheets : List Float) (t : List ℤ) (n : ℕ) (e : build_says b components sheets (length t) ≡ accepted (n ∷ [])) where
+module _ (b : Board) (components : List ℕ) (sheets : List Float) (t : List ℤ) (n : ℕ) (e : Accepts b components sheets (length t) n) where
+  abbrev values : List ℕ
+  values = head_values (roots_head b n)
+
   pub passed : Passed b t (build_leaves b components sheets t) n
   unfolding build_says build_leaves
   passed =
       split (rows_shaped b.layers components sheets b.counts b.points (length t))
-      (λ s. split (settings_ok b) (λ z. go s z (rw (s, z) at e)) (λ z. absurd (refused-accepted 3 0 (n ∷ []) (rw (s, z) at e))))
-      (λ s. absurd (refused-accepted 7 0 (n ∷ []) (rw s at e)))
+      (λ s. split (settings_ok b) (λ z. go s z (rw (s, z) at e)) (λ z. absurd (refused-accepted 3 0 values (rw (s, z) at e))))
+      (λ s. absurd (refused-accepted 7 0 values (rw s at e)))
     where
       go : rows_shaped b.layers components sheets b.counts b.points (length t) ≡ true → settings_ok b ≡ true
-          → judge_from sheets b.counts b.points 0 (polygons b) (even_from b 0 (polygons b) (room_for (length t / 8) (length (roots_of b)))) ≡ accepted (n ∷ [])
+          → judge_from sheets b.counts b.points 0 (polygons b) (even_from b 0 (polygons b) (room_for b (length t / 8) (length (roots_of b)))) ≡ accepted values
           → Passed b t (build_leaves b components sheets t) n
       go s z j =
-          let o = room_for (length t / 8) (length (roots_of b)) in
-          let v = sound-passes sheets b.counts b.points (even_from b 0 (polygons b) o) (n ∷ []) 0 (polygons b) j in
-          let r = even-passes b o (n ∷ []) 0 (polygons b) v in
+          let o = room_for b (length t / 8) (length (roots_of b)) in
+          let v = sound-passes sheets b.counts b.points (even_from b 0 (polygons b) o) values 0 (polygons b) j in
+          let r = even-passes b o values 0 (polygons b) v in
           split (ltb (length t / 8) (length (roots_of b)))
-          (λ q. absurd (refused-accepted 6 0 (n ∷ []) (rw q at r)))
+          (λ q. absurd (refused-accepted 6 0 values (rw q at r)))
           (λ q.
-          let c : length (roots_of b) ≡ n = same_count (length (roots_of b)) n (rw q at r) in
+          let c : length (roots_of b) ≡ n = same_count b.settings.max_level (length (roots_of b)) n (rw q at r) in
           let k : length (roots_of b) ≤ length t / 8 = ltb-false _ _ q in
           record {
-            board = fit b components sheets (length t) s z (even_from b 0 (polygons b) o) (n ∷ []) j;
+            board = fit b components sheets (length t) s z (even_from b 0 (polygons b) o) values j;
             shape = tabled t (room_fits b components sheets (length t) s);
-            even = λ p h. even-at b o (n ∷ []) (polygons b) p v h;
+            even = λ p h. even-at b o values (polygons b) p v h;
             count = c;
             room = omega arith;
             left = rw (s, z, j) refl;
@@ -143,6 +148,6 @@ module _ (b : Board) (components : List ℕ) (sheets : List Float) (t : List ℤ
       rw p.left (rw p.count at (filled-roots b (length t) (board-ok b p.board p.even (polygons b) (omega arith))))
 
 -- the same of a call with a table of this length
-pub passed-size : (b : Board) (components : List ℕ) (sheets : List Float) (size n : ℕ) → build_says b components sheets size ≡ accepted (n ∷ [])
+pub passed-size : (b : Board) (components : List ℕ) (sheets : List Float) (size n : ℕ) → Accepts b components sheets size n
     → Passed b (replicate size (pos 0)) (build_leaves b components sheets (replicate size (pos 0))) n
 passed-size b components sheets size n e = passed b components sheets (replicate size (pos 0)) n (rw (length-replicate size (pos 0)) e)

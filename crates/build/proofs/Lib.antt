@@ -6,6 +6,7 @@ pub mod Placing
 pub mod Tallying
 pub mod Boards
 pub mod Fitting
+pub mod Answering
 pub mod Tiling
 pub mod Formed
 pub mod Wellformed

@@ -1,9 +1,8 @@
 -- What build leaves is a well-formed table, by the rules' definition, in which every cell is a root and a leaf. Assumes nothing.
 use lib.Ieee.{Float}
-use Rattle.std.proofs.Common.{ℕ, ◌+◌, ◌*◌, min, ◌<◌, ◌≤◌, ◌≡◌, refl, ap, ◌∙◌, true, None, List, [], ◌∷◌, arith, eqb, ℤ, pos, length, replicate, length-append, get_or-take, get_or-drop, eq-eqb}
+use Rattle.std.proofs.Common.{ℕ, suc, ◌+◌, ◌*◌, min, ◌<◌, ◌≤◌, ◌≡◌, refl, sym, ap, ◌∙◌, true, None, List, [], ◌∷◌, arith, eqb, ℤ, pos, length, replicate, length-append, get_or-take, get_or-drop, eq-eqb}
 use lib.ListN.{length-replicate}
 use Rattle.refusals.specs.Limits.{max_polygons}
-use Rattle.refusals.specs.Said.{accepted}
 use Rattle.cell.specs.declared.Cell as Held
 use Rattle.cell.specs.Cells.{no_cell, root_of}
 use Rattle.table.specs.Slots.{number, cell_at, in_slot, stored, put_cell, kept}
@@ -12,12 +11,13 @@ use Rattle.table.specs.Formed as Table
 use Rattle.table.specs.Leaves.{leaf_at}
 use Rattle.table.proofs.Stores.{Fits, largest, same-cell, same-held, put_same, put-held}
 use Rattle.table.proofs.Cells.{length-table, at_table}
+use Rattle.table.proofs.Counting.{leaf_count-cons}
 use Rattle.table.proofs.Meshes.{not_some, kids-in, root_in}
 use Rattle.table.proofs.Wellformed.{opt_none}
 use Rattle.build.specs.Grid.{Root, flat}
 use Rattle.build.specs.Board.{Board, polygons, roots_of}
-use Rattle.build.specs.Says.{build_says, filled, build_leaves}
-use Rattle.build.specs.Laws.{IsTableOfRoots}
+use Rattle.build.specs.Says.{roots_head, filled, build_leaves}
+use Rattle.build.specs.Laws.{Accepts, IsTableOfRoots}
 use Rattle.build.proofs.Placing.{length-flat}
 use Rattle.build.proofs.Formed.{slot, RootsOnly, passed, built-roots}
 
@@ -37,6 +37,13 @@ slot-number : (u v : List ℤ) (i : ℕ) → slot u i ≡ v → (k : ℕ) → k 
 slot-number u v i e k h =
     let z : 0 * 8 + k ≡ k = omega arith in
     rw (z, ← e, get_or-take, get_or-drop) refl
+
+-- as many leaves as cells, where each is a leaf
+all-leaves : (t : List Mesh.Cell) → ((i : ℕ) → i < length t → (Mesh.at t i).kids ≡ None) → Mesh.leaf_count t ≡ length t
+all-leaves [] h = unfold Mesh.leaf_count in refl
+all-leaves (c ∷ t) h =
+    let here : c.kids ≡ None = h 0 (omega arith) in
+    leaf_count-cons c t ∙ rw (here, all-leaves t (λ i l. h (suc i) (omega arith))) (omega arith)
 
 module _ (b : Board) (u : List ℤ) (n : ℕ) (w : RootsOnly b u n) (few : polygons b ≤ max_polygons) where
   root-small : (i : ℕ) → i < n → (w.root i).poly < max_polygons
@@ -94,20 +101,24 @@ module _ (b : Board) (u : List ℤ) (n : ℕ) (w : RootsOnly b u n) (few : polyg
         root = λ i e. built-root i (inside i (root_in (Mesh.table u n) i e));
       }
 
+  -- and so there are as many leaves as cells
+  built-count : Mesh.leaf_count (Mesh.table u n) ≡ n
+  built-count = all-leaves (Mesh.table u n) (λ i h. no_kids i (inside i h)) ∙ length-table u n
+
 -- ---- an accepted call
 
 length-filled : (b : Board) (size : ℕ) → length (roots_of b) * 8 ≤ size → length (filled b size) ≡ size
 unfolding filled
 length-filled b size h = simp (length-append, length-replicate) (omega (arith, length-flat (roots_of b)))
 
-module _ (b : Board) (components : List ℕ) (sheets : List Float) (t : List ℤ) (n : ℕ) (e : build_says b components sheets (length t) ≡ accepted (n ∷ [])) where
+module _ (b : Board) (components : List ℕ) (sheets : List Float) (t : List ℤ) (n : ℕ) (e : Accepts b components sheets (length t) n) where
   length-left : length (build_leaves b components sheets t) ≡ length t
   length-left =
       let p = passed b components sheets t n e in
       ap length p.left ∙ length-filled b (length t) (omega (arith, p.count, p.room))
 
   -- the laws: what an accepted call leaves is well-formed, and each cell of it is a root and a leaf
-  pub built-formed : Table.WellFormed (build_leaves b components sheets t) n b.settings.max_level
+  pub built-formed : Table.WellFormed (build_leaves b components sheets t) (roots_head b n)
   built-formed =
       let u = build_leaves b components sheets t in
       let p = passed b components sheets t n e in
@@ -123,6 +134,7 @@ module _ (b : Board) (components : List ℕ) (sheets : List Float) (t : List ℤ
         level = λ i h. rw (built-cell b u n w few i h) (omega arith);
         polygon = λ i h. rw (built-cell b u n w few i h) (root-small b u n w few i h);
         cells = built-clauses b u n w few;
+        leaves = sym (built-count b u n w few);
       }
 
   pub built-leaves : (i : ℕ) → i < n → leaf_at (build_leaves b components sheets t) i ≡ true
@@ -131,7 +143,8 @@ module _ (b : Board) (components : List ℕ) (sheets : List Float) (t : List ℤ
   pub built-parentless : (i : ℕ) → i < n → (Mesh.at (Mesh.table (build_leaves b components sheets t) n) i).parent ≡ None
   built-parentless = no-parent b (build_leaves b components sheets t) n (built-roots b components sheets t n e) (passed b components sheets t n e).board.polys
 
-pub tables-of-roots : (b : Board) (components : List ℕ) (sheets : List Float) (t : List ℤ) (n : ℕ) → build_says b components sheets (length t) ≡ accepted (n ∷ []) → IsTableOfRoots (build_leaves b components sheets t) n b.settings.max_level
+pub tables-of-roots : (b : Board) (components : List ℕ) (sheets : List Float) (t : List ℤ) (n : ℕ) → Accepts b components sheets (length t) n
+    → IsTableOfRoots (build_leaves b components sheets t) (roots_head b n)
 tables-of-roots b components sheets t n e =
     record {
       formed = built-formed b components sheets t n e;

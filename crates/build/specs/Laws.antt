@@ -1,19 +1,21 @@
 -- Laws of build. Each is the contract of a function of src/laws.rt.
-use Rattle.std.specs.Prelude.{ℕ, ◌-◌, ◌*◌, ◌<◌, ◌≤◌, ◌≡◌, true, List, [], ◌∷◌, length, None, Result, ℤ, Float, All}
+use Rattle.std.specs.Prelude.{ℕ, ◌-◌, ◌*◌, ◌<◌, ◌≤◌, ◌≡◌, true, List, length, None, Result, ℤ, Float, All}
 use Rattle.std.specs.Prelude.{AllPairs, sum_by}
 use Rattle.refusals.specs.declared.Refusal.{Refusal}
 use Rattle.refusals.specs.Said.{accepted}
+use Rattle.table.specs.declared.Head.{Head}
 use Rattle.table.specs.Mesh.{at, table}
 use Rattle.table.specs.Formed.{WellFormed}
+use Rattle.table.specs.Rows.{head_values}
 use Rattle.table.specs.Leaves.{leaf_at}
 use Rattle.strips.specs.declared.walk.Strip.{Strip}
 use Rattle.build.specs.Grid.{Root, width, height, cut_of, grid_to}
 use Rattle.build.specs.Board.{Board, polygons, size_at, strips_at}
-use Rattle.build.specs.Says.{built_said, build_says, build_leaves}
+use Rattle.build.specs.Says.{built_said, roots_head, build_says, build_leaves}
 
 -- what a call of `build` comes to: its answer, and what the lent table holds then
 pub record Outcome : Type 0 where
-  pub answer : Result ℕ Refusal
+  pub answer : Result Head Refusal
   pub table : List ℤ
 
 -- the contract of `build` allows it for this board and this table
@@ -29,7 +31,7 @@ OneOutcome =
 
 -- n roots are accepted of this board, in a table of this length
 abbrev pub Accepts : Board → List ℕ → List Float → ℕ → ℕ → Type 0
-Accepts b components sheets size n = build_says b components sheets size ≡ accepted (n ∷ [])
+Accepts b components sheets size n = build_says b components sheets size ≡ accepted (head_values (roots_head b n))
 
 -- the roots of one strip
 abbrev pub strip_roots : ℕ → ℕ → ℕ → Strip → List Root
@@ -67,14 +69,14 @@ StripsAreTiled =
     → All (λ s. IsTiledBy s (strip_roots p b.settings.cap (size_at b p) s)) (strips_at b p)
 
 -- a well-formed table in which every cell is a leaf and a root
-pub record IsTableOfRoots (t : List ℤ) (count max_level : ℕ) : Type 0 where
-  pub formed : WellFormed t count max_level
-  pub leaves : (i : ℕ) → i < count → leaf_at t i ≡ true
-  pub roots : (i : ℕ) → i < count → (at (table t count) i).parent ≡ None
+pub record IsTableOfRoots (t : List ℤ) (head : Head) : Type 0 where
+  pub formed : WellFormed t head
+  pub leaves : (i : ℕ) → i < head.count → leaf_at t i ≡ true
+  pub roots : (i : ℕ) → i < head.count → (at (table t head.count) i).parent ≡ None
 
 -- what an accepted call leaves is such a table
 abbrev pub LeavesTablesOfRoots : Type 0
 LeavesTablesOfRoots =
     (b : Board) (components : List ℕ) (sheets : List Float) (before : List ℤ) (n : ℕ)
     → Accepts b components sheets (length before) n
-    → IsTableOfRoots (build_leaves b components sheets before) n b.settings.max_level
+    → IsTableOfRoots (build_leaves b components sheets before) (roots_head b n)

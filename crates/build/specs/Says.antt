@@ -1,5 +1,5 @@
 -- What build says of a board and a room, in the rules' order, and what it leaves in the table.
-use Rattle.std.specs.Prelude.{ℕ, zero, suc, ◌-◌, ◌*◌, ◌/◌, ◌^◌, Bool, true, ◌&&◌, List, [], ◌∷◌, ◌++◌, ℤ, pos}
+use Rattle.std.specs.Prelude.{ℕ, zero, suc, ◌-◌, ◌*◌, ◌/◌, ◌^◌, Bool, true, ◌&&◌, List, [], ◌++◌, ℤ, pos}
 use Rattle.std.specs.Prelude.{Float, length, sum, replicate, Result, ◌==◌, if◌then◌else◌, nat_lt, nat_le}
 use Rattle.std.specs.Prelude.{slice_index_or, slice_index}
 use Rattle.std.specs.List.{list_all, range_with_len}
@@ -8,14 +8,21 @@ use Rattle.refusals.specs.Limits.{widest_level, max_cap, max_cell, max_layers, m
 use Rattle.refusals.specs.declared.Refusal.{Refusal}
 use Rattle.refusals.specs.Said.{Said, accepted, refused, said, if_accepted}
 use Rattle.floats.specs.Fractions.{in_sheet}
+use Rattle.table.specs.declared.Head.{Head}
 use Rattle.table.specs.Formed.{holds_whole_slots}
+use Rattle.table.specs.Rows.{head_of, head_values}
 use Rattle.strips.specs.Said.{judged}
 use Rattle.build.specs.declared.Settings.{Settings}
 use Rattle.build.specs.Grid.{all_even, flat}
 use Rattle.build.specs.Board.{Board, ring_at, polygons, unit, size_at, strips_at, roots_of}
 
-abbrev pub built_said : Result ℕ Refusal → Said
-built_said = said (λ n. n ∷ [])
+-- an answer's values: the head
+abbrev pub built_said : Result Head Refusal → Said
+built_said = said head_values
+
+-- the head of a table of n roots: each is a leaf
+abbrev pub roots_head : Board → ℕ → Head
+roots_head b n = head_of n n b.settings.max_level
 
 -- 7: "the shape of the room or point counts that don't add up to the point row", or polygon rows of unequal length
 unfoldable pub rows_shaped : List ℕ → List ℕ → List Float → List ℕ → List (List ℤ) → ℕ → Bool
@@ -65,16 +72,16 @@ even_from b p (suc n) otherwise =
     if all_even (unit b) b.settings.cap (size_at b p) (strips_at b p) then even_from b (suc p) n otherwise
     else refused 5 p
 
--- "then 6": more roots than slots. Otherwise their number
-abbrev pub room_for : ℕ → ℕ → Said
-room_for slots n = if nat_lt slots n then refused 6 0 else accepted (n ∷ [])
+-- "then 6": more roots than slots. Otherwise the head of their table
+abbrev pub room_for : Board → ℕ → ℕ → Said
+room_for b slots n = if nat_lt slots n then refused 6 0 else accepted (head_values (roots_head b n))
 
 unfoldable pub build_says : Board → List ℕ → List Float → ℕ → Said
 build_says b components sheets size =
     if rows_shaped b.layers components sheets b.counts b.points size then
     (if settings_ok b then
     judge_from sheets b.counts b.points 0 (polygons b)
-    (even_from b 0 (polygons b) (room_for (size / 8) (length (roots_of b))))
+    (even_from b 0 (polygons b) (room_for b (size / 8) (length (roots_of b))))
     else refused 3 0)
     else refused 7 0
 

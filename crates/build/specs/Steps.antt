@@ -1,13 +1,14 @@
 -- What the steps of the code promise one another. Internal.
-use Rattle.std.specs.Prelude.{ℕ, ◌+◌, ◌-◌, ◌*◌, ◌/◌, ◌%◌, ◌<◌, ◌≤◌, min, ◌≡◌, true, false, List, ◌++◌, ℤ, pos}
-use Rattle.std.specs.Prelude.{length, sum, take, drop, replicate, Option, Some, None, Result, Ok, Err, if◌then◌else◌, nat_lt}
+use Rattle.std.specs.Prelude.{ℕ, ◌+◌, ◌*◌, ◌/◌, ◌%◌, ◌<◌, ◌≤◌, min, ◌≡◌, true, false, List, ◌++◌, ℤ}
+use Rattle.std.specs.Prelude.{length, sum, take, drop, Option, Some, None, Result, Ok, Err, if◌then◌else◌, nat_lt}
 use Rattle.refusals.specs.Limits.{widest_level, max_cap, max_cell, max_points, max_polygons, max_slots}
 use Rattle.strips.specs.declared.walk.Strip.{Strip}
 use Rattle.build.specs.declared.grid.Cut.{Cut}
 use Rattle.build.specs.Board.{Board, ring_at, polygons, roots_of}
-use Rattle.build.specs.Says.{even_from, room_for}
+use Rattle.build.specs.Says.{roots_head, even_from, room_for, filled}
 use Rattle.refusals.specs.declared.Refusal.{Refusal}
-use Rattle.refusals.specs.Said.{Said, refused, refusal}
+use Rattle.refusals.specs.Said.{Said, refusal, said, if_accepted}
+use Rattle.table.specs.Rows.{head_values}
 use Rattle.build.specs.Grid.{Root, flat, all_even, roots_in, listed_at, cell_or}
 
 -- roots put into the table from slot k on
@@ -77,9 +78,11 @@ pub record Tabled (t : List ℤ) : Type 0 where
   pub whole : length t % 8 ≡ 0
   pub few : length t / 8 ≤ max_slots
 
--- what is said of a board of one polygon with these strips, and what it leaves
-abbrev pub alone_says : ℕ → ℕ → ℕ → List Strip → ℕ → Said
-alone_says u cap c ss slots = if all_even u cap c ss then room_for slots (length (roots_in 0 cap c ss)) else refused 5 0
+-- what is said of an answer that is the number of a board's roots
+abbrev pub counted_said : Board → Result ℕ Refusal → Said
+counted_said b = said (λ n. head_values (roots_head b n))
 
-abbrev pub alone_leaves : ℕ → ℕ → List Strip → ℕ → List ℤ
-alone_leaves cap c ss size = flat (roots_in 0 cap c ss) ++ replicate (size - length (roots_in 0 cap c ss) * 8) (pos 0)
+-- the roots of a judged board were cut into a table: 5 and 6, and the roots where neither is said
+pub record IsCut (b : Board) (old new : List ℤ) (answer : Result ℕ Refusal) : Type 0 where
+  pub says : counted_said b answer ≡ even_from b 0 (polygons b) (room_for b (length old / 8) (length (roots_of b)))
+  pub slots : new ≡ if_accepted (counted_said b answer) (filled b (length old)) old

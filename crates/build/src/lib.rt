@@ -1,17 +1,17 @@
 //! From polygons to roots: from_polygons of the Rust, in whole ticks and into a lent table.
 #![tactic(auto)]
 
-ghost use Rattle.std.specs.Prelude.{◌≡◌, ◌/◌, length};
-ghost use Rattle.refusals.specs.Said.{if_accepted};
-ghost use Rattle.build.specs.Board.{board_of, roots_of};
-ghost use Rattle.build.specs.Says.{built_said, build_says, build_leaves, even_from, room_for, filled};
-ghost use Rattle.build.specs.Steps.{Tabled};
+ghost use Rattle.std.specs.Prelude.{◌≡◌, length};
+ghost use Rattle.build.specs.Board.{board_of};
+ghost use Rattle.build.specs.Says.{built_said, build_says, build_leaves};
+ghost use Rattle.build.specs.Steps.{Tabled, IsCut};
 
 use judged::Judged;
 use outlines::Outlines;
 use refusals::Refusal;
 use refusals::limits::RING_POINTS;
 use strips::walk::WorkRoom;
+use table::Head;
 
 pub mod alone;
 pub mod grid;
@@ -35,11 +35,7 @@ pub struct Settings {
 // The roots of a board that has been judged: 5 and 6, and then the writing.
 fn cut_many(board: &Judged<'_>, room: &mut WorkRoom, table: &mut [i64]) -> Result<usize, Refusal>
     requires { Tabled table.old }
-    ensures answer { let b = board_of board.now.settings board.now.list.now board.now.outlines in
-        built_said result ≡ even_from b 0 (length board.now.outlines.counts.now)
-        (room_for (length table.old / 8) (length (roots_of b))) }
-    ensures slots { let b = board_of board.now.settings board.now.list.now board.now.outlines in
-        table.new ≡ if_accepted (built_said result) (filled b (length table.old)) table.old }
+    ensures { IsCut (board_of board.now.settings board.now.list.now board.now.outlines) table.old table.new result }
 {
     let slots = (table.len() / 8) as u64;
     let n = survey::survey(board, room, slots)?;
@@ -54,19 +50,14 @@ fn cut_many(board: &Judged<'_>, room: &mut WorkRoom, table: &mut [i64]) -> Resul
 // The same, by a shorter way for a board of one polygon.
 fn cut(board: &Judged<'_>, table: &mut [i64]) -> Result<usize, Refusal>
     requires { Tabled table.old }
-    ensures answer { let b = board_of board.now.settings board.now.list.now board.now.outlines in
-        built_said result ≡ even_from b 0 (length board.now.outlines.counts.now)
-        (room_for (length table.old / 8) (length (roots_of b))) }
-    ensures slots { let b = board_of board.now.settings board.now.list.now board.now.outlines in
-        table.new ≡ if_accepted (built_said result) (filled b (length table.old)) table.old }
+    ensures { IsCut (board_of board.now.settings board.now.list.now board.now.outlines) table.old table.new result }
 {
     let mut room = WorkRoom {
         heights: [0; RING_POINTS],
         edges: [0; RING_POINTS],
     };
-    if let [layer] = board.outlines.layers {
-        let cutter = board.cutter(*layer);
-        return alone::cut_alone(board.outlines.points, cutter, &mut room, table);
+    if board.outlines.layers.len() == 1 {
+        return alone::cut_alone(board, &mut room, table);
     }
     cut_many(board, &mut room, table)
 }
@@ -79,7 +70,7 @@ pub fn build(
     list: &[[u64; 2]],
     outlines: &Outlines<'_>,
     table: &mut [i64],
-) -> Result<usize, Refusal>
+) -> Result<Head, Refusal>
     ensures answer { built_said result
         ≡ build_says (board_of settings list.now outlines.now) outlines.now.components.now outlines.now.sheets.now
         (length table.old) }
@@ -99,5 +90,6 @@ pub fn build(
         list,
         outlines: *outlines,
     };
-    cut(&board, table)
+    let count = cut(&board, table)?;
+    Ok(Head::of_roots(count, settings.max_level))
 }

@@ -10,6 +10,7 @@ const LEAF: [i64; 8] = [0, 0, 8, 8, 0, NO_CELL, NO_CELL, 0];
 
 const HEAD: Head = Head {
     count: 1,
+    leaves: 1,
     max_level: 2,
 };
 
@@ -108,6 +109,21 @@ fn a_refused_call_leaves_the_room(rt: HostRuntime) {
     let mut work = [7; ROOM];
     assert_eq!(rt;
         check_by_layer(&LEAF, HEAD, &rows(&nodes()), &none, &mut work),
+        Err(Refusal::BadTable)
+    );
+    assert_eq!(rt; work, [7; ROOM]);
+}
+
+#[test]
+fn a_wrong_number_of_leaves(rt: HostRuntime) {
+    let more = Head { leaves: 2, ..HEAD };
+    let mut work = [7; ROOM];
+    assert_eq!(rt;
+        check_network_conforming(&LEAF, more, &rows(&nodes()), &mut work),
+        Err(Refusal::BadTable)
+    );
+    assert_eq!(rt;
+        check_by_layer(&LEAF, more, &rows(&nodes()), &POLYGONS, &mut work),
         Err(Refusal::BadTable)
     );
     assert_eq!(rt; work, [7; ROOM]);

@@ -15,6 +15,7 @@ fn split_twice(row: &mut [i64]) -> Option<Head> {
     row.get_mut(..ROOTS.len())?.copy_from_slice(&ROOTS);
     let head = Head {
         count: 2,
+        leaves: 2,
         max_level: 2,
     };
     let once = refine(row, head, 0).ok()?;
@@ -25,11 +26,13 @@ fn split_twice(row: &mut [i64]) -> Option<Head> {
 fn an_empty_table_has_nothing_to_split(rt: HostRuntime) -> Result<(), Fail> {
     let head = Head {
         count: 0,
+        leaves: 0,
         max_level: 2,
     };
     let done = balance(&mut [], head).ok().ok_or("refused")?;
     assert_eq!(rt; done.splits, 0);
     assert_eq!(rt; done.head.count, 0);
+    assert_eq!(rt; done.head.leaves, 0);
     Ok(())
 }
 
@@ -40,6 +43,7 @@ fn balance_splits_the_other_root_alone(rt: HostRuntime) -> Result<(), Fail> {
     let done = balance(&mut row, head).ok().ok_or("refused")?;
     assert_eq!(rt; done.splits, 1);
     assert_eq!(rt; done.head.count, 14);
+    assert_eq!(rt; done.head.leaves, 11);
     assert_eq!(rt; row[14], 10);
     Ok(())
 }
@@ -51,6 +55,7 @@ fn conform_splits_all_down_to_the_finest(rt: HostRuntime) -> Result<(), Fail> {
     let done = conform(&mut row, head).ok().ok_or("refused")?;
     assert_eq!(rt; done.splits, 8);
     assert_eq!(rt; done.head.count, 42);
+    assert_eq!(rt; done.head.leaves, 32);
     Ok(())
 }
 
@@ -60,6 +65,18 @@ fn one_slot_too_few_leaves_the_row_as_it_was(rt: HostRuntime) -> Result<(), Fail
     let head = split_twice(&mut row).ok_or("refused")?;
     let before = row;
     assert!(rt; matches!(balance(&mut row, head), Err(Refusal::NoRoom)));
+    assert!(rt; row == before);
+    Ok(())
+}
+
+#[test]
+fn a_wrong_number_of_leaves(rt: HostRuntime) -> Result<(), Fail> {
+    let mut row = [0i64; 336];
+    let head = split_twice(&mut row).ok_or("refused")?;
+    let more = Head { leaves: 9, ..head };
+    let before = row;
+    assert!(rt; matches!(balance(&mut row, more), Err(Refusal::BadTable)));
+    assert!(rt; matches!(conform(&mut row, more), Err(Refusal::BadTable)));
     assert!(rt; row == before);
     Ok(())
 }

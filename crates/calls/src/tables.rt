@@ -17,6 +17,7 @@ fn two_roots() -> [i64; 48] {
 
 const HEAD: Head = Head {
     count: 2,
+    leaves: 2,
     max_level: 2,
 };
 
@@ -24,7 +25,7 @@ const HEAD: Head = Head {
 fn leaves_by_id_and_by_polygon(rt: HostRuntime) -> Result<(), Fail> {
     let row = two_roots();
     let mut out = [9; 3];
-    assert_eq!(rt; leaf_count(&row, HEAD), Ok(2));
+    assert_eq!(rt; leaf_count(HEAD), 2);
     assert_eq!(rt; leaves(&row, HEAD, &mut out), Ok(2));
     assert_eq!(rt; out, [0, 1, 9]);
     assert_eq!(rt; leaf_order(&row, HEAD, &mut out), Ok(2));
@@ -39,10 +40,29 @@ fn refusals(rt: HostRuntime) -> Result<(), Fail> {
     assert_eq!(rt; leaves(&row, HEAD, &mut short), Err(Refusal::NoRoom));
     assert_eq!(rt; short, [9]);
     let deeper = Head {
-        count: 2,
         max_level: 13,
+        ..HEAD
     };
-    assert_eq!(rt; leaf_count(&row, deeper), Err(Refusal::BadTable));
+    assert_eq!(rt; leaves(&row, deeper, &mut short), Err(Refusal::BadTable));
+    Ok(())
+}
+
+#[test]
+fn a_wrong_number_of_leaves(rt: HostRuntime) -> Result<(), Fail> {
+    let mut row = two_roots();
+    let mut out = [9; 3];
+    for leaves_told in [1, 3] {
+        let head = Head {
+            leaves: leaves_told,
+            ..HEAD
+        };
+        assert_eq!(rt; leaf_count(head), leaves_told);
+        assert_eq!(rt; leaves(&row, head, &mut out), Err(Refusal::BadTable));
+        assert_eq!(rt; leaf_order(&row, head, &mut out), Err(Refusal::BadTable));
+        assert_eq!(rt; refine(&mut row, head, 1), Err(Refusal::BadTable));
+    }
+    assert_eq!(rt; out, [9; 3]);
+    assert!(rt; row == two_roots());
     Ok(())
 }
 
@@ -51,6 +71,7 @@ fn a_split(rt: HostRuntime) -> Result<(), Fail> {
     let mut row = two_roots();
     let head = refine(&mut row, HEAD, 1)?;
     assert_eq!(rt; head.count, 6);
+    assert_eq!(rt; head.leaves, 5);
     assert_eq!(rt; row[14], 2);
     assert_eq!(rt; &row[24..32], [12, 0, 16, 4, 1, 1, NO_CELL, 0].as_slice());
     assert_eq!(rt; refine(&mut row, head, 6), Err(Refusal::NoSuchCell(6)));

@@ -53,11 +53,16 @@ impl Cases {
         self.word() as usize
     }
 
-    // A table's count and its deepest level.
+    // A table's count, its number of leaves and its deepest level.
     pub fn head(&mut self) -> Head {
         let count = self.index();
+        let leaves = self.index();
         let max_level = self.word();
-        Head { count, max_level }
+        Head {
+            count,
+            leaves,
+            max_level,
+        }
     }
 
     pub fn row<T: Stored + Drop>(&mut self, alloc: Global) -> Result<Vec<T>, AllocError> {

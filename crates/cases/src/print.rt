@@ -2,6 +2,7 @@
 use refusals::Refusal;
 use std::alloc::AllocError;
 use std::fmt::{Display, Write};
+use table::Head;
 
 // The numbers of a row.
 pub fn row<T: Display>(out: &mut String, row: &[T]) -> Result<(), AllocError> {
@@ -57,6 +58,11 @@ where
 // The same of a call whose only value is a count.
 pub fn counted(out: &mut String, answer: Result<usize, Refusal>) -> Result<(), AllocError> {
     answered(out, answer, |out, n| writeln!(out, " {n}"))
+}
+
+// A table's head.
+pub fn head(out: &mut String, head: Head) -> Result<(), AllocError> {
+    writeln!(out, " {} {} {}", head.count, head.leaves, head.max_level)
 }
 
 // A row of numbers without the zeros at its end, as work room is after an accepted call.

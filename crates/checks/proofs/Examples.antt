@@ -31,34 +31,34 @@ abbrev edge : ℕ → ℕ → Edge
 edge from to = record { from = from; to = to; conductance = nan }
 
 -- both halves are there, or one is not: the node and the ends of the edge
-whole : net_fault root (head_of 1 2) (five 1) (edge 0 4 ∷ edge 1 4 ∷ []) ≡ None
+whole : net_fault root (head_of 1 1 2) (five 1) (edge 0 4 ∷ edge 1 4 ∷ []) ≡ None
 unfolding fault_by leaf_fault side_fault middle_fault fault table cell_at counted off on here joins
 whole = refl
 
-half : net_fault root (head_of 1 2) (five 1) (edge 0 4 ∷ edge 0 1 ∷ []) ≡ Some (record { node = 4; start = 0; end = 1 })
+half : net_fault root (head_of 1 1 2) (five 1) (edge 0 4 ∷ edge 0 1 ∷ []) ≡ Some (record { node = 4; start = 0; end = 1 })
 unfolding fault_by leaf_fault side_fault middle_fault fault table cell_at counted off on here joins
 half = refl
 
 -- a node of another layer counts for the first check alone
-other : net_fault root (head_of 1 2) (five 2) [] ≡ Some (record { node = 4; start = 0; end = 1 })
+other : net_fault root (head_of 1 1 2) (five 2) [] ≡ Some (record { node = 4; start = 0; end = 1 })
 unfolding fault_by leaf_fault side_fault middle_fault fault table cell_at counted off on here joins
 other = refl
 
-layered : layer_fault root (head_of 1 2) (five 2) [] (1 ∷ []) (0 ∷ []) ≡ None
+layered : layer_fault root (head_of 1 1 2) (five 2) [] (1 ∷ []) (0 ∷ []) ≡ None
 unfolding fault_by leaf_fault side_fault chain_fault chain first_unjoined nodes_between places_between table cell_at counted off on here joins
 layered = refl
 
 -- by layer a node off the middle of the side is named too
-off_middle : layer_fault root (head_of 1 2) (corners ++ node 1 2 0 ∷ []) (edge 0 1 ∷ []) (1 ∷ []) (0 ∷ []) ≡ Some (record { node = 4; start = 0; end = 1 })
+off_middle : layer_fault root (head_of 1 1 2) (corners ++ node 1 2 0 ∷ []) (edge 0 1 ∷ []) (1 ∷ []) (0 ∷ []) ≡ Some (record { node = 4; start = 0; end = 1 })
 unfolding fault_by leaf_fault side_fault chain_fault chain first_unjoined nodes_between places_between table cell_at counted off on here joins
 off_middle = refl
 
 -- the ends of a side are no nodes between them: with no node there nothing is asked
-ends : layer_fault root (head_of 1 2) corners [] (1 ∷ []) (0 ∷ []) ≡ None
+ends : layer_fault root (head_of 1 1 2) corners [] (1 ∷ []) (0 ∷ []) ≡ None
 unfolding fault_by leaf_fault side_fault chain_fault chain first_unjoined nodes_between places_between table cell_at counted off on here joins
 ends = refl
 
 -- a chain of two nodes that are joined passes, though no edge goes from the start to the middle
-chained : layer_fault root (head_of 1 2) (corners ++ node 1 2 0 ∷ node 1 4 0 ∷ []) (edge 0 4 ∷ edge 4 5 ∷ edge 5 1 ∷ []) (1 ∷ []) (0 ∷ []) ≡ None
+chained : layer_fault root (head_of 1 1 2) (corners ++ node 1 2 0 ∷ node 1 4 0 ∷ []) (edge 0 4 ∷ edge 4 5 ∷ edge 5 1 ∷ []) (1 ∷ []) (0 ∷ []) ≡ None
 unfolding fault_by leaf_fault side_fault chain_fault chain first_unjoined nodes_between places_between table cell_at counted off on here joins
 chained = refl

@@ -96,12 +96,12 @@ checked_said = said fault_values
 -- "The checks: 7 only"
 unfoldable pub conforming_says : List ℤ → Head → List Node → List Edge → List NetCell → Said
 conforming_says t head nodes edges cells =
-    if well_formed t head.count head.max_level && sound_net nodes edges cells
+    if well_formed t head && sound_net nodes edges cells
     then accepted (fault_values (net_fault t head nodes edges))
     else refusal BadTable
 
 unfoldable pub layers_says : List ℤ → Head → List Node → List Edge → List NetCell → List ℕ → List ℕ → Said
 layers_says t head nodes edges cells layers components =
-    if well_formed t head.count head.max_level && sound_net nodes edges cells && polygons_fit (cells_in t head) layers components
+    if well_formed t head && sound_net nodes edges cells && polygons_fit (cells_in t head) layers components
     then accepted (fault_values (layer_fault t head nodes edges layers components))
     else refusal BadTable

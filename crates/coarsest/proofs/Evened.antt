@@ -2,7 +2,7 @@
 use Rattle.std.proofs.Common.{◌≡◌, refl, sym, ap, ◌∙◌, Bool, true, false, cond, inl, List, ℕ, zero, suc, ◌+◌, ◌*◌, ◌≤◌, ◌<◌, arith, eqb, length, eq-eqb, ne_eqb}
 use mathlib.Core.Logic.{by_cases}
 use native.Mathlib.Decide.{ℕ_discrete}
-use Rattle.table.specs.Mesh.{Cell, at}
+use Rattle.table.specs.Mesh.{Cell, at, leaf_count}
 use Rattle.table.specs.Formed.{Formed}
 use Rattle.coarsest.specs.declared.Engine.{Engine}
 use Rattle.coarsest.specs.Passes.{pass, run, splits_left, evened}
@@ -12,6 +12,7 @@ use Rattle.coarsest.proofs.Least.{due-of, level-most, Way, way-start, way-split,
 use Rattle.coarsest.proofs.Left.{left_split}
 use Rattle.coarsest.proofs.Sweep.{Keeps, Grown, grown-keeps, grown-least}
 use Rattle.coarsest.proofs.Passes.{pass-keeps, pass-grown, pass_same, pass-calm}
+use Rattle.coarsest.proofs.Adding.{Added, added-start, added-keeps, same-cells, same-leaf_count}
 
 run-if : (P : List Cell → Type 0) (d : Bool) (t u : List Cell) → P t → P u → P (cond d t u)
 run-if P true t u p q = p
@@ -21,7 +22,7 @@ pub run-keeps : (e : Engine) (k : ℕ) (P : List Cell → Type 0) → Keeps k P 
 unfolding run
 run-keeps e k P keep zero t p = p
 run-keeps e k P keep (suc m) t p =
-    run-if P (eqb (length (pass e k t)) (length t)) t (run e k m (pass e k t)) p (run-keeps e k P keep m (pass e k t) (pass-keeps e k t P keep p))
+    run-if P (eqb (leaf_count (pass e k t)) (leaf_count t)) t (run e k m (pass e k t)) p (run-keeps e k P keep m (pass e k t) (pass-keeps e k t P keep p))
 
 -- the splits that are left go down as the table grows
 pub record Spent (M : ℕ) (t u : List Cell) : Type 0 where
@@ -52,11 +53,11 @@ pass-left e k M t formed h = let s = (pass_spent e k M t formed).spent in omega 
 pub run-stop : (e : Engine) (k m : ℕ) (t : List Cell) → length (pass e k t) ≡ length t → run e k m t ≡ t
 unfolding run
 run-stop e k zero t l = refl
-run-stop e k (suc m) t l = ap {B = List Cell} (λ (d : Bool). cond d t (run e k m (pass e k t))) (eq-eqb (length (pass e k t)) (length t) l)
+run-stop e k (suc m) t l = ap {B = List Cell} (λ (d : Bool). cond d t (run e k m (pass e k t))) (eq-eqb (leaf_count (pass e k t)) (leaf_count t) (same-leaf_count e k t l))
 
 pub run-go : (e : Engine) (k m : ℕ) (t : List Cell) → (length (pass e k t) ≡ length t → ⊥) → run e k (suc m) t ≡ run e k m (pass e k t)
 unfolding run
-run-go e k m t l = ap {B = List Cell} (λ (d : Bool). cond d t (run e k m (pass e k t))) (ne_eqb (length (pass e k t)) (length t) l)
+run-go e k m t l = ap {B = List Cell} (λ (d : Bool). cond d t (run e k m (pass e k t))) (ne_eqb (leaf_count (pass e k t)) (leaf_count t) (λ n. l (same-cells e k t n)))
 
 -- where as many passes are allowed as there are splits left, the last one makes none
 pub run_ends : (e : Engine) (k M m : ℕ) (t : List Cell) → Formed M t → splits_left M t ≤ m → length (pass e k (run e k m t)) ≡ length (run e k m t)
@@ -97,6 +98,10 @@ pub evened-keeps : (e : Engine) (k M : ℕ) (P : List Cell → Type 0) → Keeps
 unfolding evened
 evened-keeps e k M P keep t p = run-keeps e k P keep (splits_left M t) t p
 
+-- each split is three leaves more, and four cells
+pub evened-leaves : (e : Engine) (k M : ℕ) (t : List Cell) → Added t (evened e k M t)
+evened-leaves e k M t = evened-keeps e k M (Added t) (added-keeps k t) t (added-start t)
+
 -- the main theorem: what the passes end in is the coarsest splitting
 module _ (e : Engine) (k M : ℕ) (t : List Cell) (formed : Formed M t) where
   way-keeps : (R : Roots) (T : Splitting) → Keeps k (Way k M R T)
@@ -120,10 +125,6 @@ module _ (e : Engine) (k M : ℕ) (t : List Cell) (formed : Formed M t) where
 
   pub evened-grown : length t ≤ length (evened e k M t)
   evened-grown = grown-least t (evened e k M t) (evened-keeps e k M (Grown t) (grown-keeps k t) t (inl refl))
-
-  -- each split took one of the splits that were left, and four slots
-  pub evened-spent : Spent M t (evened e k M t)
-  evened-spent = evened-keeps e k M (Spent M t) (spent-keeps k M t) t (record { formed = formed; spent = refl })
 
 -- a pass on the way, and the end: what a loop of passes goes by
 module _ (e : Engine) (k M : ℕ) (t : List Cell) (formed : Formed M t) where

@@ -1,14 +1,13 @@
 -- What the passes keep of a table: the cells that were there, but for the children of those that were leaves; and what each cell hands on
 -- to its children. An undo goes by the first, the row's ranges by the second. Assumes nothing.
-use Rattle.std.proofs.Common.{◌≡◌, refl, sym, ap, ◌∙◌, None, Some, List, ℕ, ◌+◌, ◌*◌, ◌-◌, ◌<◌, ◌≤◌, arith, length}
+use Rattle.std.proofs.Common.{◌≡◌, refl, sym, ap, ◌∙◌, None, Some, List, ℕ, ◌<◌, ◌≤◌, arith, length}
 use Rattle.table.specs.Mesh.{Cell, at, split}
-use Rattle.table.specs.Formed.{Formed}
 use Rattle.coarsest.specs.declared.Engine.{Engine}
-use Rattle.coarsest.specs.Passes.{splits_left, evened}
+use Rattle.coarsest.specs.Passes.{evened}
 use Rattle.table.proofs.Meshes.{not_some, some_is, length-split, Kept, kept, kids-kept, View, old, self, new, out, view}
 use Rattle.coarsest.proofs.Least.{due-of}
 use Rattle.coarsest.proofs.Sweep.{Keeps}
-use Rattle.coarsest.proofs.Evened.{evened-keeps, evened-spent}
+use Rattle.coarsest.proofs.Evened.{evened-keeps}
 
 -- ---- the cells that were there
 
@@ -61,8 +60,3 @@ from-keeps k t u f c hf hc w d =
 module _ (e : Engine) (k M : ℕ) (t : List Cell) where
   pub evened-from : From t (evened e k M t)
   evened-from = evened-keeps e k M (From t) (from-keeps k t) t (from_start t)
-
-  module _ (formed : Formed M t) where
-    -- the splits are a quarter of the growth
-    pub evened-quarter : length (evened e k M t) ≡ length t + 4 * (splits_left M t - splits_left M (evened e k M t))
-    evened-quarter = let s = (evened-spent e k M t formed).spent in let g = evened-from.longer in omega arith

@@ -8,6 +8,7 @@ pub mod Sweep
 pub mod Loops
 pub mod Rows
 pub mod Passes
+pub mod Adding
 pub mod Evened
 pub mod Kept
 pub mod Count

@@ -1,8 +1,8 @@
 -- The laws of the passes, for both engines and every allowed difference k of levels. crates/coarsest/src/laws.rt
 -- promises each.
-use Rattle.std.specs.Prelude.{ℕ, ◌<◌, ◌≡◌, ◌↔◌, ◌||◌, false, List, length}
+use Rattle.std.specs.Prelude.{ℕ, ◌+◌, ◌*◌, ◌<◌, ◌≡◌, ◌↔◌, ◌||◌, false, List, length}
 use Rattle.cell.specs.Boxes.{Box}
-use Rattle.table.specs.Mesh.{Cell}
+use Rattle.table.specs.Mesh.{Cell, leaf_count}
 use Rattle.table.specs.Formed.{Formed}
 use Rattle.coarsest.specs.declared.Engine.{Engine}
 use Rattle.coarsest.specs.Passes.{is_due, pass, evened}
@@ -62,6 +62,13 @@ PartsEndTheSame =
 abbrev pub NeedsTheCellsReached : Type 0
 NeedsTheCellsReached =
     (e : Engine) (k M : ℕ) (t : List Cell) → Formed M t → (n : ℕ) → Needs k M t n ↔ (n ≡ length (evened e k M t))
+
+-- each split that they make is three leaves more, and four cells
+abbrev pub EveningAddsThree : Type 0
+EveningAddsThree =
+    (e : Engine) (k M : ℕ) (t : List Cell)
+    → (splits : ℕ) × (leaf_count (evened e k M t) ≡ leaf_count t + 3 * splits)
+    × (length (evened e k M t) ≡ length t + 4 * splits)
 
 -- after a pass no pair of two cells of its start has a split
 abbrev pub PassSettles : Type 0

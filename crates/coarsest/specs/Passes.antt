@@ -7,7 +7,7 @@ use Rattle.std.specs.Prelude.{ℕ, zero, suc, ◌+◌, ◌*◌, ◌-◌, Bool, �
 use Rattle.std.specs.Prelude.{filter, fold, sum_by, is_none, if◌then◌else◌}
 use Rattle.std.specs.List.{range_with_len}
 use Rattle.cell.specs.Boxes.{shares_edge}
-use Rattle.table.specs.Mesh.{Cell, at, split, is_leaf}
+use Rattle.table.specs.Mesh.{Cell, at, split, is_leaf, leaf_count}
 use Rattle.coarsest.specs.declared.Engine.{Engine}
 use Rattle.coarsest.specs.declared.Engine.TheVariants.{Balancing, Conforming}
 
@@ -45,10 +45,10 @@ leaves_of t = filter (is_leaf t) (range_with_len 0 (length t))
 unfoldable pub pass : Engine → ℕ → List Cell → List Cell
 pass e k t = fold (λ u a. with_each e k u a (leaves_of t)) t (leaves_of t)
 
--- passes until one makes no split, or n of them were made
+-- passes until one makes no split, which leaves as many leaves as before, or n of them were made
 unfoldable pub run : Engine → ℕ → ℕ → List Cell → List Cell
 run e k zero t = t
-run e k (suc n) t = if length (pass e k t) == length t then t else run e k n (pass e k t)
+run e k (suc n) t = if leaf_count (pass e k t) == leaf_count t then t else run e k n (pass e k t)
 
 -- how many splits a leaf with n levels below it can still see, and all leaves of a table
 abbrev pub splits_below : ℕ → ℕ

@@ -1,7 +1,7 @@
 //! The laws of the passes: each function ensures one of them, for every table, and does nothing.
 ghost use Rattle.coarsest.specs.Laws.{CoarsestIsReached, CoarsestIsOne, PassesEnd, StaysFormed, KeepsRoots};
 ghost use Rattle.coarsest.specs.Laws.{SplittingTellsLeaves, MoreSplitsEndFiner, PartsEndTheSame, NeedsTheCellsReached};
-ghost use Rattle.coarsest.specs.Laws.{PassSettles};
+ghost use Rattle.coarsest.specs.Laws.{EveningAddsThree, PassSettles};
 
 /// What the passes end in is the coarsest splitting that they may end in.
 pub fn coarsest_is_reached()
@@ -46,6 +46,11 @@ pub fn parts_end_the_same()
 /// How many cells the coarsest splitting has: as many as the passes end in, and no other number.
 pub fn needs_the_cells_reached()
     ensures { NeedsTheCellsReached }
+{}
+
+/// Each split of the passes is three leaves more, and four cells.
+pub fn evening_adds_three()
+    ensures { EveningAddsThree }
 {}
 
 /// What one pass leaves to the next: no two cells that stood at its start.

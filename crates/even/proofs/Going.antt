@@ -1,7 +1,7 @@
 -- What goes on from one part of an evening to the next. Assumes nothing.
-use Rattle.std.proofs.Common.{ℕ, ◌/◌, ◌≤◌, ◌≡◌, refl, ap, ◌∙◌, List, arith, length, Ok, Err}
+use Rattle.std.proofs.Common.{ℕ, ◌/◌, ◌≤◌, ◌≡◌, refl, sym, ap, ◌∙◌, List, arith, length, Ok, Err}
 use Rattle.refusals.specs.declared.Refusal.{Refusal}
-use Rattle.table.specs.Mesh.{Cell}
+use Rattle.table.specs.Mesh.{Cell, leaf_count}
 use Rattle.table.specs.Formed.{Formed}
 use Rattle.table.proofs.Cells.{length-table}
 use Rattle.table.proofs.Wellformed.{formed-facts}
@@ -9,12 +9,15 @@ use Rattle.table.specs.declared.edit.TableMut.{TableMut}
 use Rattle.table.specs.TablesMut.{cells_mut}
 use Rattle.even.specs.Makes.{GoesOn, Makes}
 
--- a table at work is well formed, and has as many cells as its head says
+-- a table at work is well formed, and has as many cells and leaves as its head says
 pub formed_of : (s : TableMut) → Formed s.head.max_level (cells_mut s)
-formed_of s = (formed-facts _ _ _ s.formed).cells
+formed_of s = (formed-facts _ _ s.formed).cells
 
 pub length-of : (s : TableMut) → length (cells_mut s) ≡ s.head.count
 length-of s = length-table s.row.now s.head.count
+
+pub leaves-of : (s : TableMut) → leaf_count (cells_mut s) ≡ s.head.leaves
+leaves-of s = sym (formed-facts _ _ s.formed).leaves
 
 pub goes-start : (s : TableMut) → GoesOn s s
 goes-start s =

@@ -1,12 +1,13 @@
 -- The turns of a pass, and of the passes. Assumes nothing.
 use Rattle.std.proofs.Common.{ℕ, ◌+◌, ◌<◌, ◌≤◌, ◌≡◌, refl, sym, ap, ap₂, subst, ◌∙◌, false, List, arith, length, Ok, Err}
 use Rattle.refusals.specs.declared.Refusal.{Refusal}
-use Rattle.table.specs.Mesh.{Cell}
+use Rattle.table.specs.Mesh.{Cell, leaf_count}
 use Rattle.table.specs.Formed.{Formed}
 use Rattle.coarsest.specs.declared.Engine.{Engine}
 use Rattle.coarsest.specs.Passes.{is_due, pass, evened, splits_left}
 use Rattle.coarsest.specs.Sweep.{row, rows}
-use Rattle.coarsest.proofs.Passes.{pass-grown, pass_same}
+use Rattle.coarsest.proofs.Passes.{pass_same}
+use Rattle.coarsest.proofs.Adding.{same-cells, pass-more}
 use Rattle.coarsest.proofs.Settled.{settled}
 use Rattle.coarsest.proofs.Evened.{pass-formed, pass-left, evened-stop, evened-pass, evened-grown}
 use Rattle.table.specs.declared.edit.TableMut.{TableMut}
@@ -14,7 +15,7 @@ use Rattle.table.specs.TablesMut.{cells_mut}
 use Rattle.search.specs.declared.roots.Roots.{Roots}
 use Rattle.search.specs.Roots.{Indexes}
 use Rattle.even.specs.Makes.{GoesOn, Makes}
-use Rattle.even.proofs.Going.{On, on-as, on_then, full_then, goes_then, formed_of, length-of}
+use Rattle.even.proofs.Going.{On, on-as, on_then, full_then, goes_then, formed_of, length-of, leaves-of}
 use Rattle.even.proofs.Turns.{rows_next, rows-room}
 
 -- u came from s by the rows before a's
@@ -64,24 +65,23 @@ module _ (e : Engine) (k : ℕ) (s u : TableMut) (g : GoesOn s u)
       pub passes-same : evened e k M (cells_mut v) ≡ evened e k M (cells_mut s)
       passes-same = ap (evened e k M) m.cells ∙ on-end
 
-      lengths : length (pass e k (cells_mut u)) ≡ v.head.count
-      lengths = ap length (sym m.cells) ∙ length-of v
+      leaves : leaf_count (pass e k (cells_mut u)) ≡ v.head.leaves
+      leaves = ap leaf_count (sym m.cells) ∙ leaves-of v
 
       -- a pass without a split is the last
-      pub passes-done : v.head.count ≡ u.head.count → On (evened e k M (cells_mut s)) s v
+      pub passes-done : v.head.leaves ≡ u.head.leaves → On (evened e k M (cells_mut s)) s v
       passes-done q =
-          let d : length (pass e k (cells_mut u)) ≡ length (cells_mut u) = lengths ∙ q ∙ sym (length-of u) in
+          let d : length (pass e k (cells_mut u)) ≡ length (cells_mut u) = same-cells e k (cells_mut u) (leaves ∙ q ∙ sym (leaves-of u)) in
           record {
             goes_on = passes-goes;
             cells = m.cells ∙ pass_same e k (cells_mut u) d ∙ sym (evened-stop e k M (cells_mut u) formed d) ∙ same;
           }
 
       -- and one with a split leaves fewer
-      pub passes-left : (v.head.count ≡ u.head.count → ⊥)
+      pub passes-left : (v.head.leaves ≡ u.head.leaves → ⊥)
           → splits_left v.head.max_level (cells_mut v) < splits_left u.head.max_level (cells_mut u)
       passes-left ne =
-          let p = pass-grown e k (cells_mut u) in
-          let l = pass-left e k M (cells_mut u) formed (omega (arith, length-of u, lengths)) in
+          let l = pass-left e k M (cells_mut u) formed (pass-more e k (cells_mut u) (λ x. ne (sym leaves ∙ x ∙ leaves-of u))) in
           omega (
             arith,
             l,

@@ -4,6 +4,7 @@ use Rattle.std.specs.Prelude.{if◌then◌else◌}
 use lib.ListN.{length-replicate, get_or-replicate}
 use Rattle.std.proofs.lemmas.Grind.{flat_map-append}
 use Rattle.cell.specs.Cells.{no_cell}
+use Rattle.table.specs.declared.Head.{Head}
 use Rattle.table.specs.Slots.{cell_at}
 use Rattle.table.specs.Mesh.{Cell, opt, marked, slot_numbers, mesh_cell, table}
 use Rattle.table.specs.Formed.{WellFormed}
@@ -56,7 +57,10 @@ flat-one : (c : Cell) → flat (c ∷ []) ≡ slot_numbers c
 unfolding flat
 flat-one c = append-nil (slot_numbers c)
 
-module _ (t : List ℤ) (n M : ℕ) (w : WellFormed t n M) where
+module _ (t : List ℤ) (head : Head) (w : WellFormed t head) where
+  abbrev n : ℕ
+  n = head.count
+
   room : n * 8 ≤ length t
   room = let c = w.count in omega arith
 

@@ -9,6 +9,7 @@ use Rattle.refusals.specs.Limits.{max_slots}
 use Rattle.cell.specs.declared.Cell as Held
 use Rattle.cell.specs.Boxes.{quad_at}
 use Rattle.cell.specs.Cells.{no_cell, child_of}
+use Rattle.table.specs.declared.Head.{Head}
 use Rattle.table.specs.Slots.{number, cell_at}
 use Rattle.table.specs.Mesh.{Cell}
 use Rattle.table.specs.Formed.{WellFormed}
@@ -76,7 +77,10 @@ module _ (n j : ℕ) where
 
 -- ---- a well-formed row
 
-module _ (t : List ℤ) (n M : ℕ) (w : WellFormed t n M) where
+module _ (t : List ℤ) (head : Head) (w : WellFormed t head) where
+  abbrev n : ℕ
+  n = head.count
+
   -- a first child is none, or below the count
   first-undone : (i : ℕ) → i < n → (j : ℕ) → j ≡ i * 8 + 6 → undone_at n j (get_or t j (pos 0)) ≡ get_or t j (pos 0)
   first-undone i h j e =
@@ -125,33 +129,33 @@ unfolding leaf_at
 leaf_first u c e = eqb-true (cell_at u c).first no_cell e
 
 -- to a row from before the split it leaves no trace
-pub undone-split : (u : List ℤ) (n M c m : ℕ) → WellFormed u n M → c < n → leaf_at u c ≡ true → n + 4 ≤ length u / 8 → m ≤ n
-    → undone m (split_row u n c) ≡ undone m u
-undone-split u n M c m w inside leaf enough before =
-    undone-same m u (split_row u n c) (length-split_row u n c)
+pub undone-split : (u : List ℤ) (head : Head) (c m : ℕ) → WellFormed u head → c < head.count → leaf_at u c ≡ true → head.count + 4 ≤ length u / 8 → m ≤ head.count
+    → undone m (split_row u head.count c) ≡ undone m u
+undone-split u head c m w inside leaf enough before =
+    undone-same m u (split_row u head.count c) (length-split_row u head.count c)
     (λ j h.
     by_cases (dec_lt j (m * 8))
-    (λ b. by_cases (ℕ_discrete j (c * 8 + 6)) (λ e. here j b e) (λ o. ap (undone_at m j) (split_row-front u n c j (omega arith) o)))
-    (λ b. undone-past m j (get_or (split_row u n c) j (pos 0)) (omega arith) ∙ sym (undone-past m j (get_or u j (pos 0)) (omega arith))))
+    (λ b. by_cases (ℕ_discrete j (c * 8 + 6)) (λ e. here j b e) (λ o. ap (undone_at m j) (split_row-front u head.count c j (omega arith) o)))
+    (λ b. undone-past m j (get_or (split_row u head.count c) j (pos 0)) (omega arith) ∙ sym (undone-past m j (get_or u j (pos 0)) (omega arith))))
   where
-    room : (n + 4) * 8 ≤ length u
+    room : (head.count + 4) * 8 ≤ length u
     room = omega arith
 
-    small : n ≤ max_slots
+    small : head.count ≤ max_slots
     small = let s = w.slots in omega arith
 
     old : number u c 6 ≡ pos no_cell
     old = sym (exact u c (w.held c inside)).first ∙ ap pos (leaf_first u c leaf)
 
-    new : number (split_row u n c) c 6 ≡ pos n
+    new : number (split_row u head.count c) c 6 ≡ pos head.count
     new =
-        sym (exact (split_row u n c) c (split_row-old-held u n c inside room small c inside (w.held c inside))).first
-        ∙ ap (λ (x : Held.Cell). pos x.first) (split_row-self u n c inside room small)
+        sym (exact (split_row u head.count c) c (split_row-old-held u head.count c inside room small c inside (w.held c inside))).first
+        ∙ ap (λ (x : Held.Cell). pos x.first) (split_row-self u head.count c inside room small)
 
-    here : (j : ℕ) → j < m * 8 → j ≡ c * 8 + 6 → undone_at m j (get_or (split_row u n c) j (pos 0)) ≡ undone_at m j (get_or u j (pos 0))
+    here : (j : ℕ) → j < m * 8 → j ≡ c * 8 + 6 → undone_at m j (get_or (split_row u head.count c) j (pos 0)) ≡ undone_at m j (get_or u j (pos 0))
     here j b e =
         let s : j % 8 ≡ 6 = omega arith in
-        ap (λ (k : ℕ). undone_at m j (get_or (split_row u n c) k (pos 0))) e ∙ ap (undone_at m j) new ∙ undone-new m j b s n before
+        ap (λ (k : ℕ). undone_at m j (get_or (split_row u head.count c) k (pos 0))) e ∙ ap (undone_at m j) new ∙ undone-new m j b s head.count before
         ∙ sym (ap (λ (k : ℕ). undone_at m j (get_or u k (pos 0))) e ∙ ap (undone_at m j) old ∙ undone-none m j b s)
 
 -- ---- a loop that overwrites the row number by number

@@ -5,9 +5,9 @@ use Rattle.refusals.specs.Said.{Said, accepted, refused, refusal, said}
 use Rattle.refusals.specs.declared.Refusal.{Refusal}
 use Rattle.refusals.specs.declared.Refusal.TheVariants.{BadTable, NoRoom}
 use Rattle.table.specs.declared.Head.{Head}
-use Rattle.table.specs.Mesh.{Cell, table}
+use Rattle.table.specs.Mesh.{Cell, table, leaf_count}
 use Rattle.table.specs.Formed.{WellFormed, well_formed}
-use Rattle.table.specs.Rows.{cells_in}
+use Rattle.table.specs.Rows.{cells_in, head_of, head_values}
 use Rattle.refusals.specs.Said.{is_accepted}
 use Rattle.coarsest.specs.declared.Engine.{Engine}
 use Rattle.coarsest.specs.Passes.{evened, difference}
@@ -15,21 +15,29 @@ use Rattle.coarsest.specs.Names.{Evens, Needs}
 use Rattle.even.specs.declared.Evening.{Evening}
 use Rattle.even.specs.Rows.{row_of}
 
--- an answer's values: the number of splits, the new count and max_level
+-- an answer's values: the number of splits, and the new head
 abbrev pub evening_said : Result Evening Refusal → Said
-evening_said = said (λ e. e.splits ∷ e.head.count ∷ e.head.max_level ∷ [])
+evening_said = said (λ e. e.splits ∷ head_values e.head)
 
 -- the cells that the passes of the rules end in, with unlimited room
 abbrev pub even_cells : Engine → List ℤ → Head → List Cell
 even_cells e row head = evened e (difference e) head.max_level (cells_in row head)
 
--- 7, then 6 where they are more than the slots; the splits are a quarter of the growth of the count
+-- the head of the table that holds them
+abbrev pub even_head : Engine → List ℤ → Head → Head
+even_head e row head =
+    let cells = even_cells e row head in head_of (length cells) (leaf_count cells) head.max_level
+
+-- three leaves more a split
+abbrev pub even_splits : Engine → List ℤ → Head → ℕ
+even_splits e row head = (leaf_count (even_cells e row head) - head.leaves) / 3
+
+-- 7, then 6 where they are more than the slots
 unfoldable pub even_says : Engine → List ℤ → Head → Said
 even_says e row head =
-    if well_formed row head.count head.max_level then
+    if well_formed row head then
     (if nat_le (length (even_cells e row head)) (length row / 8) then
-    (let count = length (even_cells e row head) in
-    accepted ((count - head.count) / 4 ∷ count ∷ head.max_level ∷ []))
+    accepted (even_splits e row head ∷ head_values (even_head e row head))
     else refusal NoRoom)
     else refusal BadTable
 
@@ -39,17 +47,19 @@ even_row e row head =
     if is_accepted (even_says e row head) then row_of (even_cells e row head) (length row) else row
 
 -- The promise with no word of passes. A well-formed table has a coarsest splitting; if that has no more cells than
--- there are slots the call is accepted with exactly that count, and what was done is that splitting; if it has more,
--- the answer is 6. A table that is not well formed: 7. Refused, the row is as it was
+-- there are slots the call is accepted with exactly that count, and what was done is that splitting, four cells and
+-- three leaves more a split; if it has more, the answer is 6. A table that is not well formed: 7. Refused, the row is
+-- as it was
 pub record EndsCoarsest (e : Engine) (head : Head) (old new : List ℤ) (said : Said) : Type 0 where
-  pub exists : WellFormed old head.count head.max_level
+  pub exists : WellFormed old head
       → (cells : ℕ) × Needs (difference e) head.max_level (cells_in old head) cells
-  pub fits : WellFormed old head.count head.max_level
+  pub fits : WellFormed old head
       → (cells : ℕ) → Needs (difference e) head.max_level (cells_in old head) cells
-      → cells ≤ length old / 8 → (splits : ℕ) × (said ≡ accepted (splits ∷ cells ∷ head.max_level ∷ []))
-  pub done : (splits count : ℕ) → said ≡ accepted (splits ∷ count ∷ head.max_level ∷ [])
-      → Evens (difference e) head.max_level (cells_in old head) (table new count) × (count ≡ head.count + 4 * splits)
-  pub over : WellFormed old head.count head.max_level
+      → cells ≤ length old / 8 → (splits leaves : ℕ) × (said ≡ accepted (splits ∷ cells ∷ leaves ∷ head.max_level ∷ []))
+  pub done : (splits count leaves : ℕ) → said ≡ accepted (splits ∷ count ∷ leaves ∷ head.max_level ∷ [])
+      → Evens (difference e) head.max_level (cells_in old head) (table new count)
+      × (count ≡ head.count + 4 * splits) × (leaves ≡ head.leaves + 3 * splits)
+  pub over : WellFormed old head
       → (cells : ℕ) → Needs (difference e) head.max_level (cells_in old head) cells
       → length old / 8 < cells → (said ≡ refused 6 0) × (new ≡ old)
-  pub bad : (WellFormed old head.count head.max_level → ⊥) → (said ≡ refused 7 0) × (new ≡ old)
+  pub bad : (WellFormed old head → ⊥) → (said ≡ refused 7 0) × (new ≡ old)

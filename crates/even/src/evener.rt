@@ -40,22 +40,16 @@ pub struct Evener<'a> {
 impl Evener<'_> {
     ghost use Rattle.even.specs.Watch.{Reaches, Watched, Settled, Met};
 
-    // Splits each of the first `stop` cells that a is too fine for, in the order of their ids. Most leaves are too
-    // coarse to ask anybody.
-    fn balance_row(&self, table: &mut TableMut<'_>, a: usize, stop: usize) -> Result<(), Refusal>
+    // Splits each of the first `stop` cells that a is too fine for, in the order of their ids. Never inlined: on boards
+    // with a neck that takes up to 15 in 100 off a balance, as the compiler lays out the search by itself.
+    #[inline(never)]
+    fn split_coarser(&self, table: &mut TableMut<'_>, a: usize, stop: usize) -> Result<(), Refusal>
         requires indexed { Indexes self.now.roots.now (cells_mut table.old) }
         requires stop { stop ≤ table.old.head.count }
         requires own { a < stop }
         ensures { Makes (row Balancing (difference Balancing) (cells_mut table.old) a stop) table.old table.new result }
     {
         let difference = Engine::Balancing.difference();
-        let cells = table.view();
-        if cells.level(a) <= difference {
-            return Ok(());
-        }
-        if !cells.is_leaf(a) {
-            return Ok(());
-        }
         let mut from = 0;
         while from < stop {
             let c = Around::new(table.view(), self.roots, a).least_due(difference, from, stop);
@@ -68,7 +62,26 @@ impl Evener<'_> {
         Ok(())
     }
 
-    // Splits a if one of the first `stop` cells asks for it. A leaf at the finest level is never asked.
+    // a's pairs with the first `stop` cells, of balance. Most leaves are too coarse to ask anybody.
+    fn balance_row(&self, table: &mut TableMut<'_>, a: usize, stop: usize) -> Result<(), Refusal>
+        requires indexed { Indexes self.now.roots.now (cells_mut table.old) }
+        requires stop { stop ≤ table.old.head.count }
+        requires own { a < stop }
+        ensures { Makes (row Balancing (difference Balancing) (cells_mut table.old) a stop) table.old table.new result }
+    {
+        let cells = table.view();
+        if cells.level(a) <= Engine::Balancing.difference() {
+            return Ok(());
+        }
+        if !cells.is_leaf(a) {
+            return Ok(());
+        }
+        self.split_coarser(table, a, stop)
+    }
+
+    // Splits a if one of the first `stop` cells asks for it. A leaf at the finest level is never asked. Never inlined,
+    // as that one.
+    #[inline(never)]
     fn conform_row(&self, table: &mut TableMut<'_>, a: usize, stop: usize) -> Result<(), Refusal>
         requires indexed { Indexes self.now.roots.now (cells_mut table.old) }
         requires stop { stop ≤ table.old.head.count }
@@ -181,13 +194,13 @@ impl Evener<'_> {
             table.old table.new result }
     {
         'passes: loop {
-            let count = table.head.count;
+            let before = table.head;
             self.pass(table, marks)?;
-            let calm = table.head.count == count;
+            let calm = table.head.leaves == before.leaves;
             if calm {
                 return Ok(());
             }
-            self.mark_new(&table.view(), count, marks);
+            self.mark_new(&table.view(), before.count, marks);
         }
     }
 }

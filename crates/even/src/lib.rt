@@ -54,6 +54,7 @@ fn even_out(row: &mut [i64], head: Head, engine: Engine) -> Result<Head, Refusal
 fn even_table(row: &mut [i64], head: Head, engine: Engine) -> Result<Evening, Refusal>
     ensures says { evening_said result ≡ even_says engine row.old head }
     ensures row_after { row.new ≡ even_row engine row.old head }
+    ensures table_after { IfOk result (λ e. IsTable row.new e.head) }
     ensures coarsest { EndsCoarsest engine head row.old row.new (evening_said result) }
 {
     if !well_formed(row, head) {
@@ -61,7 +62,7 @@ fn even_table(row: &mut [i64], head: Head, engine: Engine) -> Result<Evening, Re
     }
     match even_out(row, head, engine) {
         Ok(grown) => Ok(Evening {
-            splits: (grown.count - head.count) / 4,
+            splits: (grown.leaves - head.leaves) / 3,
             head: grown,
         }),
         Err(why) => {
@@ -75,6 +76,7 @@ fn even_table(row: &mut [i64], head: Head, engine: Engine) -> Result<Evening, Re
 pub fn balance(row: &mut [i64], head: Head) -> Result<Evening, Refusal>
     ensures says { evening_said result ≡ even_says Balancing row.old head }
     ensures row_after { row.new ≡ even_row Balancing row.old head }
+    ensures table_after { IfOk result (λ e. IsTable row.new e.head) }
     ensures coarsest { EndsCoarsest Balancing head row.old row.new (evening_said result) }
 {
     even_table(row, head, Engine::Balancing)
@@ -84,6 +86,7 @@ pub fn balance(row: &mut [i64], head: Head) -> Result<Evening, Refusal>
 pub fn conform(row: &mut [i64], head: Head) -> Result<Evening, Refusal>
     ensures says { evening_said result ≡ even_says Conforming row.old head }
     ensures row_after { row.new ≡ even_row Conforming row.old head }
+    ensures table_after { IfOk result (λ e. IsTable row.new e.head) }
     ensures coarsest { EndsCoarsest Conforming head row.old row.new (evening_said result) }
 {
     even_table(row, head, Engine::Conforming)

@@ -3,7 +3,6 @@ use lib.Ieee.{Float}
 use Rattle.std.proofs.Math.Nat.{div-add-mod}
 use Rattle.std.proofs.Common.{ℕ, ◌+◌, ◌*◌, ◌-◌, ◌/◌, ◌%◌, ◌<◌, ◌≤◌, ◌≡◌, sym, ap, subst, ◌∙◌, true, List, [], ◌∷◌, ◌++◌, append-nil, arith, div-lt_iff_lt-mul, mod-lt, ℤ, pos, length, get_or, drop, replicate, get_or-take, get_or-drop, div-add-mod', ap₂, ⊎_elim}
 use Rattle.refusals.specs.Limits.{coordinate}
-use Rattle.refusals.specs.Said.{accepted}
 use Rattle.cell.specs.Boxes.{Box}
 use Rattle.cell.specs.Cells.{box_of}
 use Rattle.cell.proofs.Offsets.{below?, off-on}
@@ -20,9 +19,9 @@ use Rattle.strips.proofs.Bounds.{strips-sound, sound-first}
 use Rattle.build.specs.declared.grid.Cut.{Cut}
 use Rattle.build.specs.Grid.{Root, width, height, boxed, row_of, cell_of, grid_to, roots_in, cut_of, even_strip, all_even, flat}
 use Rattle.build.specs.Board.{Board, ring_at, polygons, unit, size_at, strips_at, roots_at, roots_to, roots_of}
-use Rattle.build.specs.Says.{build_says, filled, build_leaves}
+use Rattle.build.specs.Says.{filled, build_leaves}
 use Rattle.build.specs.Steps.{Cuts, Fit}
-use Rattle.build.specs.Laws.{Overlap, IsTiledBy, strip_roots}
+use Rattle.build.specs.Laws.{Accepts, Overlap, IsTiledBy, strip_roots}
 use Rattle.build.proofs.Cutting.{cuts}
 use Rattle.build.proofs.Placing.{length-grid}
 use Rattle.build.proofs.Boards.{sizes}
@@ -257,7 +256,7 @@ module _ (b : Board) (size : ℕ) (fit : Fit b) (p : ℕ) (pitch : in_pitch (siz
 
 -- ---- an accepted call
 
-module _ (b : Board) (components : List ℕ) (sheets : List Float) (t : List ℤ) (n : ℕ) (e : build_says b components sheets (length t) ≡ accepted (n ∷ [])) where
+module _ (b : Board) (components : List ℕ) (sheets : List Float) (t : List ℤ) (n : ℕ) (e : Accepts b components sheets (length t) n) where
   -- what build leaves of a polygon of one strip is one grid
   pub built-strip : (p : ℕ) → p < polygons b → (s : Strip) → strips_at b p ≡ s ∷ [] → OneGrid (table (build_leaves b components sheets t) n) p
   built-strip p below s single =

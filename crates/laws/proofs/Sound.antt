@@ -77,7 +77,7 @@ module _ (ns : List MeshNode) (low : All (Within top) ns) where
 pub edges-sound : (t : List ℤ) (head : Head) (ps : List Poly) (es : List Edge) → IsTable t head → All (Ends (length (made t head ps).nodes)) es
     → IsTrue (sound_net (node_row (made t head ps)) es (made t head ps).cells)
 edges-sound t head ps es formed joined =
-    let positive = pieces-leaves HasArea (cells_in t head) ps 0 (cell-positive head.max_level (cells_in t head) (formed-facts t head.count head.max_level formed).cells) in
+    let positive = pieces-leaves HasArea (cells_in t head) ps 0 (cell-positive head.max_level (cells_in t head) (formed-facts t head formed).cells) in
     net-sound (made t head ps).nodes (low t head.count ps) es (made t head ps).cells joined (cells (cells_in t head) ps positive)
 
 pub made-sound : MadeNetsAreSound

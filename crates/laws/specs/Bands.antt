@@ -26,7 +26,8 @@ cells_of ring size = roots_in 0 256 size (strips_of ring)
 unfoldable pub bands_fault : List (List ℤ) → ℕ → Option Hanging
 bands_fault ring size =
     let row = flat (cells_of ring size) in
-    let head = head_of (length (cells_of ring size)) 0 in
+    let roots = length (cells_of ring size) in
+    let head = head_of roots roots 0 in
     let net = made row head copper in
     layer_fault row head (node_row net) net.edges (layers_of copper) (components_of copper)
 

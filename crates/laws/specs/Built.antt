@@ -3,13 +3,13 @@
 use Rattle.std.specs.Prelude.{ℕ, ◌*◌, ◌%◌, ◌≡◌, ◌<◌, ◌==◌, ◌&&◌, Bool, List, [], ◌∷◌, ℤ, Float, length, nat_le}
 use Rattle.std.specs.Prelude.{slice_get, All, IsTrue, Some}
 use Rattle.std.specs.List.{list_all, range_with_len}
-use Rattle.refusals.specs.Said.{accepted}
 use Rattle.table.specs.Mesh.{Cell, table}
 use Rattle.strips.specs.declared.walk.Strip.{Strip}
 use Rattle.strips.specs.Rings.{x_at, y_at}
 use Rattle.build.specs.Board.{Board, polygons, ring_at, size_at, strips_at}
 use Rattle.build.specs.Grid.{width, height}
-use Rattle.build.specs.Says.{build_says, build_leaves}
+use Rattle.build.specs.Says.{build_leaves}
+use Rattle.build.specs.Laws.{Accepts}
 use Rattle.coarsest.specs.Passes.{balance}
 use Rattle.net.specs.Net.{Poly, leaves_of, network}
 use Rattle.laws.specs.Grids.{OneGrid, Splits}
@@ -17,15 +17,14 @@ use Rattle.laws.specs.Fit.{RootsFit, NoneTouches}
 use Rattle.laws.specs.Joined.{SidesJoined}
 use Rattle.laws.specs.Hanging.{NoneHangs}
 
--- an accepted call of build: its board, the polygons' other rows, the row lent for the table, and the count of roots
--- that is answered
+-- an accepted call of build: its board, the polygons' other rows, the row lent for the table, and the number of roots
 pub record BuiltBoard : Type 0 where
   pub board : Board
   pub components : List ℕ
   pub sheets : List Float
   pub lent : List ℤ
   pub count : ℕ
-  pub accepting : build_says board components sheets (length lent) ≡ accepted (count ∷ [])
+  pub accepting : Accepts board components sheets (length lent) count
 
 -- the cells that it leaves
 abbrev pub built : BuiltBoard → List Cell

@@ -3,7 +3,7 @@
 -- 2^36 more.
 use lib.Pointwise.{pointwise}
 use Rattle.std.specs.Prelude.{ℕ, ◌≡◌, ◌+◌, ◌*◌, ◌-◌, Bool, List, [], ◌∷◌, ◌++◌, map, ℤ, pos}
-use Rattle.std.specs.Prelude.{Float, replicate, not, filter, count_by, length}
+use Rattle.std.specs.Prelude.{Float, replicate, not, filter, length}
 use Rattle.std.specs.List.{range_with_len, flat_map}
 use Rattle.std.specs.Ordering.{int_eq}
 use Rattle.std.specs.Float.{binary64}
@@ -13,7 +13,7 @@ use Rattle.refusals.specs.Said.{Said, accepted, refused, bit}
 use Rattle.cell.specs.declared.rectangles.Rect.{Rect}
 use Rattle.cell.specs.Contact.{contact_says}
 use Rattle.cell.specs.Cells.{no_cell}
-use Rattle.table.specs.Mesh.{Cell, is_leaf, is_none, table}
+use Rattle.table.specs.Mesh.{Cell, is_leaf, table, leaf_count}
 use Rattle.table.specs.Rows.{head_of}
 use Rattle.table.specs.Refine.{refined_row}
 use Rattle.coarsest.specs.declared.Engine.TheVariants.{Balancing, Conforming}
@@ -30,36 +30,34 @@ abbrev pub answer : Said → List ℕ
 answer (accepted values) = 0 ∷ values
 answer (refused number place) = number ∷ place ∷ []
 
--- what balance and conform say of a row of n cells at max_level 2, and the row after balance
-abbrev pub balance_says : List ℤ → ℕ → List ℕ
-balance_says t n = answer (even_says Balancing t (head_of n 2))
+-- what balance and conform say of a row of n cells, so many of them leaves, at max_level 2, and the row after balance
+abbrev pub balance_says : List ℤ → ℕ → ℕ → List ℕ
+balance_says t n leaves = answer (even_says Balancing t (head_of n leaves 2))
 
-abbrev pub conform_says : List ℤ → ℕ → List ℕ
-conform_says t n = answer (even_says Conforming t (head_of n 2))
+abbrev pub conform_says : List ℤ → ℕ → ℕ → List ℕ
+conform_says t n leaves = answer (even_says Conforming t (head_of n leaves 2))
 
-abbrev pub balanced : List ℤ → ℕ → List ℤ
-balanced t n = even_row Balancing t (head_of n 2)
+abbrev pub balanced : List ℤ → ℕ → ℕ → List ℤ
+balanced t n leaves = even_row Balancing t (head_of n leaves 2)
 
 -- the same numbers, as many of them
 unfoldable pub same_row : List ℤ → List ℤ → Bool
 same_row = pointwise int_eq
 
 -- 1 where balance leaves the row as it was
-abbrev pub untouched : List ℤ → ℕ → ℕ
-untouched t n = bit (same_row (balanced t n) t)
+abbrev pub untouched : List ℤ → ℕ → ℕ → ℕ
+untouched t n leaves = bit (same_row (balanced t n leaves) t)
 
 -- the eight numbers of a root
 abbrev pub root : ℕ → ℕ → ℕ → ℕ → ℕ → List ℤ
 root x0 y0 x1 y1 polygon = pos x0 ∷ pos y0 ∷ pos x1 ∷ pos y1 ∷ pos 0 ∷ pos no_cell ∷ pos no_cell ∷ pos polygon ∷ []
 
--- P2's input in a row of this many slots: "Roots (0,0,8,8), (8,0,16,8), max_level 2; split 0, then 3". It has 10 cells
+-- P2's input in a row of this many slots: "Roots (0,0,8,8), (8,0,16,8), max_level 2; split 0, then 3". It has 10 cells,
+-- and 8 leaves
 unfoldable pub lent : ℕ → List ℤ
 lent slots =
     let roots = root 0 0 8 8 0 ++ root 8 0 16 8 1 ++ replicate ((slots - 2) * 8) (pos 0) in
-    refined_row (refined_row roots (head_of 2 2) 0) (head_of 6 2) 3
-
-abbrev pub leaf_count : List Cell → ℕ
-leaf_count cells = count_by (λ c. is_none c.kids) cells
+    refined_row (refined_row roots (head_of 2 2 2) 0) (head_of 6 5 2) 3
 
 -- the ids of the split cells
 abbrev pub split_ids : List Cell → List ℕ
@@ -81,14 +79,15 @@ power = power_of (slope_of (float 0) (float 1) (float 1) (float 0) (metres_of 4)
 -- p2 stands for `lent`: a constant list is too dear to compute, and a function's is cheap
 unfoldable pub computed : (ℕ → List ℤ) → List (List ℕ)
 computed p2 =
-    balance_says [] 0
-    ∷ balance_says (p2 42) 10
-    ∷ split_ids (table (balanced (p2 42) 10) 14)
-    ∷ (leaf_count (table (balanced (p2 42) 10) 14) ∷ [])
-    ∷ conform_says (p2 42) 10
-    ∷ balance_says (p2 13) 10
-    ∷ balance_says (p2 14) 10
-    ∷ (untouched (p2 13) 10 ∷ untouched (p2 14) 10 ∷ [])
+    balance_says [] 0 0
+    ∷ balance_says (p2 42) 10 8
+    ∷ split_ids (table (balanced (p2 42) 10 8) 14)
+    ∷ (leaf_count (table (balanced (p2 42) 10 8) 14) ∷ [])
+    ∷ conform_says (p2 42) 10 8
+    ∷ balance_says (p2 13) 10 8
+    ∷ balance_says (p2 14) 10 8
+    ∷ (untouched (p2 13) 10 8 ∷ untouched (p2 14) 10 8 ∷ [])
+    ∷ balance_says (p2 42) 10 9
     ∷ answer (contact_says (rect 0 0 4 4) (rect 4 4 8 8))
     ∷ answer (contact_says (rect 0 0 4 4) (rect 4 3 8 8))
     ∷ (held_at 256 4 8 ∷ held_at 256 4 9 ∷ held_at 1 4 8 ∷ [])
@@ -98,19 +97,20 @@ computed p2 =
 
 unfoldable pub expected : List (List ℕ)
 expected =
-    -- P1 "Empty table: balance answers 0." Accepted: 0 splits, 0 cells, max_level 2
-    (0 ∷ 0 ∷ 0 ∷ 2 ∷ [])
-    -- P2 "Balance splits only 1: 14 cells, 11 leaves." Accepted: 1 split, 14 cells, max_level 2; 0 and 3 were split
-    -- before
-    ∷ (0 ∷ 1 ∷ 14 ∷ 2 ∷ [])
+    -- P1 "Empty table: balance answers 0." Accepted: 0 splits, 0 cells, 0 leaves, max_level 2
+    (0 ∷ 0 ∷ 0 ∷ 0 ∷ 2 ∷ [])
+    -- P2 "Balance splits only 1: 14 cells, 11 leaves." Accepted: 1 split, then the head; 0 and 3 were split before
+    ∷ (0 ∷ 1 ∷ 14 ∷ 11 ∷ 2 ∷ [])
     ∷ (0 ∷ 1 ∷ 3 ∷ [])
     ∷ (11 ∷ [])
     -- P3 "Conform on P2's input: 8 splits, 42 cells."
-    ∷ (0 ∷ 8 ∷ 42 ∷ 2 ∷ [])
+    ∷ (0 ∷ 8 ∷ 42 ∷ 32 ∷ 2 ∷ [])
     -- P4 "P2's input with 13 slots: 6, table untouched; 14 slots: accepted."
     ∷ (6 ∷ 0 ∷ [])
-    ∷ (0 ∷ 1 ∷ 14 ∷ 2 ∷ [])
+    ∷ (0 ∷ 1 ∷ 14 ∷ 11 ∷ 2 ∷ [])
     ∷ (1 ∷ 0 ∷ [])
+    -- P2's input with a stored number of leaves that is not its own: 7
+    ∷ (7 ∷ 0 ∷ [])
     -- P5 "(0,0,4,4) and (4,4,8,8) don't share an edge; with (4,3,8,8) they do."
     ∷ (0 ∷ 0 ∷ [])
     ∷ (0 ∷ 1 ∷ [])

@@ -113,6 +113,6 @@ alike = square ∷ square ∷ []
 -- so it takes that polygons that share both do not touch
 abbrev pub AlikePolygonsMayHang : Type 0
 AlikePolygonsMayHang =
-    let net = made overlapping (head_of 2 1) alike in
-    layer_fault overlapping (head_of 2 1) (node_row net) net.edges (layers_of alike) (components_of alike)
+    let net = made overlapping (head_of 2 2 1) alike in
+    layer_fault overlapping (head_of 2 2 1) (node_row net) net.edges (layers_of alike) (components_of alike)
     ≡ Some (record { node = 4; start = 0; end = 1 })

@@ -4,11 +4,10 @@ use Rattle.std.specs.Prelude.{ℕ, ◌*◌, ◌≡◌, ◌⊎◌, Bool, ◌&&◌
 use Rattle.std.specs.List.{list_all, range_with_len}
 use Rattle.std.specs.Float.{binary64}
 use Rattle.std.specs.Float.Ieee.{of_bits}
-use Rattle.refusals.specs.Said.{accepted}
 use Rattle.table.specs.Mesh.{Cell}
 use Rattle.coarsest.specs.Passes.{balance}
 use Rattle.build.specs.Board.{Board, ring_at, polygons, size_at, strips_at}
-use Rattle.build.specs.Says.{build_says}
+use Rattle.build.specs.Laws.{Accepts}
 use Rattle.net.specs.Net.{Poly, leaves_of, network}
 use Rattle.laws.specs.Grids.{Splits}
 use Rattle.laws.specs.Fit.{BoardFits}
@@ -60,7 +59,7 @@ SamplesInPitch = IsTrue (pitched neck) × IsTrue (pitched comb)
 
 -- build accepts a board of one ring, of this sheet resistance, with so many roots in a table that just holds them
 abbrev pub IsAccepted : Board → Float → ℕ → Type 0
-IsAccepted b sheet roots = build_says b (0 ∷ []) (sheet ∷ []) (roots * 8) ≡ accepted (roots ∷ [])
+IsAccepted b sheet roots = Accepts b (0 ∷ []) (sheet ∷ []) (roots * 8) roots
 
 -- and the two samples it does: 0.0005 and 0.001 ohms a square
 abbrev pub SamplesAccepted : Type 0

@@ -2,16 +2,23 @@
 use Rattle.std.specs.Prelude.{◌≡◌}
 use Rattle.refusals.specs.Said.{Said}
 use Rattle.leafmesh.specs.declared.Outcome.{Outcome}
+use Rattle.leafmesh.specs.declared.TableOutcome.{TableOutcome}
 use Rattle.leafmesh.specs.declared.boards.ReadOutcome.{ReadOutcome}
 use Rattle.leafmesh.specs.declared.nets.NetOutcome.{NetOutcome}
 use Rattle.leafmesh.specs.declared.nets.CheckOutcome.{CheckOutcome}
-use Rattle.leafmesh.specs.Outcome.{outcome_of}
+use Rattle.leafmesh.specs.Outcome.{outcome_of, head_outcome_of, evening_outcome_of}
 use Rattle.leafmesh.specs.Reads.{read_outcome_of}
 use Rattle.leafmesh.specs.Nets.{net_outcome_of, check_outcome_of}
 
 -- whatever is to be said, two outcomes that are permitted are one
 abbrev pub OneOutcome : Type 0
 OneOutcome = (what : Said) (answer other : Outcome) → answer ≡ outcome_of what → other ≡ outcome_of what → answer ≡ other
+
+abbrev pub OneTableOutcome : Type 0
+OneTableOutcome =
+    (what : Said) (answer other : TableOutcome)
+    → (answer ≡ head_outcome_of what → other ≡ head_outcome_of what → answer ≡ other)
+    × (answer ≡ evening_outcome_of what → other ≡ evening_outcome_of what → answer ≡ other)
 
 abbrev pub OneReadOutcome : Type 0
 OneReadOutcome = (what : Said) (answer other : ReadOutcome) → answer ≡ read_outcome_of what → other ≡ read_outcome_of what → answer ≡ other

@@ -6,10 +6,10 @@ ghost use Rattle.build.specs.Says.{build_says, build_leaves};
 ghost use Rattle.record.specs.Rows.{rows_of};
 ghost use Rattle.record.specs.Reading.{read_said, read_says, read_leaves};
 ghost use Rattle.record.specs.Writing.{write_says, write_leaves};
-ghost use Rattle.leafmesh.specs.Outcome.{outcome_of, cut_settings, board_settings};
+ghost use Rattle.leafmesh.specs.Outcome.{outcome_of, head_outcome_of, cut_settings, board_settings};
 ghost use Rattle.leafmesh.specs.Reads.{read_outcome_of};
 
-use crate::Outcome;
+use crate::{Outcome, TableOutcome};
 use build::outlines::Outlines;
 use record::{BoardRows, BoardRowsMut, Read, Settings};
 use refusals::Refusal;
@@ -72,7 +72,7 @@ pub extern "C" fn leafmesh_strips(points: &[[i64; 2]], out: &mut [[i64; 4]]) -> 
     Outcome::from(strips::strips(points, out))
 }
 
-/// The roots of a board: value is how many.
+/// The roots of a board: splits is 0.
 #[unsafe(no_mangle)]
 pub extern "C" fn leafmesh_build(
     max_level: u64,
@@ -85,9 +85,9 @@ pub extern "C" fn leafmesh_build(
     counts: &[u64],
     points: &[[i64; 2]],
     table: &mut [i64],
-) -> Outcome
+) -> TableOutcome
     ensures value { result
-        ≡ outcome_of (build_says (board
+        ≡ head_outcome_of (build_says (board
         (cut_settings max_level cap target) list.now layers.now counts.now points.now) components.now sheets.now
         (length table.old)) }
     ensures table_after { table.new
@@ -107,7 +107,7 @@ pub extern "C" fn leafmesh_build(
         counts,
         points,
     };
-    Outcome::from(build::build(s, list, &outlines, table))
+    TableOutcome::from(build::build(s, list, &outlines, table))
 }
 
 /// A board record into lent rows.

@@ -1,17 +1,17 @@
 //! The public calls for programs in other languages: the C names of the static library, and nothing else.
 //!
-//! A slice is passed as a pointer and a length. Every call answers an Outcome by value.
+//! A slice is passed as a pointer and a length. An answer is a struct by value.
 #![tactic(auto)]
 
 ghost use Rattle.std.specs.Prelude.{◌≡◌, ℕ, List, [], ◌∷◌, slice_index};
-ghost use Rattle.refusals.specs.Said.{said, bit};
+ghost use Rattle.refusals.specs.Said.{accepted, refusal, said, bit};
 ghost use Rattle.cell.specs.Contact.{contact_says};
-ghost use Rattle.table.specs.Rows.{head_of, leaves_in, order_in};
-ghost use Rattle.table.specs.Leaves.{leaf_count_says, list_says, listed_row};
-ghost use Rattle.table.specs.Refine.{refine_says, refined_row};
+ghost use Rattle.table.specs.Rows.{head_of, head_values, leaves_in, order_in};
+ghost use Rattle.table.specs.Leaves.{list_says, listed_row};
+ghost use Rattle.table.specs.Refine.{refined_said, refine_says, refined_row};
 ghost use Rattle.coarsest.specs.declared.Engine.TheVariants.{Balancing, Conforming};
-ghost use Rattle.even.specs.Even.{even_says, even_row};
-ghost use Rattle.leafmesh.specs.Outcome.{outcome_of, rect_of};
+ghost use Rattle.even.specs.Even.{evening_said, even_says, even_row};
+ghost use Rattle.leafmesh.specs.Outcome.{outcome_of, head_outcome_of, evening_outcome_of, rect_of};
 
 pub mod boards;
 pub mod laws;
@@ -57,22 +57,6 @@ impl Found for bool {
     }
 }
 
-impl Found for Head {
-    ghost values = { λ head. head.count ∷ head.max_level ∷ [] };
-
-    fn value(self) -> u64 {
-        self.count as u64
-    }
-}
-
-impl Found for Evening {
-    ghost values = { λ e. e.splits ∷ e.head.count ∷ e.head.max_level ∷ [] };
-
-    fn value(self) -> u64 {
-        self.splits as u64
-    }
-}
-
 impl Found for () {
     ghost values = { λ _. [] };
 
@@ -100,6 +84,80 @@ impl<T: Found> From<Result<T, Refusal>> for Outcome {
                 }
             }
         }
+    }
+}
+
+/// What a call that makes or changes a table answers: how many splits balance or conform made, and the table's new
+/// head.
+#[repr(C)]
+#[derive(Clone, Copy)]
+pub struct TableOutcome {
+    pub number: u64,
+    pub place: u64,
+    pub splits: u64,
+    pub count: u64,
+    pub leaves: u64,
+    pub max_level: u64,
+}
+
+fn changed(splits: usize, head: Head) -> TableOutcome
+    ensures { result ≡ evening_outcome_of (accepted (splits ∷ head_values head)) }
+{
+    TableOutcome {
+        number: 0,
+        place: 0,
+        splits: splits as u64,
+        count: head.count as u64,
+        leaves: head.leaves as u64,
+        max_level: head.max_level,
+    }
+}
+
+fn unchanged(why: Refusal) -> TableOutcome
+    ensures head { result ≡ head_outcome_of (refusal why) }
+    ensures evening { result ≡ evening_outcome_of (refusal why) }
+{
+    let code = why.code();
+    TableOutcome {
+        number: code.number,
+        place: code.place as u64,
+        splits: 0,
+        count: 0,
+        leaves: 0,
+        max_level: 0,
+    }
+}
+
+impl From<Result<Head, Refusal>> for TableOutcome {
+    ghost from_gives = { λ answer outcome. outcome ≡ head_outcome_of (refined_said answer) };
+
+    fn from(answer: Result<Head, Refusal>) -> TableOutcome {
+        match answer {
+            Ok(head) => changed(0, head),
+            Err(why) => unchanged(why),
+        }
+    }
+}
+
+impl From<Result<Evening, Refusal>> for TableOutcome {
+    ghost from_gives = { λ answer outcome. outcome ≡ evening_outcome_of (evening_said answer) };
+
+    fn from(answer: Result<Evening, Refusal>) -> TableOutcome {
+        match answer {
+            Ok(evening) => changed(evening.splits, evening.head),
+            Err(why) => unchanged(why),
+        }
+    }
+}
+
+// The head that stands beside a table's row.
+fn head_of(count: usize, leaves: usize, max_level: u64) -> Head
+    ensures { result ≡ head_of count leaves max_level }
+{
+    Head {
+        count,
+        leaves,
+        max_level,
     }
 }
 
@@ -132,12 +190,13 @@ pub extern "C" fn leafmesh_contact(
     Outcome::from(rectangles::between(a, b))
 }
 
-/// How many leaves the table has.
+/// How many leaves a table has, as its head says: the table itself is not looked at, and nothing is refused.
 #[unsafe(no_mangle)]
-pub extern "C" fn leafmesh_leaf_count(table: &[i64], count: usize, max_level: u64) -> Outcome
-    ensures { result ≡ outcome_of (leaf_count_says table.now (head_of count max_level)) }
+pub extern "C" fn leafmesh_leaf_count(count: usize, leaves: usize, max_level: u64) -> usize
+    ensures { result ≡ leaves }
 {
-    Outcome::from(table::leaves::leaf_count(table, Head { count, max_level }))
+    let head = head_of(count, leaves, max_level);
+    table::leaves::leaf_count(head)
 }
 
 /// The leaves' ids, rising, into the front of out: value is how many.
@@ -145,15 +204,17 @@ pub extern "C" fn leafmesh_leaf_count(table: &[i64], count: usize, max_level: u6
 pub extern "C" fn leafmesh_leaves(
     table: &[i64],
     count: usize,
+    leaves: usize,
     max_level: u64,
     out: &mut [u64],
 ) -> Outcome
-    ensures value { let head = head_of count max_level in
+    ensures value { let head = head_of count leaves max_level in
         result ≡ outcome_of (list_says table.now head (leaves_in table.now head) out.old) }
-    ensures out_after { let head = head_of count max_level in
+    ensures out_after { let head = head_of count leaves max_level in
         out.new ≡ listed_row table.now head (leaves_in table.now head) out.old }
 {
-    Outcome::from(table::leaves::leaves(table, Head { count, max_level }, out))
+    let head = head_of(count, leaves, max_level);
+    Outcome::from(table::leaves::leaves(table, head, out))
 }
 
 /// The same by polygon, then id.
@@ -161,45 +222,61 @@ pub extern "C" fn leafmesh_leaves(
 pub extern "C" fn leafmesh_leaf_order(
     table: &[i64],
     count: usize,
+    leaves: usize,
     max_level: u64,
     out: &mut [u64],
 ) -> Outcome
-    ensures value { let head = head_of count max_level in
+    ensures value { let head = head_of count leaves max_level in
         result ≡ outcome_of (list_says table.now head (order_in table.now head) out.old) }
-    ensures out_after { let head = head_of count max_level in
+    ensures out_after { let head = head_of count leaves max_level in
         out.new ≡ listed_row table.now head (order_in table.now head) out.old }
 {
-    Outcome::from(table::leaves::leaf_order(table, Head { count, max_level }, out))
+    let head = head_of(count, leaves, max_level);
+    Outcome::from(table::leaves::leaf_order(table, head, out))
 }
 
-/// Splits the leaf with this id: value is the new count.
+/// Splits the leaf with this id.
 #[unsafe(no_mangle)]
 pub extern "C" fn leafmesh_refine(
     table: &mut [i64],
     count: usize,
+    leaves: usize,
     max_level: u64,
     id: usize,
-) -> Outcome
-    ensures value { result ≡ outcome_of (refine_says table.old (head_of count max_level) id) }
-    ensures table_after { table.new ≡ refined_row table.old (head_of count max_level) id }
+) -> TableOutcome
+    ensures value { result ≡ head_outcome_of (refine_says table.old (head_of count leaves max_level) id) }
+    ensures table_after { table.new ≡ refined_row table.old (head_of count leaves max_level) id }
 {
-    Outcome::from(table::refine::refine(table, Head { count, max_level }, id))
+    let head = head_of(count, leaves, max_level);
+    TableOutcome::from(table::refine::refine(table, head, id))
 }
 
-/// Balances the table: value is the number of splits, each four cells more.
+/// Balances the table.
 #[unsafe(no_mangle)]
-pub extern "C" fn leafmesh_balance(table: &mut [i64], count: usize, max_level: u64) -> Outcome
-    ensures value { result ≡ outcome_of (even_says Balancing table.old (head_of count max_level)) }
-    ensures table_after { table.new ≡ even_row Balancing table.old (head_of count max_level) }
+pub extern "C" fn leafmesh_balance(
+    table: &mut [i64],
+    count: usize,
+    leaves: usize,
+    max_level: u64,
+) -> TableOutcome
+    ensures value { result ≡ evening_outcome_of (even_says Balancing table.old (head_of count leaves max_level)) }
+    ensures table_after { table.new ≡ even_row Balancing table.old (head_of count leaves max_level) }
 {
-    Outcome::from(even::balance(table, Head { count, max_level }))
+    let head = head_of(count, leaves, max_level);
+    TableOutcome::from(even::balance(table, head))
 }
 
 /// The same until no two neighbours differ in level.
 #[unsafe(no_mangle)]
-pub extern "C" fn leafmesh_conform(table: &mut [i64], count: usize, max_level: u64) -> Outcome
-    ensures value { result ≡ outcome_of (even_says Conforming table.old (head_of count max_level)) }
-    ensures table_after { table.new ≡ even_row Conforming table.old (head_of count max_level) }
+pub extern "C" fn leafmesh_conform(
+    table: &mut [i64],
+    count: usize,
+    leaves: usize,
+    max_level: u64,
+) -> TableOutcome
+    ensures value { result ≡ evening_outcome_of (even_says Conforming table.old (head_of count leaves max_level)) }
+    ensures table_after { table.new ≡ even_row Conforming table.old (head_of count leaves max_level) }
 {
-    Outcome::from(even::conform(table, Head { count, max_level }))
+    let head = head_of(count, leaves, max_level);
+    TableOutcome::from(even::conform(table, head))
 }

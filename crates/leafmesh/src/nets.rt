@@ -9,13 +9,12 @@ ghost use Rattle.power.specs.Powers.{power_says, power_row};
 ghost use Rattle.leafmesh.specs.Outcome.{outcome_of};
 ghost use Rattle.leafmesh.specs.Nets.{net_outcome_of, check_outcome_of};
 
-use crate::Outcome;
+use crate::{Outcome, head_of};
 use checks::Hanging;
 use links::{Channel, Contact, Links, Via};
 use net_rows::{Edge, NetCell, NetRows, Node, Polygons};
 use network::NetSize;
 use refusals::Refusal;
-use table::Head;
 
 /// How many nodes, edges and cells a net has, and how many of its edges, the last ones, are links; number and place as
 /// in an Outcome.
@@ -140,6 +139,7 @@ pub extern "C" fn leafmesh_power(
 pub extern "C" fn leafmesh_network<'a>(
     table: &[i64],
     count: usize,
+    leaves: usize,
     max_level: u64,
     layers: &'a [u16],
     components: &'a [u32],
@@ -154,17 +154,27 @@ pub extern "C" fn leafmesh_network<'a>(
     work: &mut [u64],
 ) -> NetOutcome
     ensures value { result
-        ≡ net_outcome_of (network_says table.now (head_of count max_level)
+        ≡ net_outcome_of (network_says table.now (head_of count leaves max_level)
         (record { layers = layers.entry; components = components.entry }) sheets.now
-        (record { contacts = contacts.entry; vias = vias.entry; channel_layer = channel_layer; channels = channels.entry })
+        (record {
+          contacts = contacts.entry;
+          vias = vias.entry;
+          channel_layer = channel_layer;
+          channels = channels.entry;
+        })
         (rows nodes.old edges.old cells.old work.old)) }
     ensures rows_after { rows nodes.new edges.new cells.new work.new
-        ≡ network_leaves table.now (head_of count max_level)
+        ≡ network_leaves table.now (head_of count leaves max_level)
         (record { layers = layers.entry; components = components.entry }) sheets.now
-        (record { contacts = contacts.entry; vias = vias.entry; channel_layer = channel_layer; channels = channels.entry })
+        (record {
+          contacts = contacts.entry;
+          vias = vias.entry;
+          channel_layer = channel_layer;
+          channels = channels.entry;
+        })
         (rows nodes.old edges.old cells.old work.old) }
 {
-    let head = Head { count, max_level };
+    let head = head_of(count, leaves, max_level);
     let polygons = Polygons { layers, components };
     let links = Links {
         contacts,
@@ -182,6 +192,7 @@ pub extern "C" fn leafmesh_network<'a>(
 pub extern "C" fn leafmesh_edge_rows<'a>(
     table: &[i64],
     count: usize,
+    leaves: usize,
     max_level: u64,
     layers: &'a [u16],
     components: &'a [u32],
@@ -192,11 +203,16 @@ pub extern "C" fn leafmesh_edge_rows<'a>(
     channels: &'a [Channel],
 ) -> Outcome
     ensures { result
-        ≡ outcome_of (edge_rows_says table.now (head_of count max_level)
+        ≡ outcome_of (edge_rows_says table.now (head_of count leaves max_level)
         (record { layers = layers.entry; components = components.entry }) sheets.now
-        (record { contacts = contacts.entry; vias = vias.entry; channel_layer = channel_layer; channels = channels.entry })) }
+        (record {
+          contacts = contacts.entry;
+          vias = vias.entry;
+          channel_layer = channel_layer;
+          channels = channels.entry;
+        })) }
 {
-    let head = Head { count, max_level };
+    let head = head_of(count, leaves, max_level);
     let polygons = Polygons { layers, components };
     let links = Links {
         contacts,
@@ -212,29 +228,27 @@ pub extern "C" fn leafmesh_edge_rows<'a>(
 pub extern "C" fn leafmesh_check_network_conforming(
     table: &[i64],
     count: usize,
+    leaves: usize,
     max_level: u64,
     nodes: &[Node],
     edges: &[Edge],
     cells: &[NetCell],
     work: &mut [u64],
 ) -> CheckOutcome
-    ensures value { result
-        ≡ check_outcome_of (conforming_says table.now (head_of count max_level) nodes.now edges.now cells.now) }
-    ensures work_after { work.new
+    ensures value { let head = head_of count leaves max_level in
+        result ≡ check_outcome_of (conforming_says table.now head nodes.now edges.now cells.now) }
+    ensures work_after { let head = head_of count leaves max_level in
+        work.new
         ≡ work_row (length nodes.now) (length edges.now)
-        (is_accepted (conforming_says table.now (head_of count max_level) nodes.now edges.now cells.now)) work.old }
+        (is_accepted (conforming_says table.now head nodes.now edges.now cells.now)) work.old }
 {
+    let head = head_of(count, leaves, max_level);
     let rows = NetRows {
         nodes,
         edges,
         cells,
     };
-    CheckOutcome::from(checks::check_network_conforming(
-        table,
-        Head { count, max_level },
-        &rows,
-        work,
-    ))
+    CheckOutcome::from(checks::check_network_conforming(table, head, &rows, work))
 }
 
 /// The same with nodes of the leaf's own layer and component.
@@ -242,6 +256,7 @@ pub extern "C" fn leafmesh_check_network_conforming(
 pub extern "C" fn leafmesh_check_by_layer(
     table: &[i64],
     count: usize,
+    leaves: usize,
     max_level: u64,
     nodes: &[Node],
     edges: &[Edge],
@@ -250,25 +265,20 @@ pub extern "C" fn leafmesh_check_by_layer(
     components: &[u32],
     work: &mut [u64],
 ) -> CheckOutcome
-    ensures value { result
-        ≡ check_outcome_of (layers_says table.now (head_of count max_level) nodes.now edges.now cells.now layers.now
-        components.now) }
-    ensures work_after { work.new
+    ensures value { let head = head_of count leaves max_level in
+        result
+        ≡ check_outcome_of (layers_says table.now head nodes.now edges.now cells.now layers.now components.now) }
+    ensures work_after { let head = head_of count leaves max_level in
+        work.new
         ≡ work_row (length nodes.now) (length edges.now)
-        (is_accepted (layers_says table.now (head_of count max_level) nodes.now edges.now cells.now layers.now
-        components.now)) work.old }
+        (is_accepted (layers_says table.now head nodes.now edges.now cells.now layers.now components.now)) work.old }
 {
+    let head = head_of(count, leaves, max_level);
     let rows = NetRows {
         nodes,
         edges,
         cells,
     };
     let polygons = Polygons { layers, components };
-    CheckOutcome::from(checks::check_by_layer(
-        table,
-        Head { count, max_level },
-        &rows,
-        &polygons,
-        work,
-    ))
+    CheckOutcome::from(checks::check_by_layer(table, head, &rows, &polygons, work))
 }

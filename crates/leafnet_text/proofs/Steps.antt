@@ -1,29 +1,32 @@
 -- From a board to its balanced table: what is printed where a step refuses, and what an accepted step leaves. Assumes nothing.
-use Rattle.std.proofs.Common.{ℕ, ◌-◌, ◌/◌, ◌≡◌, sym, ap, ◌∙◌, List, [], ◌∷◌, leb, ℤ, length}
+use Rattle.std.proofs.Common.{ℕ, ◌/◌, ◌≡◌, sym, ap, ◌∙◌, List, [], ◌∷◌, leb, ltb, ℤ, length, Result, Ok, Err}
+use Rattle.std.specs.Prelude.{IfOk, OnOk}
 use Rattle.refusals.specs.declared.Refusal.{Refusal}
-use Rattle.refusals.specs.declared.Refusal.TheVariants.{BadTable, NoRoom}
+use Rattle.refusals.specs.declared.Refusal.TheVariants.{OutOfRange, BadTable, NoRoom}
 use Rattle.refusals.specs.Said.{Said, accepted, refusal}
 use Rattle.strips.specs.Said.{if_accepted}
 use Rattle.table.specs.declared.Head.{Head}
-use Rattle.table.specs.Rows.{head_of}
+use Rattle.table.specs.Rows.{head_values}
 use Rattle.table.specs.Formed.{well_formed}
-use Rattle.build.proofs.Formed.{passed-size}
+use Rattle.strips.proofs.Picking.{split}
+use Rattle.build.specs.Board.{polygons, roots_of}
+use Rattle.build.specs.Says.{built_said, rows_shaped, settings_ok, even_from, room_for, build_says}
+use Rattle.build.proofs.Fitting.{refused-accepted, sound-passes, even-passes}
 use Rattle.coarsest.specs.declared.Engine.TheVariants.{Balancing}
-use Rattle.even.specs.Even.{even_cells, even_says}
+use Rattle.even.specs.Even.{even_cells, even_says, even_head, even_splits}
 use Rattle.leafnet_text.specs.Rooms.{table_room}
 use Rattle.leafnet_text.specs.Boards.{Given}
 use Rattle.leafnet_text.specs.Growing.{roots_say, roots_row, roots_head, splits_say, split_row, split_head, balance_says, balanced_row, balanced_head, balance_splits}
 use Rattle.leafnet_text.specs.Output.{unless_refused, table_text, board_text}
 use Rattle.leafnet_text.proofs.Refusing.{accepted-if, refused-text}
-use Rattle.leafnet_text.proofs.Refining.{all-values}
+use Rattle.leafnet_text.proofs.Refining.{same_head, all-head}
 
 -- the values of an accepted balance
 even-values : (row : List ℤ) (head : Head) (vs : List ℕ) → accepted vs ≡ even_says Balancing row head
-    → let cells = length (even_cells Balancing row head) in accepted vs ≡ accepted ((cells - head.count) / 4 ∷ cells ∷ head.max_level ∷ [])
+    → accepted vs ≡ accepted (even_splits Balancing row head ∷ head_values (even_head Balancing row head))
 unfolding even_says
 even-values row head vs e =
-    let cells = length (even_cells Balancing row head) in
-    (accepted-if (leb cells (length row / 8)) _ NoRoom vs (accepted-if (well_formed row head.count head.max_level) _ BadTable vs e).1).1
+    (accepted-if (leb (length (even_cells Balancing row head)) (length row / 8)) _ NoRoom vs (accepted-if (well_formed row head) _ BadTable vs e).1).1
 
 module _ (g : Given) where
   -- what is printed once nothing refuses, and from each step on
@@ -41,46 +44,54 @@ module _ (g : Given) where
   unfolding board_text
   roots-refused why e = refused-text why (roots_say g) from_splits e
 
-  -- build is accepted with n roots
-  pub built-head : (n : ℕ) → accepted (n ∷ []) ≡ roots_say g → head_of n g.board.settings.max_level ≡ roots_head g
-  built-head n e = let p = passed-size g.board g.components g.sheets table_room n (sym e) in ap (λ k. head_of k g.board.settings.max_level) (sym p.count)
+  -- build is accepted
+  pub built-head : (r : Result Head Refusal) → built_said r ≡ roots_say g → IfOk r (λ head. head ≡ roots_head g)
+  unfolding build_says
+  built-head (Ok roots) e =
+      let b = g.board in
+      let vs = head_values roots in
+      let o = room_for b (table_room / 8) (length (roots_of b)) in
+      let shaped = (accepted-if (rows_shaped b.layers g.components g.sheets b.counts b.points table_room) _ BadTable vs e).1 in
+      let sound = (accepted-if (settings_ok b) _ (OutOfRange 0) vs shaped).1 in
+      let even = sound-passes g.sheets b.counts b.points (even_from b 0 (polygons b) o) vs 0 (polygons b) (sym sound) in
+      let room = even-passes b o vs 0 (polygons b) even in
+      same_head roots (roots_head g)
+      (split (ltb (table_room / 8) (length (roots_of b))) (λ q. absurd (refused-accepted 6 0 vs (rw q at room))) (λ q. sym (rw q at room)))
+  built-head (Err why) e = tt
 
-  pub built-row : (n : ℕ) (before row : List ℤ) → accepted (n ∷ []) ≡ roots_say g → row ≡ if_accepted (roots_say g) (roots_row g) before → row ≡ roots_row g
-  built-row n before row e left = left ∙ ap (λ (s : Said). if_accepted s (roots_row g) before) (sym e)
+  pub built-row : (r : Result Head Refusal) (before row : List ℤ) → built_said r ≡ roots_say g → row ≡ if_accepted (roots_say g) (roots_row g) before
+      → OnOk r (row ≡ roots_row g)
+  built-row (Ok roots) before row e left = left ∙ ap (λ (s : Said). if_accepted s (roots_row g) before) (sym e)
+  built-row (Err why) before row e left = tt
 
   -- a split refuses
-  pub split-refused : (n : ℕ) (why : Refusal) → accepted (n ∷ []) ≡ roots_say g → refusal why ≡ splits_say g → board_text g ≡ unless_refused (refusal why) []
+  pub split-refused : (roots : Head) (why : Refusal) → accepted (head_values roots) ≡ roots_say g → refusal why ≡ splits_say g → board_text g ≡ unless_refused (refusal why) []
   unfolding board_text
-  split-refused n why e f = ap (λ (s : Said). unless_refused s from_splits) (sym e) ∙ refused-text why (splits_say g) from_balance f
+  split-refused roots why e f = ap (λ (s : Said). unless_refused s from_splits) (sym e) ∙ refused-text why (splits_say g) from_balance f
 
   -- none does
-  pub split-is : (head : Head) → accepted (head.count ∷ head.max_level ∷ []) ≡ splits_say g → head ≡ split_head g
-  split-is head e =
-      let v = all-values g.splits (roots_row g) (roots_head g) (head.count ∷ head.max_level ∷ []) (sym e) in
-      let c : head.count ≡ (split_head g).count = cc in
-      let m : head.max_level ≡ (split_head g).max_level = cc in
-      λ i. head_of (c i) (m i)
+  pub split-is : (head : Head) → accepted (head_values head) ≡ splits_say g → head ≡ split_head g
+  split-is head e = all-head g.splits (roots_row g) (roots_head g) head e
 
   -- balance refuses
-  pub balance-refused : (n k m : ℕ) (why : Refusal) → accepted (n ∷ []) ≡ roots_say g → accepted (k ∷ m ∷ []) ≡ splits_say g → refusal why ≡ balance_says g
+  pub balance-refused : (roots refined : Head) (why : Refusal) → accepted (head_values roots) ≡ roots_say g → accepted (head_values refined) ≡ splits_say g → refusal why ≡ balance_says g
       → board_text g ≡ unless_refused (refusal why) []
   unfolding board_text
-  balance-refused n k m why e f h =
+  balance-refused roots refined why e f h =
       ap (λ (s : Said). unless_refused s from_splits) (sym e)
       ∙ ap (λ (s : Said). unless_refused s from_balance) (sym f)
       ∙ refused-text why (balance_says g) last h
 
   -- nothing refuses
-  pub grown-text : (n k m splits : ℕ) (head : Head) (row : List ℤ) → accepted (n ∷ []) ≡ roots_say g → accepted (k ∷ m ∷ []) ≡ splits_say g
-      → accepted (splits ∷ head.count ∷ head.max_level ∷ []) ≡ balance_says g → row ≡ balanced_row g
+  pub grown-text : (roots refined : Head) (splits : ℕ) (head : Head) (row : List ℤ) → accepted (head_values roots) ≡ roots_say g → accepted (head_values refined) ≡ splits_say g
+      → accepted (splits ∷ head_values head) ≡ balance_says g → row ≡ balanced_row g
       → board_text g ≡ table_text g row head splits
   unfolding board_text
-  grown-text n k m splits head row e f h r =
-      let v = even-values (split_row g) (split_head g) (splits ∷ head.count ∷ head.max_level ∷ []) h in
+  grown-text roots refined splits head row e f h r =
+      let v = even-values (split_row g) (split_head g) (splits ∷ head_values head) h in
       let s : splits ≡ balance_splits g = cc in
-      let c : head.count ≡ (balanced_head g).count = cc in
-      let l : head.max_level ≡ (balanced_head g).max_level = cc in
-      let same : head ≡ balanced_head g = λ i. head_of (c i) (l i) in
+      let values : accepted (head_values head) ≡ accepted (head_values (balanced_head g)) = cc in
+      let same = same_head head (balanced_head g) values in
       ap (λ (s : Said). unless_refused s from_splits) (sym e)
       ∙ ap (λ (s : Said). unless_refused s from_balance) (sym f)
       ∙ ap (λ (s : Said). unless_refused s last) (sym h)

@@ -31,7 +31,7 @@ order-slots row head formed =
     let P = λ (id : ℕ). id * 8 + 8 ≤ length row in
     let ids = range_with_len 0 head.count in
     let slots = All-from_get_or P ids 0
-    (λ i h. omega (arith, h, length-range_with_len 0 head.count, get_or-range_with_len 0 head.count i 0, formed-within row head.count head.max_level formed)) in
+    (λ i h. omega (arith, h, length-range_with_len 0 head.count, get_or-range_with_len 0 head.count i 0, formed-within row head formed)) in
     let leaves = All-filter (λ i. is_leaf (cells_in row head) i) P ids slots in
     All-flat_map P _ (λ p. All-filter (λ i. (at (cells_in row head) i).polygon == p) P (leaves_in row head) leaves) (range_with_len 0 max_polygons)
 
@@ -45,7 +45,7 @@ pub ordered : (row : List ℤ) (head : Head) (leaves : ℕ) (order : List ℕ) �
 ordered row head leaves order e left =
     let ids = order_in row head in
     let out : List ℕ = replicate leaf_room 0 in
-    let formed = accepted-if (well_formed row head.count head.max_level) _ BadTable (leaves ∷ []) e in
+    let formed = accepted-if (well_formed row head) _ BadTable (leaves ∷ []) e in
     let values : accepted (leaves ∷ []) ≡ accepted (length ids ∷ []) = (accepted-if (leb (length ids) (length out)) _ NoRoom (leaves ∷ []) formed.1).1 in
     let count : leaves ≡ length ids = cc values in
     let front : take leaves order ≡ ids =

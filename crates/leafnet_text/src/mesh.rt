@@ -1,9 +1,10 @@
 //! From a board to its balanced table: roots, the record's splits, balance.
 ghost use Rattle.std.specs.Prelude.{◌≡◌, IfOk, OnOk};
 ghost use Rattle.table.specs.Refine.{refined_said};
+ghost use Rattle.build.specs.Says.{built_said};
 ghost use Rattle.leafnet_text.specs.Boards.{given_of};
 ghost use Rattle.leafnet_text.specs.Refining.{refine_all_says, refine_all_row};
-ghost use Rattle.leafnet_text.specs.Growing.{rooted_said, roots_say, roots_head, roots_row};
+ghost use Rattle.leafnet_text.specs.Growing.{roots_say, roots_head, roots_row};
 
 use crate::input::Board;
 use crate::rooms::TABLE;
@@ -23,7 +24,7 @@ pub struct Mesh {
 
 // The roots of a board, into a table that has nothing else.
 fn make_roots(board: &Board, row: &mut [i64; TABLE]) -> Result<Head, Refusal>
-    ensures says { rooted_said result ≡ roots_say (given_of board.now) }
+    ensures says { built_said result ≡ roots_say (given_of board.now) }
     ensures head { IfOk result (λ head. head ≡ roots_head (given_of board.now)) }
     ensures row_after { OnOk result (row.new ≡ roots_row (given_of board.now)) }
 {
@@ -34,11 +35,7 @@ fn make_roots(board: &Board, row: &mut [i64; TABLE]) -> Result<Head, Refusal>
         counts: &board.counts,
         points: &board.points,
     };
-    let count = build::build(board.settings, &board.list, &outlines, row)?;
-    Ok(Head {
-        count,
-        max_level: board.settings.max_level,
-    })
+    build::build(board.settings, &board.list, &outlines, row)
 }
 
 // Splits the leaf of each id in order. The first refusal ends it, and what was split before that stays split.

@@ -24,7 +24,7 @@ use Rattle.places.specs.Leaves.{AreKnown}
 use Rattle.links.specs.Count.{has_leaf, is_class, has_class, cell_corners, corners_below, has_corner, meets}
 
 pub below_most : (row : List ℤ) (head : Head) → IsTable row head → (i : ℕ) → i < head.count → (at (cells_in row head) i).polygon < max_polygons
-below_most row head e i h = subst (λ (p : ℕ). p < max_polygons) (polygon_read row head.count i h) (formed-poly row head.count head.max_level e i h)
+below_most row head e i h = subst (λ (p : ℕ). p < max_polygons) (polygon_read row head.count i h) (formed-poly row head e i h)
 
 -- a cell's box as it stands in the row
 box-read : (row : List ℤ) (head : Head) (i : ℕ) → i < head.count → box_of (cell_at row i) ≡ (at (cells_in row head) i).box

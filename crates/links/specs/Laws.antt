@@ -4,11 +4,11 @@ use Rattle.std.specs.Int.{abs_diff}
 use Rattle.std.specs.Float.{◌<ᶠ◌, ◌≤ᶠ◌}
 use lib.Ieee.Exact.{HasValue}
 use Rattle.refusals.specs.Limits.{max_slots}
-use Rattle.table.specs.Mesh.{Cell}
+use Rattle.table.specs.Mesh.{Cell, leaf_count}
 use Rattle.floats.specs.Fractions.{◌÷◌, in_sheet}
 use Rattle.net_rows.specs.declared.rows.Node.{Node}
 use Rattle.net_rows.specs.Nets.{nth_node}
-use Rattle.net.specs.Net.{Poly, Piece, Edge, Ends, One, bare, network, leaf_count}
+use Rattle.net.specs.Net.{Poly, Piece, Edge, Ends, One, bare, network}
 use Rattle.net.specs.Laws.{AllLeaves, IsWithin, widest, IsPositive}
 use Rattle.links.specs.declared.rows.Contact.{Contact}
 use Rattle.links.specs.declared.rows.Via.{Via}

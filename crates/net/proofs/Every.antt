@@ -1,8 +1,8 @@
 -- The net's laws: what every net is. Assumes nothing.
 use Rattle.std.proofs.Common.{◌≡◌, T, None, List, [], ℕ, ◌*◌, ◌^◌, ◌≤◌, ◌<◌, arith, length}
 use lib.ListN.{length-map}
-use Rattle.table.specs.Mesh.{Cell}
-use Rattle.net.specs.Net.{Poly, Edge, Piece, pieces, nodes_from, edges_from, patches_from, nowhere, Cornered, Ends, leaf_count, weighed, bare, weigh, network}
+use Rattle.table.specs.Mesh.{Cell, leaf_count}
+use Rattle.net.specs.Net.{Poly, Edge, Piece, pieces, nodes_from, edges_from, patches_from, nowhere, Cornered, Ends, weighed, bare, weigh, network}
 use Rattle.net.specs.Hang.{so_far, HalvedSides}
 use Rattle.net.specs.Laws.{AllLeaves, HasArea, IsWithin, widest, IsPositive, NodesAreDistinct, EdgesJoinNodes, CellsAreRectangles, NoHalfHangs, EdgesConduct, NoConductanceIsNegative}
 use Rattle.net.proofs.All.{All, all-map-by, all-by, all-at}

@@ -7,8 +7,9 @@ use Rattle.std.specs.Prelude.{flat_map, sum_by}
 use Rattle.std.proofs.lemmas.List.Sums.{sum_by-cons}
 use lib.ListN.{length-map, get_or-append}
 use Rattle.cell.specs.Boxes.{Box}
-use Rattle.table.specs.Mesh.{Cell, is_none}
-use Rattle.net.specs.Net.{weld, Poly, MeshNode, Edge, Piece, same_node, same_pair, sw_of, se_of, ne_of, nw_of, corners_at, corners_of, nodes_from, number, nth, nowhere, patch_at, side_of, sides_at, edges_of, edges_from, patches_from, leaves_of, pieces, Cornered, Ends, leaf_count}
+use Rattle.table.specs.Mesh.{Cell, is_none, leaf_count}
+use Rattle.table.proofs.Counting.{leaf_count-cons}
+use Rattle.net.specs.Net.{weld, Poly, MeshNode, Edge, Piece, same_node, same_pair, sw_of, se_of, ne_of, nw_of, corners_at, corners_of, nodes_from, number, nth, nowhere, patch_at, side_of, sides_at, edges_of, edges_from, patches_from, leaves_of, pieces, Cornered, Ends}
 use Rattle.net.specs.Laws.{HasArea}
 use Rattle.net.proofs.Positions.{has-at, position-hit}
 use Rattle.net.proofs.Leaves.{leaves_of-cons}
@@ -97,10 +98,6 @@ leaf_sum-nil = refl
 leaf_sum-cons : (q : Piece) (qs : List Piece) → leaf_sum (q ∷ qs) ≡ length q.leaves + leaf_sum qs
 unfolding leaf_sum
 leaf_sum-cons q qs = sum_by-cons (λ (q : Piece). length q.leaves) q qs
-
-pub leaf_count-cons : (c : Cell) (t : List Cell) → leaf_count (c ∷ t) ≡ cond (is_none c.kids) 1 0 + leaf_count t
-unfolding leaf_count
-leaf_count-cons c t = sum_by-cons (λ (c : Cell). cond (is_none c.kids) 1 0) c t
 
 length-each : {A B : Type 0} (f : A → List B) (k : ℕ) (l : List A) → ((a : A) → length (f a) ≤ k) → length (flat_map f l) ≤ k * length l
 length-each f k [] h = omega arith

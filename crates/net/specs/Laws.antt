@@ -3,9 +3,9 @@ use Rattle.std.specs.Prelude.{ℕ, ◌+◌, ◌*◌, ◌^◌, ◌<◌, ◌≤◌
 use Rattle.std.specs.Float.{◌<ᶠ◌, float_zero, float_is_finite}
 use Rattle.refusals.specs.Limits.{coordinate}
 use Rattle.cell.specs.Boxes.{Box}
-use Rattle.table.specs.Mesh.{Cell}
+use Rattle.table.specs.Mesh.{Cell, leaf_count}
 use Rattle.floats.specs.Fractions.{in_sheet, nonneg}
-use Rattle.net.specs.Net.{Poly, Piece, pieces, network, leaf_count, Cornered, Ends}
+use Rattle.net.specs.Net.{Poly, Piece, pieces, network, Cornered, Ends}
 use Rattle.net.specs.Hang.{so_far, HalvedSides}
 
 -- ---- what a law asks of a table and its polygons

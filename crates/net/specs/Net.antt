@@ -1,7 +1,7 @@
 -- The net of a table of leaves: nodes, cells, edges and weights, by the rules' "The net". Coordinates are whole ticks, from 0 up;
 -- extents and faces are whole half ticks. Nothing is sorted and nothing is looked up: each rule goes through the whole list. Definitions only.
 -- What goes on from piece to piece, or from cell to cell, is a recursion, as its lemmas go by induction on the list.
-use Rattle.std.specs.Prelude.{Bool, ◌&&◌, ◌||◌, not, List, [], ◌∷◌, ◌++◌, map, ◌≡◌, ℕ, suc, ◌+◌, ◌-◌, ◌<◌, min, max, nat_lt, ◌==◌, length, slice_index_or, drop, pos, Float, Option, None, Some, unwrap_or, option_map, flat_map, count_by, filter, find, if◌then◌else◌}
+use Rattle.std.specs.Prelude.{Bool, ◌&&◌, ◌||◌, not, List, [], ◌∷◌, ◌++◌, map, ◌≡◌, ℕ, suc, ◌+◌, ◌-◌, ◌<◌, min, max, nat_lt, ◌==◌, length, slice_index_or, drop, pos, Float, Option, None, Some, unwrap_or, option_map, flat_map, filter, find, if◌then◌else◌}
 use Rattle.std.specs.List.{position_or_len, list_any}
 use Rattle.std.specs.Int.{abs_diff}
 use Rattle.std.specs.Float.Ieee as Ieee
@@ -312,7 +312,3 @@ pub record Cornered (n : List MeshNode) (c : NetCell) : Type 0 where
 pub record Ends (k : ℕ) (e : Edge) : Type 0 where
   pub from : e.from < k
   pub to : e.to < k
-
--- how many leaves a table has
-unfoldable pub leaf_count : List Cell → ℕ
-leaf_count cs = count_by (λ c. is_none c.kids) cs

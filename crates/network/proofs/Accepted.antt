@@ -77,7 +77,7 @@ module _ (c : AcceptedCall) where
 pub edges-conduct : AcceptedEdgesConduct
 edges-conduct c =
     let f = found c in
-    linked-conduct (cells_in c.row c.head) (polys c) c.links (omega (arith, leaf_count-leaves c.row c.head, leaves-few c.row c.head f.formed))
+    linked-conduct (cells_in c.row c.head) (polys c) c.links (omega (arith, leaf_count-leaves c.row c.head f.formed, leaves-few c.row c.head f.formed))
     (cells_are_within c.row c.head f.formed) (sheets-in c) f.links
 
 pub cells-rectangles : AcceptedCellsAreRectangles

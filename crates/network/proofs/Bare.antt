@@ -1,17 +1,15 @@
 -- The net of a table with its links, before the weights: how large it is, and what the weights ask of it. Assumes nothing.
-use Rattle.std.proofs.Common.{◌≡◌, refl, sym, ap, ◌∙◌, Bool, true, false, cond, None, List, [], ◌∷◌, ◌++◌, map, take, drop, replicate, ℕ, ◌+◌, ◌*◌, ◌≤◌, arith, ℤ, length, filter}
+use Rattle.std.proofs.Common.{◌≡◌, refl, sym, ap, ◌∙◌, None, List, [], ◌∷◌, ◌++◌, map, take, drop, replicate, ℕ, ◌*◌, ◌≤◌, arith, ℤ, length}
 use Rattle.std.specs.Prelude.{All}
-use Rattle.std.specs.List.{range_with_len}
-use Rattle.std.proofs.lemmas.List.FromFn.{fill_by_all}
 use lib.ListN.{length-map}
 use Rattle.refusals.specs.Limits.{max_slots}
 use Rattle.refusals.specs.Said.{accepted}
 use Rattle.cell.specs.Boxes.{Box}
 use Rattle.table.specs.declared.Head.{Head}
-use Rattle.table.specs.Mesh.{Cell, past, at, is_none}
+use Rattle.table.specs.Mesh.{Cell, at, is_none, leaf_count}
 use Rattle.table.specs.Rows.{IsTable, cells_in, leaves_in}
-use Rattle.table.proofs.Cells.{length-table}
-use Rattle.table.proofs.Shape.{formed-shape}
+use Rattle.table.proofs.Shape.{formed-parts, formed-shape}
+use Rattle.table.proofs.Listed.{leaves-listed}
 use Rattle.table.proofs.Tables.{few_pass}
 use Rattle.net_rows.specs.declared.rows.Edge.{Edge}
 use Rattle.net_rows.specs.Nodes.{in_mesh, in_ticks}
@@ -20,12 +18,12 @@ use Rattle.net_rows.specs.declared.rows.Node.{Node}
 use Rattle.net_rows.specs.declared.rows.NetCell.{NetCell}
 use Rattle.net_rows.specs.Facts.{AreKnown, IsSoundNode}
 use Rattle.net.specs.Net as Net
-use Rattle.net.specs.Net.{Poly, Piece, MeshNode, pieces, bare, weigh, weighed, leaf_count, Ends, Cornered}
+use Rattle.net.specs.Net.{Poly, Piece, MeshNode, pieces, bare, weigh, weighed, Ends, Cornered}
 use Rattle.net.specs.Laws.{HasArea, IsWithin, widest}
 use Rattle.net.proofs.All as Each
 use Rattle.net.proofs.Faces.{Within}
 use Rattle.net.proofs.Leaves.{all-of, leaves-pieces, BoxWithin, nodes-within}
-use Rattle.net.proofs.Sound.{leaf_count-cons, patches-cornered, nodes-count, edges-count, patches-count, leaves-count}
+use Rattle.net.proofs.Sound.{patches-cornered, nodes-count, edges-count, patches-count, leaves-count}
 use Rattle.places.proofs.Within.{cells_are_within}
 use Rattle.links.specs.declared.rows.Links.{Links}
 use Rattle.links.specs.Made.{linked, links_of, links_on}
@@ -44,25 +42,13 @@ pub record Begin (net : Net.Net) (old new : Rows) (nodes cells : ℕ) : Type 0 w
 
 -- ---- the leaves
 
-leaf_count-map : (f : ℕ → Cell) (ids : List ℕ) → leaf_count (map f ids) ≡ length (filter (λ i. is_none (f i).kids) ids)
-unfolding leaf_count
-leaf_count-map f [] = refl
-leaf_count-map f (i ∷ ids) = leaf_count-cons (f i) (map f ids) ∙ by (is_none (f i).kids) (leaf_count-map f ids)
-  where
-    by : (b : Bool) → leaf_count (map f ids) ≡ length (filter (λ i. is_none (f i).kids) ids)
-        → cond b 1 0 + leaf_count (map f ids) ≡ length (cond b (i ∷ filter (λ i. is_none (f i).kids) ids) (filter (λ i. is_none (f i).kids) ids))
-    by true h = omega arith
-    by false h = omega arith
-
-pub leaf_count-leaves : (row : List ℤ) (head : Head) → leaf_count (cells_in row head) ≡ length (leaves_in row head)
-leaf_count-leaves row head =
-    ap leaf_count (fill_by_all (at (cells_in row head)) (cells_in row head) head.count past (length-table row head.count) (λ k h. refl))
-    ∙ leaf_count-map (at (cells_in row head)) (range_with_len 0 head.count)
-
 module _ (row : List ℤ) (head : Head) (formed : IsTable row head) where
+  pub leaf_count-leaves : leaf_count (cells_in row head) ≡ length (leaves_in row head)
+  leaf_count-leaves = sym (formed-parts row head formed).leaves ∙ leaves-listed row head formed
+
   pub leaves-few : length (leaves_in row head) ≤ max_slots
   leaves-few =
-      let s = formed-shape row head.count head.max_level formed in
+      let s = formed-shape row head formed in
       omega (arith, few_pass (λ i. is_none (at (cells_in row head) i).kids) 0 head.count, s.slots, s.count)
 
   -- ---- the net
@@ -82,7 +68,7 @@ module _ (row : List ℤ) (head : Head) (formed : IsTable row head) where
 
     cells-few : length net.cells ≤ length (leaves_in row head)
     unfolding bare linked
-    cells-few = omega (arith, patches-count [] qs, leaves-count (cells_in row head) ps 0, leaf_count-leaves row head)
+    cells-few = omega (arith, patches-count [] qs, leaves-count (cells_in row head) ps 0, leaf_count-leaves)
 
     nodes-few : length net.nodes ≤ 4 * length net.cells
     unfolding bare linked
@@ -108,7 +94,7 @@ module _ (row : List ℤ) (head : Head) (formed : IsTable row head) where
 
     pub edges-few : length (bare qs).edges ≤ 8 * length (leaves_in row head)
     unfolding bare
-    edges-few = omega (arith, edges-count [] qs, leaves-count (cells_in row head) ps 0, leaf_count-leaves row head)
+    edges-few = omega (arith, edges-count [] qs, leaves-count (cells_in row head) ps 0, leaf_count-leaves)
 
     pub begins : {old new : Rows} {n m : ℕ} → new.nodes ≡ written (map in_ticks (bare qs).nodes) old.nodes → new.cells ≡ written (bare qs).cells old.cells
         → n ≡ length (bare qs).nodes → m ≡ length (bare qs).cells → Begin net old new n m

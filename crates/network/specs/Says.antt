@@ -60,7 +60,7 @@ counted w links = accepted (length w.nodes ∷ length w.edges ∷ length w.cells
 -- 7: a bad table, a polygon index at or past the polygon count, or polygons' rows of unequal length
 abbrev pub fits : List ℤ → Head → Polygons → List Float → Bool
 fits row head polygons sheets =
-    well_formed row head.count head.max_level
+    well_formed row head
     && (polygons_fit (cells_in row head) polygons.layers.now polygons.components.now && length sheets == length polygons.layers.now)
 
 -- 3: "an r_sheet, lowest polygon first, those without leaves too"

@@ -20,7 +20,7 @@ module _ (row : List ℤ) (head : Head) (formed : IsTable row head) where
       let c = read-corners row i in
       let cs = cells_in row head in
       let b = (at cs i).box in
-      let s = cell-sides head.max_level cs (formed-facts row head.count head.max_level formed).cells i (rw length-table h) in
+      let s = cell-sides head.max_level cs (formed-facts row head formed).cells i (rw length-table h) in
       let e = at_table row head.count i h in
       record {
         area = (positive _ b.x0 b.x1 s.0, positive _ b.y0 b.y1 s.1);

@@ -11,6 +11,7 @@ use refusals::Refusal;
 use std::alloc::{AllocError, Global};
 use std::fmt::Write;
 use std::io;
+use table::Head;
 
 const STRIPS: u64 = 1;
 
@@ -61,7 +62,7 @@ impl Board {
         })
     }
 
-    fn build(&self, table: &mut [i64]) -> Result<usize, Refusal> {
+    fn build(&self, table: &mut [i64]) -> Result<Head, Refusal> {
         let outlines = Outlines {
             layers: &self.layers,
             components: &self.components,
@@ -78,7 +79,7 @@ fn run_build(alloc: Global, cases: &mut Cases, out: &mut String) -> Result<(), A
     let board = Board::read(alloc, cases)?;
     let mut table: Vec<i64> = cases.row(alloc)?;
     write!(out, "build")?;
-    print::counted(out, board.build(&mut table))?;
+    print::answered(out, board.build(&mut table), print::head)?;
     print::row(out, &table)
 }
 
@@ -91,7 +92,7 @@ fn run_build_in_zeros(
     let board = Board::read(alloc, cases)?;
     let mut table = vec![in alloc; 0i64; cases.index()]?;
     write!(out, "build")?;
-    print::counted(out, board.build(&mut table))
+    print::answered(out, board.build(&mut table), print::head)
 }
 
 // As many cases as the stream says.

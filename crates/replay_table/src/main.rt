@@ -26,13 +26,9 @@ const BALANCE: u64 = 6;
 
 const CONFORM: u64 = 7;
 
-const LEAF_COUNT_OF_ZEROS: u64 = 8;
+const LEAVES_OF_ZEROS: u64 = 8;
 
-const LEAF_COUNT_OF_PART: u64 = 9;
-
-fn print_head(out: &mut String, head: Head) -> Result<(), AllocError> {
-    writeln!(out, " {} {}", head.count, head.max_level)
-}
+const LEAVES_OF_PART: u64 = 9;
 
 fn print_shared(out: &mut String, shared: bool) -> Result<(), AllocError> {
     writeln!(out, " {}", u8::from(shared))
@@ -40,7 +36,7 @@ fn print_shared(out: &mut String, shared: bool) -> Result<(), AllocError> {
 
 fn print_evening(out: &mut String, evening: Evening) -> Result<(), AllocError> {
     write!(out, " {}", evening.splits)?;
-    print_head(out, evening.head)
+    print::head(out, evening.head)
 }
 
 fn rectangle(cases: &mut Cases) -> Rect {
@@ -69,7 +65,7 @@ fn print_list(
 
 fn run_refine(out: &mut String, t: &mut [i64], head: Head, id: usize) -> Result<(), AllocError> {
     write!(out, "refine")?;
-    print::answered(out, table::refine::refine(t, head, id), print_head)?;
+    print::answered(out, table::refine::refine(t, head, id), print::head)?;
     print::row(out, t)
 }
 
@@ -85,9 +81,9 @@ fn print_evened(
     print::row(out, t)
 }
 
-fn run_leaf_count(out: &mut String, t: &[i64], head: Head) -> Result<(), AllocError> {
-    write!(out, "leaf_count")?;
-    print::counted(out, table::leaves::leaf_count(t, head))
+fn run_leaves(out: &mut String, t: &[i64], head: Head, ids: &mut [u64]) -> Result<(), AllocError> {
+    let answer = table::leaves::leaves(t, head, ids);
+    print_list(out, "leaves", answer, ids)
 }
 
 // A table stands next, its head in front, and behind it what the call of this kind takes.
@@ -109,11 +105,10 @@ fn run_table(
             let answer = even::conform(&mut t, head);
             print_evened(out, "conform", answer, &t)
         }
-        LEAF_COUNT => run_leaf_count(out, &t, head),
+        LEAF_COUNT => writeln!(out, "leaf_count {}", table::leaves::leaf_count(head)),
         LEAVES => {
             let mut ids: Vec<u64> = cases.row(alloc)?;
-            let answer = table::leaves::leaves(&t, head, &mut ids);
-            print_list(out, "leaves", answer, &ids)
+            run_leaves(out, &t, head, &mut ids)
         }
         _ => {
             let mut ids: Vec<u64> = cases.row(alloc)?;
@@ -127,7 +122,7 @@ fn run_table(
 fn run_zeros(alloc: Global, cases: &mut Cases, out: &mut String) -> Result<(), AllocError> {
     let head = cases.head();
     let zeros = vec![in alloc; 0i64; cases.index()]?;
-    run_leaf_count(out, &zeros, head)
+    run_leaves(out, &zeros, head, &mut [])
 }
 
 // A length stands behind the head, then a table of which no more than that is lent: what stands behind could pass for a
@@ -137,7 +132,7 @@ fn run_part(alloc: Global, cases: &mut Cases, out: &mut String) -> Result<(), Al
     let length = cases.index();
     let t: Vec<i64> = cases.row(alloc)?;
     match t.get(..length) {
-        Some(front) => run_leaf_count(out, front, head),
+        Some(front) => run_leaves(out, front, head, &mut []),
         None => Ok(()),
     }
 }
@@ -145,8 +140,8 @@ fn run_part(alloc: Global, cases: &mut Cases, out: &mut String) -> Result<(), Al
 fn run(alloc: Global, cases: &mut Cases, out: &mut String) -> Result<(), AllocError> {
     match cases.word() {
         CONTACT => run_contact(cases, out),
-        LEAF_COUNT_OF_ZEROS => run_zeros(alloc, cases, out),
-        LEAF_COUNT_OF_PART => run_part(alloc, cases, out),
+        LEAVES_OF_ZEROS => run_zeros(alloc, cases, out),
+        LEAVES_OF_PART => run_part(alloc, cases, out),
         kind => run_table(alloc, cases, kind, out),
     }
 }

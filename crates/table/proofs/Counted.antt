@@ -53,6 +53,6 @@ pub count-order : (row : List ℤ) (head : Head) (i : ℕ) → IsTable row head
 count-order row head i e =
     sym (counted i (order_in row head))
     ∙ ap (times i) (sym (order_ids-in row head))
-    ∙ times-order row head.count i (formed-poly row head.count head.max_level e)
+    ∙ times-order row head.count i (formed-poly row head e)
     ∙ ap (times i) (leaf_ids-in row head)
     ∙ counted i (leaves_in row head)

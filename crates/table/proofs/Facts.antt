@@ -1,10 +1,11 @@
 -- The parts of the test of well-formedness, of the whole row and of one cell. Assumes nothing.
-use Rattle.std.proofs.Common.{ℕ, ◌+◌, ◌^◌, ◌<◌, ◌≤◌, ◌≡◌, true, ◌&&◌, List, ltb, leb, ℤ, length, ltb-true, leb-true, lt-ltb, le-leb}
-use Rattle.std.specs.List.{list_all, range_with_len}
+use Rattle.std.proofs.Common.{ℕ, ◌+◌, ◌^◌, ◌<◌, ◌≤◌, ◌≡◌, true, ◌&&◌, List, ltb, leb, ℤ, ltb-true, leb-true, lt-ltb, le-leb}
 use Rattle.refusals.specs.Limits.{max_polygons}
+use Rattle.table.specs.declared.Head.{Head}
 use Rattle.table.specs.Slots.{cell_at, in_slot}
-use Rattle.table.specs.Formed.{rest_zero, place_ok, kids_ok, cell_ok, shape_ok, well_formed}
+use Rattle.table.specs.Formed.{place_ok, kids_ok, cell_ok, cells_ok, well_formed}
 use Rattle.table.proofs.All.{and_left, and_right, all-at, all_of}
+use Rattle.table.proofs.Shape.{formed-parts}
 
 pub record CellFacts (t : List ℤ) (n M i : ℕ) : Type 0 where
   pub held : in_slot t i ≡ true
@@ -37,19 +38,14 @@ module _ (t : List ℤ) (n M : ℕ) where
   unfolding cell_ok
   facts-cell i f = simp (f.held, le-leb (cell_at t i).level M f.level, lt-ltb (cell_at t i).poly max_polygons f.polygon, f.place, f.kids)
 
-  -- every cell of a well-formed row, and what lies past them
-  pub formed-cell : well_formed t n M ≡ true → (i : ℕ) → i < n → CellFacts t n M i
-  unfolding well_formed
-  formed-cell e i h =
-      cell-facts i (all-at (cell_ok t n M) n (and_right (rest_zero t n) (list_all (cell_ok t n M) (range_with_len 0 n))
-      (and_right (shape_ok (length t) n M) (rest_zero t n && list_all (cell_ok t n M) (range_with_len 0 n)) e)) i h)
+  -- every cell of a well-formed row
+  pub cells_ok-facts : cells_ok t n M ≡ true → (i : ℕ) → i < n → CellFacts t n M i
+  unfolding cells_ok
+  cells_ok-facts e i h = cell-facts i (all-at (cell_ok t n M) n e i h)
 
-  pub formed-rest : well_formed t n M ≡ true → rest_zero t n ≡ true
-  unfolding well_formed
-  formed-rest e =
-      and_left (rest_zero t n) (list_all (cell_ok t n M) (range_with_len 0 n))
-      (and_right (shape_ok (length t) n M) (rest_zero t n && list_all (cell_ok t n M) (range_with_len 0 n)) e)
+  pub facts-cells_ok : ((i : ℕ) → i < n → CellFacts t n M i) → cells_ok t n M ≡ true
+  unfolding cells_ok
+  facts-cells_ok f = all_of (cell_ok t n M) n (λ i h. facts-cell i (f i h))
 
-  pub parts-formed : shape_ok (length t) n M ≡ true → rest_zero t n ≡ true → ((i : ℕ) → i < n → CellFacts t n M i) → well_formed t n M ≡ true
-  unfolding well_formed
-  parts-formed s r f = simp (s, r, all_of (cell_ok t n M) n (λ i h. facts-cell i (f i h)))
+pub formed-cell : (t : List ℤ) (head : Head) → well_formed t head ≡ true → (i : ℕ) → i < head.count → CellFacts t head.count head.max_level i
+formed-cell t head e = cells_ok-facts t head.count head.max_level (formed-parts t head e).cells

@@ -1,10 +1,13 @@
 -- Laws of lists of the ids below n that pass a test: how one grows by a turn, how long it is, what it holds. Assumes
 -- nothing.
-use Rattle.std.proofs.Common.{ℕ, zero, suc, ◌+◌, ◌<◌, ◌≤◌, ◌≡◌, refl, sym, ap, ◌∙◌, zero-add, filter, cond, subst, Bool, true, false, List, [], ◌∷◌, ◌++◌, append-nil, ⊎_elim, arith, add-zero, add-one, length, drop, length-append}
+use Rattle.std.proofs.Common.{ℕ, zero, suc, ◌+◌, ◌<◌, ◌≤◌, ◌≡◌, refl, sym, ap, ◌∙◌, zero-add, filter, cond, subst, Bool, true, false, List, [], ◌∷◌, ◌++◌, append-nil, ⊎_elim, arith, add-zero, add-one, length, drop, length-append, map, get_or, not, count_by}
 use lib.Seq.{sets, sets-eq}
 use Rattle.std.specs.List.{range_with_len, flat_map}
 use Rattle.std.proofs.lemmas.List.{flat_map_more}
 use Rattle.std.proofs.lemmas.List.Elements.{filter-append}
+use Rattle.std.proofs.lemmas.List.FromFn.{fill_by_all}
+use Rattle.std.proofs.lemmas.List.Recursion.{is_count_by}
+use Rattle.std.proofs.lemmas.List.Sums.{sum_by-cons, length-filter}
 use Rattle.refusals.specs.Said.{written}
 use Rattle.table.proofs.All.{top?}
 
@@ -69,6 +72,26 @@ module _ (f : ℕ → Bool) where
       one true = omega arith
       one false = omega arith
 
+  -- a test that nothing passes lists no more, and one that each passes one more each time
+  pub ids-idle : (a n : ℕ) → a ≤ n → ((i : ℕ) → a ≤ i → i < n → f i ≡ false) → length (ids_to f n) ≡ length (ids_to f a)
+  ids-idle a zero h off = let e : a ≡ 0 = omega arith in rw e refl
+  ids-idle a (suc n) h off =
+      ⊎_elim
+      (λ (l : a < suc n).
+      let k : a ≤ n = omega arith in
+      let r = ids-idle a n k (λ i g b. off i g (omega arith)) in
+      let e = ids-no n (off n k (omega arith)) in
+      omega (arith, ap (λ (m : ℕ). length (ids_to f m)) (add-one n), ap length e))
+      (λ (e : a ≡ suc n). rw e refl)
+      (top? a (suc n) (omega arith))
+
+  pub ids-run : (a k : ℕ) → ((j : ℕ) → j < k → f (a + j) ≡ true) → length (ids_to f (a + k)) ≡ length (ids_to f a) + k
+  ids-run a zero on = let e : a + 0 ≡ a = omega arith in rw e (omega arith)
+  ids-run a (suc k) on =
+      let r = ids-run a k (λ j h. on j (omega arith)) in
+      let e : a + suc k ≡ a + k + 1 = omega arith in
+      rw e (omega (arith, ids-yes-length (a + k) (on k (omega arith))))
+
 -- two tests that agree below n list the same
 pub ids-same : (f g : ℕ → Bool) (n : ℕ) → ((i : ℕ) → i < n → f i ≡ g i) → ids_to f n ≡ ids_to g n
 ids-same f g zero h = unfold ids_to in refl
@@ -83,3 +106,38 @@ sets-written out ids h =
 -- an id that is still to come needs room
 pub ids-room : (f : ℕ → Bool) (i n : ℕ) → i < n → f i ≡ true → length (ids_to f i) < length (ids_to f n)
 ids-room f i n h e = let r = ids-most f (i + 1) n (omega arith) in omega (arith, ids-yes-length f i e)
+
+-- those that pass a test and those that don't
+pub ids-others : (f : ℕ → Bool) (n : ℕ) → length (ids_to (λ i. not (f i)) n) + length (ids_to f n) ≡ n
+ids-others f zero = omega (arith, ap length (ids-none (λ i. not (f i))), ap length (ids-none f))
+ids-others f (suc n) =
+    let h = ids-others f n in
+    let one = by (f n) in
+    omega (
+      arith,
+      ap length (ids-more (λ i. not (f i)) n),
+      ap length (ids-more f n),
+      length-append (ids_to (λ i. not (f i)) n) (one_if (not (f n)) n),
+      length-append (ids_to f n) (one_if (f n) n),
+    )
+  where
+    by : (b : Bool) → length (one_if (not b) n) + length (one_if b n) ≡ 1
+    by true = refl
+    by false = refl
+
+-- how many of a list pass a test, by their places
+count-map : {A : Type 0} (g : A → Bool) (f : ℕ → A) (ids : List ℕ) → count_by g (map f ids) ≡ count_by (λ i. g (f i)) ids
+count-map g f =
+    is_count_by (λ ids. count_by g (map f ids)) (λ i. g (f i)) refl
+    (λ i ids. sum_by-cons (λ x. cond (g x) 1 0) (f i) (map f ids) ∙ by (g (f i)) (count_by g (map f ids)))
+  where
+    by : (b : Bool) (n : ℕ) → cond b 1 0 + n ≡ cond b (1 + n) n
+    by true n = refl
+    by false n = zero-add n
+
+pub count-ids : {A : Type 0} (g : A → Bool) (d : A) (xs : List A) → count_by g xs ≡ length (ids_to (λ i. g (get_or xs i d)) (length xs))
+unfolding ids_to
+count-ids g d xs =
+    ap (count_by g) (fill_by_all (λ i. get_or xs i d) xs (length xs) d refl (λ k h. refl))
+    ∙ count-map g (λ i. get_or xs i d) (range_with_len 0 (length xs))
+    ∙ sym (length-filter (λ i. g (get_or xs i d)) (range_with_len 0 (length xs)))

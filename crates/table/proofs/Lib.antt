@@ -11,6 +11,7 @@ pub mod Stores
 pub mod Exact
 pub mod Cells
 pub mod Meshes
+pub mod Counting
 pub mod Wellformed
 pub mod Zeros
 pub mod Walk
@@ -20,3 +21,4 @@ pub mod Times
 pub mod Tables
 pub mod Listed
 pub mod Counted
+pub mod RootLaw

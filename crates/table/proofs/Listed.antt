@@ -1,14 +1,18 @@
 -- The lists that the code's loops make are those that the definitions name. Assumes nothing.
-use Rattle.std.proofs.Common.{ℕ, zero, suc, ◌≡◌, refl, sym, ap, ap₂, ◌∙◌, Bool, true, false, ◌&&◌, cond, add-one, eqb, List, [], ◌∷◌, ◌++◌, ℤ, length, filter}
+use Rattle.std.proofs.Common.{ℕ, zero, suc, ◌+◌, ◌*◌, ◌≡◌, refl, sym, ap, ap₂, ◌∙◌, Bool, true, false, ◌&&◌, cond, add-one, eqb, List, [], ◌∷◌, ◌++◌, ℤ, length, filter}
 use Rattle.std.specs.List.{range_with_len, flat_map}
 use Rattle.refusals.specs.Limits.{max_polygons}
 use Rattle.table.specs.declared.Head.{Head}
-use Rattle.table.specs.Mesh.{at, is_leaf}
+use Rattle.table.specs.Mesh.{at, is_leaf, table, root_count}
 use Rattle.table.specs.Rows.{IsTable, cells_in, leaves_in, order_in}
 use Rattle.table.specs.Leaves.{leaf_at, leaf_of, polygon_ids, order_to, order_ids}
 use Rattle.table.proofs.Ids.{ids_to, ids-same, flat_map-range-more}
 use Rattle.table.proofs.Order.{order-suc, order-length}
-use Rattle.table.proofs.Shape.{formed-poly}
+use Rattle.table.proofs.Shape.{formed-parts, formed-poly}
+use Rattle.table.proofs.Cells.{length-table}
+use Rattle.table.proofs.Counting.{leaf_count-listed}
+use Rattle.table.proofs.Wellformed.{formed-facts}
+use Rattle.table.proofs.RootLaw as RootLaw
 use Rattle.table.proofs.Tables.{leaf_read, polygon_read}
 
 filter-filter : (f g : ℕ → Bool) (xs : List ℕ) → filter g (filter f xs) ≡ filter (λ i. f i && g i) xs
@@ -53,8 +57,21 @@ pub order_in-length : (row : List ℤ) (head : Head) → IsTable row head → le
 unfolding order_ids
 order_in-length row head e =
     ap length (sym (order_ids-in row head))
-    ∙ order-length row head.count max_polygons (formed-poly row head.count head.max_level e)
+    ∙ order-length row head.count max_polygons (formed-poly row head e)
     ∙ ap length (leaf_ids-in row head)
+
+-- and as many as the head says
+pub leaves-listed : (row : List ℤ) (head : Head) → IsTable row head → head.leaves ≡ length (leaves_in row head)
+leaves-listed row head e =
+    (formed-parts row head e).leaves
+    ∙ sym (leaf_count-listed (table row head.count))
+    ∙ ap (λ (k : ℕ). length (filter (is_leaf (table row head.count)) (range_with_len 0 k))) (length-table row head.count)
+
+pub leaves-by-roots : (row : List ℤ) (head : Head) → IsTable row head → 4 * head.leaves ≡ 3 * head.count + root_count (cells_in row head)
+leaves-by-roots row head e =
+    ap (λ (k : ℕ). 4 * k) (formed-parts row head e).leaves
+    ∙ RootLaw.leaves-by-roots head.max_level (cells_in row head) (formed-facts row head e).cells
+    ∙ ap (λ (k : ℕ). 3 * k + root_count (cells_in row head)) (length-table row head.count)
 
 -- what the test of the room needs
 pub ruleset lengths = (order_in-length)

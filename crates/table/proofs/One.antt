@@ -4,6 +4,7 @@ use Rattle.refusals.specs.Said.{Said}
 use Rattle.refusals.specs.declared.Refusal.{Refusal}
 use Rattle.refusals.proofs.Settled.{one-said}
 use Rattle.table.specs.declared.Head.{Head}
+use Rattle.table.specs.Rows.{head_of, head_values}
 use Rattle.table.specs.Leaves.{listed_said}
 use Rattle.table.specs.Refine.{refined_said}
 
@@ -12,4 +13,4 @@ one_list = one-said (λ n. n ∷ []) (λ vs. get_or vs 0 0) (λ n. refl)
 
 pub one-refined : (what : Said) (r q : Result Head Refusal) → refined_said r ≡ what → refined_said q ≡ what → r ≡ q
 one-refined =
-    one-said (λ h. h.count ∷ h.max_level ∷ []) (λ vs. record { count = get_or vs 0 0; max_level = get_or vs 1 0 }) (λ h. refl)
+    one-said head_values (λ vs. head_of (get_or vs 0 0) (get_or vs 1 0) (get_or vs 2 0)) (λ h. refl)

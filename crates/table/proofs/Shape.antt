@@ -1,9 +1,10 @@
 -- The shape of a lent row, as a test and as facts. Assumes nothing.
-use Rattle.std.proofs.Common.{ℕ, ◌+◌, ◌*◌, ◌/◌, ◌%◌, ◌^◌, ◌<◌, ◌≤◌, ◌≡◌, true, ◌&&◌, arith, leb, ltb, eqb, ℤ, length, List, leb-true, ltb-true, eqb-true, le-leb, eq-eqb}
-use Rattle.std.specs.List.{list_all, range_with_len}
+use Rattle.std.proofs.Common.{ℕ, Bool, ◌+◌, ◌*◌, ◌/◌, ◌%◌, ◌^◌, ◌<◌, ◌≤◌, ◌≡◌, true, ◌&&◌, arith, leb, ltb, eqb, ℤ, length, List, leb-true, ltb-true, eqb-true, le-leb, eq-eqb}
 use Rattle.refusals.specs.Limits.{widest_level, max_slots, max_polygons}
+use Rattle.table.specs.declared.Head.{Head}
 use Rattle.table.specs.Slots.{cell_at, in_slot}
-use Rattle.table.specs.Formed.{holds_whole_slots, shape_ok, rest_zero, place_ok, kids_ok, cell_ok, well_formed}
+use Rattle.table.specs.Mesh.{table, leaf_count}
+use Rattle.table.specs.Formed.{holds_whole_slots, shape_ok, rest_zero, place_ok, kids_ok, cell_ok, cells_ok, well_formed}
 use Rattle.table.proofs.All.{and_left, and_right, all-at}
 
 pub record Shape (size n M : ℕ) : Type 0 where
@@ -33,23 +34,59 @@ module _ (size n M : ℕ) where
 pub within : (size n M : ℕ) → Shape size n M → n * 8 ≤ size
 within size n M s = omega arith
 
--- past the test of well-formedness
-pub formed-shape : (t : List ℤ) (n M : ℕ) → well_formed t n M ≡ true → Shape (length t) n M
-unfolding well_formed
-formed-shape t n M e = shape_of (length t) n M (and_left (shape_ok (length t) n M) (rest_zero t n && list_all (cell_ok t n M) (range_with_len 0 n)) e)
+-- ---- past the test of well-formedness: its four parts
 
-pub formed-within : (t : List ℤ) (n M : ℕ) → well_formed t n M ≡ true → n * 8 ≤ length t
-formed-within t n M e = within (length t) n M (formed-shape t n M e)
+pub record Parts (t : List ℤ) (head : Head) : Type 0 where
+  pub shape : shape_ok (length t) head.count head.max_level ≡ true
+  pub rest : rest_zero t head.count ≡ true
+  pub cells : cells_ok t head.count head.max_level ≡ true
+  pub leaves : head.leaves ≡ leaf_count (table t head.count)
 
-pub formed-poly : (t : List ℤ) (n M : ℕ) → well_formed t n M ≡ true → (i : ℕ) → i < n → (cell_at t i).poly < max_polygons
-unfolding well_formed cell_ok
-formed-poly t n M e i h =
-    let c = cell_at t i in
-    let all = and_right (rest_zero t n) (list_all (cell_ok t n M) (range_with_len 0 n)) (and_right (shape_ok (length t) n M) (rest_zero t n && list_all (cell_ok t n M) (range_with_len 0 n)) e) in
-    let ok = all-at (cell_ok t n M) n all i h in
-    let placed = and_left (in_slot t i && leb c.level M && ltb c.poly max_polygons && place_ok t n (2 ^ (M + 1)) i c) (kids_ok t n M i c) ok in
-    let small = and_left (in_slot t i && leb c.level M && ltb c.poly max_polygons) (place_ok t n (2 ^ (M + 1)) i c) placed in
-    ltb-true c.poly max_polygons (and_right (in_slot t i && leb c.level M) (ltb c.poly max_polygons) small)
+module _ (t : List ℤ) (head : Head) where
+  abbrev s : Bool
+  s = shape_ok (length t) head.count head.max_level
+
+  abbrev r : Bool
+  r = rest_zero t head.count
+
+  abbrev c : Bool
+  c = cells_ok t head.count head.max_level
+
+  abbrev l : Bool
+  l = eqb head.leaves (leaf_count (table t head.count))
+
+  pub formed-parts : well_formed t head ≡ true → Parts t head
+  unfolding well_formed
+  formed-parts e =
+      let f = and_right s (r && (c && l)) e in
+      let g = and_right r (c && l) f in
+      record {
+        shape = and_left s (r && (c && l)) e;
+        rest = and_left r (c && l) f;
+        cells = and_left c l g;
+        leaves = eqb-true head.leaves (leaf_count (table t head.count)) (and_right c l g);
+      }
+
+  pub parts-formed : Parts t head → well_formed t head ≡ true
+  unfolding well_formed
+  parts-formed p = simp (p.shape, p.rest, p.cells, eq-eqb head.leaves (leaf_count (table t head.count)) p.leaves)
+
+  pub formed-shape : well_formed t head ≡ true → Shape (length t) head.count head.max_level
+  formed-shape e = shape_of (length t) head.count head.max_level (formed-parts e).shape
+
+  pub formed-within : well_formed t head ≡ true → head.count * 8 ≤ length t
+  formed-within e = within (length t) head.count head.max_level (formed-shape e)
+
+  pub formed-poly : well_formed t head ≡ true → (i : ℕ) → i < head.count → (cell_at t i).poly < max_polygons
+  unfolding cells_ok cell_ok
+  formed-poly e i h =
+      let n = head.count in
+      let M = head.max_level in
+      let c = cell_at t i in
+      let ok = all-at (cell_ok t n M) n (formed-parts e).cells i h in
+      let placed = and_left (in_slot t i && leb c.level M && ltb c.poly max_polygons && place_ok t n (2 ^ (M + 1)) i c) (kids_ok t n M i c) ok in
+      let small = and_left (in_slot t i && leb c.level M && ltb c.poly max_polygons) (place_ok t n (2 ^ (M + 1)) i c) placed in
+      ltb-true c.poly max_polygons (and_right (in_slot t i && leb c.level M) (ltb c.poly max_polygons) small)
 
 -- the bounds, in a form that the prover takes up where the test stands
 pub shape_bounds : (size n M : ℕ) → shape_ok size n M ≡ true

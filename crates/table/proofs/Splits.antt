@@ -7,12 +7,15 @@ use Rattle.cell.specs.Boxes.{Quad, sw, se, nw, ne, num, quad_at, quadrant}
 use Rattle.cell.specs.declared.Cell as Held
 use Rattle.cell.specs.Cells.{no_cell, child_of}
 use Rattle.table.specs.Slots.{cell_at, in_slot}
-use Rattle.table.specs.Mesh.{Cell, past, at, child, with_kids, split, opt, mesh_cell, table}
+use Rattle.table.specs.declared.Head.{Head}
+use Rattle.table.specs.Mesh.{Cell, past, at, child, with_kids, split, opt, mesh_cell, table, leaf_count}
 use Rattle.table.specs.Formed.{Formed, WellFormed, well_formed}
+use Rattle.table.specs.Rows.{after_split}
 use Rattle.table.specs.Leaves.{leaf_at}
 use Rattle.table.specs.Refine.{put_kid, split_row}
 use Rattle.table.proofs.Stores.{Fits, read-corners, length-put, put-elsewhere, put_other, put-other-held, put_same, put-held, with_first, length-first, first-elsewhere, first-other, first-other-held, first-same, first-held}
 use Rattle.table.proofs.Cells.{length-table, at_table}
+use Rattle.table.proofs.Counting.{leaf_count-split}
 use Rattle.table.proofs.Meshes.{num-below, View, old, self, new, out, view, length-split, formed-split}
 use Rattle.table.proofs.Wellformed.{opt-some, opt_none, quad-num, formed-facts, facts-formed}
 
@@ -166,7 +169,13 @@ pub leaf_kids : (t : List ℤ) (n i : ℕ) → i < n → leaf_at t i ≡ true �
 unfolding leaf_at
 leaf_kids t n i h e = ap (λ (c : Cell). c.kids) (at_table t n i h) ∙ opt_none (cell_at t i).first (eqb-true (cell_at t i).first no_cell e)
 
-module _ (t : List ℤ) (n M i : ℕ) (w : WellFormed t n M) (inside : i < n) (leaf : leaf_at t i ≡ true) (finer : (cell_at t i).level < M) (enough : n + 4 ≤ length t / 8) where
+module _ (t : List ℤ) (head : Head) (i : ℕ) (w : WellFormed t head) (inside : i < head.count) (leaf : leaf_at t i ≡ true) (finer : (cell_at t i).level < head.max_level) (enough : head.count + 4 ≤ length t / 8) where
+  abbrev n : ℕ
+  n = head.count
+
+  abbrev M : ℕ
+  M = head.max_level
+
   room : (n + 4) * 8 ≤ length t
   room = omega arith
 
@@ -202,7 +211,7 @@ module _ (t : List ℤ) (n M i : ℕ) (w : WellFormed t n M) (inside : i < n) (l
   new-cell : (k : ℕ) → k < 4 → cell_at u (n + k) ≡ child_of i (quad_at k) (cell_at t i)
   new-cell = split_row-new t n i inside room small fits
 
-  pub refine-keeps : WellFormed (split_row t n i) (n + 4) M
+  pub refine-keeps : WellFormed (split_row t n i) (after_split head)
   refine-keeps =
       let l = length-split_row t n i in
       record {
@@ -217,9 +226,13 @@ module _ (t : List ℤ) (n M i : ℕ) (w : WellFormed t n M) (inside : i < n) (l
         cells =
             subst (Formed M) (sym split-table)
             (formed-split (table t n) i (rw length-table inside) (leaf_kids t n i inside leaf) M (rw (at_table t n i inside) finer) w.cells);
+        leaves =
+            ap (λ (k : ℕ). k + 3) w.leaves
+            ∙ sym (leaf_count-split (table t n) i (rw length-table inside) (leaf_kids t n i inside leaf))
+            ∙ ap leaf_count (sym split-table);
       }
 
 -- the same of the test
-pub refine-formed : (t : List ℤ) (n M i : ℕ) → well_formed t n M ≡ true → i < n → leaf_at t i ≡ true → (cell_at t i).level < M → n + 4 ≤ length t / 8
-    → well_formed (split_row t n i) (n + 4) M ≡ true
-refine-formed t n M i e h f l r = facts-formed (split_row t n i) (n + 4) M (refine-keeps t n M i (formed-facts t n M e) h f l r)
+pub refine-formed : (t : List ℤ) (head : Head) (i : ℕ) → well_formed t head ≡ true → i < head.count → leaf_at t i ≡ true → (cell_at t i).level < head.max_level
+    → head.count + 4 ≤ length t / 8 → well_formed (split_row t head.count i) (after_split head) ≡ true
+refine-formed t head i e h f l r = facts-formed (split_row t head.count i) (after_split head) (refine-keeps t head i (formed-facts t head e) h f l r)

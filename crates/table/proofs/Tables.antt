@@ -9,13 +9,16 @@ use Rattle.table.specs.Slots.{cell_at}
 use Rattle.table.specs.Mesh.{Cell, at, table, is_leaf, opt}
 use Rattle.table.specs.Leaves.{leaf_at}
 use Rattle.table.specs.Rows.{IsTable}
-use Rattle.table.proofs.Cells.{at_table}
-use Rattle.table.proofs.Shape.{formed-shape}
+use Rattle.table.proofs.Cells.{length-table, at_table}
+use Rattle.table.proofs.Shape.{formed-parts, formed-shape}
+use Rattle.table.proofs.Counting.{leaf_count-few}
 
 -- the bounds that a table keeps, in a form that the prover takes up where the test stands
 pub table_bounds : (row : List ℤ) (head : Head) → IsTable row head
-    → IsTable row head × (head.count ≤ length row / 8) × (length row / 8 ≤ max_slots) × (head.max_level ≤ widest_level)
-table_bounds row head e = let s = formed-shape row head.count head.max_level e in (e, s.count, s.slots, s.range)
+    → IsTable row head × (head.count ≤ length row / 8) × (length row / 8 ≤ max_slots) × (head.max_level ≤ widest_level) × (head.leaves ≤ head.count)
+table_bounds row head e =
+    let s = formed-shape row head e in
+    (e, s.count, s.slots, s.range, omega (arith, (formed-parts row head e).leaves, leaf_count-few (table row head.count), length-table row head.count))
 
 is_none-if : (b : Bool) (v : ℕ) → is_none (if b then None else Some v) ≡ b
 is_none-if true v = refl

@@ -1,12 +1,11 @@
 -- The walk over the cells says yes exactly where every cell passes its test. A root is tested by itself. A child is what
 -- its parent's numbers say, so its test follows from the parent's; and where a cell's first child names it, its four
 -- stand there, since a four is only passed where its parent names it. Assumes nothing.
-use Rattle.std.proofs.Common.{ℕ, zero, suc, ◌+◌, ◌-◌, ◌^◌, ◌<◌, ◌≤◌, ◌≡◌, refl, sym, ap, subst, ◌∙◌, Bool, true, false, ◌&&◌, ◌||◌, List, ◌⊎◌, inl, inr, ⊎_elim, ◌≢◌, arith, add-zero, ltb, leb, eqb, ℤ, pos, negsuc, None, Some, ltb-true, leb-true, eqb-true, lt-ltb, le-leb, eq-eqb, ne_eqb}
+use Rattle.std.proofs.Common.{ℕ, zero, suc, ◌+◌, ◌-◌, ◌^◌, ◌<◌, ◌≤◌, ◌≡◌, refl, sym, ap, subst, ◌∙◌, Bool, true, false, ◌&&◌, ◌||◌, List, ◌⊎◌, inl, inr, ⊎_elim, ◌≢◌, arith, add-zero, ltb, leb, eqb, ℤ, pos, negsuc, ltb-true, leb-true, eqb-true, lt-ltb, le-leb, eq-eqb, ne_eqb}
 use mathlib.Core.Logic.{by_cases}
 use native.Mathlib.Decide.{dec_lt}
 use lib.Signed.{non_neg}
 use borrow.Author.Tests.{eqb-false}
-use Rattle.std.specs.List.{list_all, range_with_len}
 use Rattle.refusals.specs.Limits.{coordinate, max_slots, max_polygons}
 use Rattle.cell.specs.Boxes.{Quad, sw, se, nw, ne, num, quad_at}
 use Rattle.cell.specs.declared.Cell as Held
@@ -14,16 +13,17 @@ use Rattle.cell.specs.Cells.{no_cell, child_of}
 use Rattle.cell.specs.Ticks.{on, off, in_range}
 use Rattle.cell.proofs.Offsets.{off-on}
 use Rattle.table.specs.Slots.{counted, same_z, number, start, cell_at, in_slot}
-use Rattle.table.specs.Mesh.{table}
-use Rattle.table.specs.Formed.{Kid, side_ok, root_ok, born_ok, place_ok, kids_ok, cell_ok}
-use Rattle.table.specs.Walk.{kid_at, kids_at, led_at, root_at, four_at, past_at}
-use Rattle.table.proofs.All.{and_left, and_right, all_of}
+use Rattle.table.specs.Mesh.{table, root_count}
+use Rattle.table.specs.Formed.{Kid, side_ok, root_ok, born_ok, place_ok, kids_ok, cells_ok}
+use Rattle.table.specs.Walk.{kid_at, kids_at, led_at, root_at, four_at}
+use Rattle.table.proofs.All.{and_left, and_right}
 use Rattle.table.proofs.Numbers.{same_true, true_same}
 use Rattle.table.proofs.Stores.{on-range, read-corners}
 use Rattle.table.proofs.Exact.{exact}
-use Rattle.table.proofs.Facts.{CellFacts, facts-cell}
+use Rattle.table.proofs.Facts.{CellFacts, facts-cells_ok}
 use Rattle.table.proofs.Cells.{length-table, at_table}
 use Rattle.table.proofs.Meshes.{num-below}
+use Rattle.table.proofs.RootLaw.{root_more-yes, root_more-four}
 use Rattle.table.proofs.Wellformed.{But, num-quad, quad-num, but-kid, kid-but, split-facts, facts-split}
 
 -- ---- numbers
@@ -349,11 +349,11 @@ module _ (t : List ℤ) (n M : ℕ) (small : n ≤ max_slots) (all : (i : ℕ) �
       child-own i l c (own b c.parent (omega arith) (omega arith)))
       (all i l).place
 
-  pub found-cells : list_all (cell_ok t n M) (range_with_len 0 n) ≡ true
+  pub found-cells : cells_ok t n M ≡ true
   found-cells =
-      all_of (cell_ok t n M) n (λ i h.
+      facts-cells_ok t n M (λ i h.
       let w = own (suc i) i (omega arith) h in
-      facts-cell t n M i (record { held = w.held; level = w.level; polygon = w.polygon; place = place_ok_lem i h; kids = kids-ok i h }))
+      record { held = w.held; level = w.level; polygon = w.polygon; place = place_ok_lem i h; kids = kids-ok i h })
 
 -- ---- where every cell passes its test the walk goes on
 
@@ -386,7 +386,7 @@ module _ (t : List ℤ) (n M : ℕ) (small : n ≤ max_slots) (all : (i : ℕ) �
           named-led t n i w.0.above (omega arith)
           (subst (λ (j : ℕ). number t j 5 ≡ pos i) (add-zero (cell_at t i).first) (w.0.kids 0 (omega arith)).parent)
 
-  root-here : (i : ℕ) → i < n → (cell_at t i).parent ≡ no_cell → root_at t n (2 ^ (M + 1)) i ≡ true
+  pub root-here : (i : ℕ) → i < n → (cell_at t i).parent ≡ no_cell → root_at t n (2 ^ (M + 1)) i ≡ true
   unfolding root_at place_ok
   root-here i h e =
       let c = all i h in
@@ -433,7 +433,7 @@ module _ (t : List ℤ) (n M : ℕ) (small : n ≤ max_slots) (all : (i : ℕ) �
         (walked f l).place)
         (λ l. omega arith)
 
-    four-here : four_at t n M i p ≡ true
+    pub four-here : four_at t n M i p ≡ true
     unfolding four_at
     four-here =
         let w = its-four in
@@ -452,24 +452,14 @@ module _ (t : List ℤ) (n M : ℕ) (small : n ≤ max_slots) (all : (i : ℕ) �
           led (i + 3) (omega arith),
         )
 
-  pub goes_on : (i : ℕ) → i < n → ((j : ℕ) → j < i → Found t n M i j) → past_at t n M (2 ^ (M + 1)) i ≢ None
-  unfolding past_at
-  goes_on i h walked z = by (eqb (cell_at t i).parent no_cell) refl
-    where
-      by : (x : Bool) → eqb (cell_at t i).parent no_cell ≡ x → ⊥
-      by true d =
-          let e : Some (i + 1) ≡ None = rw (d, root-here i h (eqb-true (cell_at t i).parent no_cell d)) at z in
-          cc
-      by false d =
-          let e : Some (i + 4) ≡ None = rw (d, four-here i h (eqb-false (cell_at t i).parent no_cell d) walked) at z in
-          cc
-
 -- ---- one step of the walk
 
-pub record Next (t : List ℤ) (n M i m : ℕ) : Type 0 where
+-- from i to m, over so many roots
+pub record Next (t : List ℤ) (n M i m roots : ℕ) : Type 0 where
   pub more : i < m
   pub within : m ≤ n
   pub found : (j : ℕ) → j < m → Found t n M m j
+  pub counted : root_count (table t m) ≡ root_count (table t i) + roots
 
 module _ (t : List ℤ) (n M i : ℕ) (h : i < n) (walked : (j : ℕ) → j < i → Found t n M i j) where
   grown : (m : ℕ) → i ≤ m → (j : ℕ) → j < i → Found t n M m j
@@ -480,7 +470,7 @@ module _ (t : List ℤ) (n M i : ℕ) (h : i < n) (walked : (j : ℕ) → j < i 
         led = w.led;
       }
 
-  root-next : root_at t n (2 ^ (M + 1)) i ≡ true → (cell_at t i).parent ≡ no_cell → Next t n M i (i + 1)
+  pub root-next : root_at t n (2 ^ (M + 1)) i ≡ true → (cell_at t i).parent ≡ no_cell → Next t n M i (i + 1) 1
   unfolding root_at cell_at
   root-next e p =
       let b0 = in_slot t i in
@@ -506,11 +496,12 @@ module _ (t : List ℤ) (n M i : ℕ) (h : i < n) (walked : (j : ℕ) → j < i 
             by_cases (dec_lt j i)
             (λ l. grown (i + 1) (omega arith) j l)
             (λ l. subst (Found t n M (i + 1)) (let d : i ≡ j = omega arith in d) root);
+        counted = root_more-yes t i p;
       }
 
-  four-next : four_at t n M i (cell_at t i).parent ≡ true → Next t n M i (i + 4)
-  unfolding four_at
-  four-next e =
+  pub four-next : four_at t n M i (cell_at t i).parent ≡ true → (cell_at t i).parent ≢ no_cell → Next t n M i (i + 4) 0
+  unfolding four_at cell_at counted
+  four-next e born =
       let p = (cell_at t i).parent in
       let b0 = leb (i + 4) n in
       let b1 = ltb p i in
@@ -547,6 +538,8 @@ module _ (t : List ℤ) (n M i : ℕ) (h : i < n) (walked : (j : ℕ) → j < i 
               place = inr (record { parent = p; first = i; low = omega arith; high = g; end = omega arith; four = four });
               led = led-facts t n j (subst (λ (m : ℕ). led_at t n m ≡ true) d (leds (j - i) (omega arith)));
             });
+        counted =
+            root_more-four t i (λ k l o. born (sym (ap counted (four.kids k l).parent) ∙ o)) ∙ sym (add-zero (root_count (table t i)));
       }
     where
       each : led_at t n i ≡ true → led_at t n (i + 1) ≡ true → led_at t n (i + 2) ≡ true → led_at t n (i + 3) ≡ true → (k : ℕ) → k < 4 → led_at t n (i + k) ≡ true
@@ -555,26 +548,3 @@ module _ (t : List ℤ) (n M i : ℕ) (h : i < n) (walked : (j : ℕ) → j < i 
       each a b c d (suc (suc zero)) g = c
       each a b c d (suc (suc (suc zero))) g = d
       each a b c d (suc (suc (suc (suc k)))) g = absurd (omega arith)
-
-  pub past_next : (m : ℕ) → past_at t n M (2 ^ (M + 1)) i ≡ Some m → Next t n M i m
-  unfolding past_at
-  past_next m e = by (eqb p no_cell) refl (root_at t n (2 ^ (M + 1)) i) refl (four_at t n M i p) refl
-    where
-      p : ℕ
-      p = (cell_at t i).parent
-
-      by : (x : Bool) → eqb p no_cell ≡ x → (y : Bool) → root_at t n (2 ^ (M + 1)) i ≡ y → (z : Bool) → four_at t n M i p ≡ z → Next t n M i m
-      by true d true r z f =
-          let s : Some (i + 1) ≡ Some m = rw (d, r) at e in
-          let w : i + 1 ≡ m = cc in
-          subst (Next t n M i) w (root-next r (eqb-true p no_cell d))
-      by true d false r z f =
-          let s : None ≡ Some m = rw (d, r) at e in
-          absurd (cc)
-      by false d y r true f =
-          let s : Some (i + 4) ≡ Some m = rw (d, f) at e in
-          let w : i + 4 ≡ m = cc in
-          subst (Next t n M i) w (four-next f)
-      by false d y r false f =
-          let s : None ≡ Some m = rw (d, f) at e in
-          absurd (cc)

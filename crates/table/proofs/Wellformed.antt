@@ -7,14 +7,15 @@ use Rattle.refusals.specs.Limits.{max_slots}
 use Rattle.cell.specs.Boxes.{Box, Quad, sw, se, nw, ne, num, quad_at, quadrant}
 use Rattle.cell.specs.declared.Cell as Held
 use Rattle.cell.specs.Cells.{no_cell, box_of, child_of}
+use Rattle.table.specs.declared.Head.{Head}
 use Rattle.table.specs.Slots.{cell_at}
 use Rattle.table.specs.Mesh.{Cell, at, table, opt, mesh_cell}
 use Rattle.table.specs.Formed.{Kid, Split, Born, Root, Formed, WellFormed, rest_zero, side_ok, root_ok, born_ok, same_but, kid_ok, kids_ok, place_ok, well_formed}
 use Rattle.table.proofs.All.{and_left, and_right, and_both}
 use Rattle.table.proofs.Numbers.{same_true, true_same}
 use Rattle.table.proofs.Zeros.{zeros, of-zeros}
-use Rattle.table.proofs.Shape.{of-shape, formed-shape}
-use Rattle.table.proofs.Facts.{CellFacts, formed-cell, formed-rest, parts-formed}
+use Rattle.table.proofs.Shape.{of-shape, formed-parts, parts-formed, formed-shape}
+use Rattle.table.proofs.Facts.{CellFacts, facts-cells_ok, formed-cell}
 use Rattle.table.proofs.Cells.{length-table, at_table}
 use Rattle.table.proofs.Meshes.{not_some, some_is, num-below, kids-in, root_in}
 
@@ -323,38 +324,48 @@ module _ (t : List ℤ) (n M : ℕ) where
             subst (Root M) (sym (at_table t n i h)) (place-root t n M small i h (f i h).place o));
       }
 
+module _ (t : List ℤ) (head : Head) where
+  abbrev n : ℕ
+  n = head.count
+
+  abbrev M : ℕ
+  M = head.max_level
+
   -- the test says yes only if the definition holds
-  pub formed-facts : well_formed t n M ≡ true → WellFormed t n M
+  pub formed-facts : well_formed t head ≡ true → WellFormed t head
   formed-facts e =
-      let s = formed-shape t n M e in
+      let s = formed-shape t head e in
       record {
         range = s.range;
         whole = s.whole;
         slots = s.slots;
         count = s.count;
-        rest = rest-facts t n (formed-rest t n M e);
-        held = λ i h. (formed-cell t n M e i h).held;
-        level = λ i h. (formed-cell t n M e i h).level;
-        polygon = λ i h. (formed-cell t n M e i h).polygon;
-        cells = facts-cells (omega arith) (formed-cell t n M e);
+        rest = rest-facts t n (formed-parts t head e).rest;
+        held = λ i h. (formed-cell t head e i h).held;
+        level = λ i h. (formed-cell t head e i h).level;
+        polygon = λ i h. (formed-cell t head e i h).polygon;
+        cells = facts-cells t n M (omega arith) (formed-cell t head e);
+        leaves = (formed-parts t head e).leaves;
       }
 
   -- and always then
-  pub facts-formed : WellFormed t n M → well_formed t n M ≡ true
+  pub facts-formed : WellFormed t head → well_formed t head ≡ true
   facts-formed w =
       let small : n ≤ max_slots = (let a = w.count in let b = w.slots in omega arith) in
-      parts-formed t n M
-      (of-shape (length t) n M (record { range = w.range; whole = w.whole; slots = w.slots; count = w.count }))
-      (facts-rest t n w.rest)
-      (λ i h.
-      let here = at_table t n i h in
-      record {
-        held = w.held i h;
-        level = w.level i h;
-        polygon = w.polygon i h;
-        place =
-            facts-place t n M small i h
-            (λ p. subst (Root M) here (w.cells.root i (ap (λ (c : Cell). c.parent) here ∙ opt_none (cell_at t i).parent p)))
-            (λ p. w.cells.born i (cell_at t i).parent (rw length-table h) (ap (λ (c : Cell). c.parent) here ∙ opt-some (cell_at t i).parent p));
-        kids = facts-split t n M small i h (λ p. w.cells.split i (cell_at t i).first (ap (λ (c : Cell). c.kids) here ∙ opt-some (cell_at t i).first p));
+      parts-formed t head (record {
+        shape = of-shape (length t) n M (record { range = w.range; whole = w.whole; slots = w.slots; count = w.count });
+        rest = facts-rest t n w.rest;
+        leaves = w.leaves;
+        cells = facts-cells_ok t n M (λ i h.
+            let here = at_table t n i h in
+            record {
+              held = w.held i h;
+              level = w.level i h;
+              polygon = w.polygon i h;
+              place =
+                  facts-place t n M small i h
+                  (λ p. subst (Root M) here (w.cells.root i (ap (λ (c : Cell). c.parent) here ∙ opt_none (cell_at t i).parent p)))
+                  (λ p. w.cells.born i (cell_at t i).parent (rw length-table h) (ap (λ (c : Cell). c.parent) here ∙ opt-some (cell_at t i).parent p));
+              kids = facts-split t n M small i h (λ p. w.cells.split i (cell_at t i).first (ap (λ (c : Cell). c.kids) here ∙ opt-some (cell_at t i).first p));
+            });
       })

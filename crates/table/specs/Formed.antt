@@ -7,8 +7,9 @@ use Rattle.refusals.specs.Limits.{widest_level, max_slots, max_polygons}
 use Rattle.cell.specs.Boxes.{Quad, num, quadrant, quad_at}
 use Rattle.cell.specs.declared.Cell as Held
 use Rattle.cell.specs.Cells.{no_cell, child_of}
+use Rattle.table.specs.declared.Head.{Head}
 use Rattle.table.specs.Slots.{same_z, cell_at, in_slot}
-use Rattle.table.specs.Mesh.{Cell, at, table}
+use Rattle.table.specs.Mesh.{Cell, at, table, leaf_count}
 
 -- ---- the definition
 
@@ -46,24 +47,26 @@ pub record Formed (M : ℕ) (t : List Cell) : Type 0 where
   pub born : (i j : ℕ) → i < length t → (at t i).parent ≡ Some j → Born t i j
   pub root : (i : ℕ) → (at t i).parent ≡ None → Root M (at t i)
 
-pub record WellFormed (t : List ℤ) (n M : ℕ) : Type 0 where
+pub record WellFormed (t : List ℤ) (head : Head) : Type 0 where
   -- "max_level in range"
-  pub range : M ≤ widest_level
+  pub range : head.max_level ≤ widest_level
   -- "length a multiple of 8 and slots in range"
   pub whole : length t % 8 ≡ 0
   pub slots : length t / 8 ≤ max_slots
   -- "count at most slots"
-  pub count : n ≤ length t / 8
+  pub count : head.count ≤ length t / 8
   -- "all slots at or past the count zero"
-  pub rest : (j : ℕ) → n * 8 ≤ j → j < length t → slice_index_or t j (pos 0) ≡ pos 0
+  pub rest : (j : ℕ) → head.count * 8 ≤ j → j < length t → slice_index_or t j (pos 0) ≡ pos 0
   -- every number of a cell is one that a cell has: its coordinates in range, the others not negative
-  pub held : (i : ℕ) → i < n → in_slot t i ≡ true
+  pub held : (i : ℕ) → i < head.count → in_slot t i ≡ true
   -- "level at most max_level"
-  pub level : (i : ℕ) → i < n → (cell_at t i).level ≤ M
+  pub level : (i : ℕ) → i < head.count → (cell_at t i).level ≤ head.max_level
   -- "Polygon indices are below 256"
-  pub polygon : (i : ℕ) → i < n → (cell_at t i).poly < max_polygons
+  pub polygon : (i : ℕ) → i < head.count → (cell_at t i).poly < max_polygons
   -- the clauses on roots, children and parents
-  pub cells : Formed M (table t n)
+  pub cells : Formed head.max_level (table t head.count)
+  -- "leaves is the number of cells below the count without a child"
+  pub leaves : head.leaves ≡ leaf_count (table t head.count)
 
 -- ---- the test
 
@@ -114,5 +117,11 @@ holds_whole_slots size = size % 8 == 0 && nat_le (size / 8) max_slots
 unfoldable pub shape_ok : ℕ → ℕ → ℕ → Bool
 shape_ok size n M = nat_le M widest_level && holds_whole_slots size && nat_le n (size / 8)
 
-unfoldable pub well_formed : List ℤ → ℕ → ℕ → Bool
-well_formed t n M = shape_ok (length t) n M && (rest_zero t n && list_all (cell_ok t n M) (range_with_len 0 n))
+unfoldable pub cells_ok : List ℤ → ℕ → ℕ → Bool
+cells_ok t n M = list_all (cell_ok t n M) (range_with_len 0 n)
+
+unfoldable pub well_formed : List ℤ → Head → Bool
+well_formed t head =
+    shape_ok (length t) head.count head.max_level
+    && (rest_zero t head.count
+    && (cells_ok t head.count head.max_level && head.leaves == leaf_count (table t head.count)))

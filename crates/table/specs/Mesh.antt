@@ -1,7 +1,7 @@
 -- The cells that a table holds, as the rules speak of them: no parent and no child are `none`, and there is no limit on
 -- room.
 use Rattle.std.specs.Prelude.{ℕ, suc, Bool, List, [], ◌∷◌, ◌++◌, map, ℤ, pos, length, Option, None, Some, unwrap_or}
-use Rattle.std.specs.Prelude.{◌==◌, slice_index_or, slice_set, if◌then◌else◌}
+use Rattle.std.specs.Prelude.{◌==◌, slice_index_or, slice_set, if◌then◌else◌, count_by}
 use Rattle.std.specs.List.{range_with_len}
 pub use Rattle.std.specs.Prelude.{is_none}
 use Rattle.cell.specs.Boxes.{Box, Quad, sw, se, nw, ne, quadrant}
@@ -42,6 +42,13 @@ split t i = slice_set t i (with_kids (at t i) (length t)) ++ brood i (at t i)
 
 abbrev pub is_leaf : List Cell → ℕ → Bool
 is_leaf t i = is_none (at t i).kids
+
+-- how many cells have no child, and how many no parent
+unfoldable pub leaf_count : List Cell → ℕ
+leaf_count t = count_by (λ c. is_none c.kids) t
+
+unfoldable pub root_count : List Cell → ℕ
+root_count t = count_by (λ c. is_none c.parent) t
 
 -- the row's NO_CELL is `none`; and the way back
 abbrev pub opt : ℕ → Option ℕ

@@ -1,9 +1,8 @@
 -- What the code's walk over the cells tests, step by step. Internal: the contract of the walk is `list_all cell_ok`,
 -- and proofs/Walk.antt shows that the steps say the same. In a well-formed table the cells are roots and fours of
 -- children; the walk goes from each to the next.
-use Rattle.std.specs.Prelude.{ℕ, ◌+◌, ◌^◌, ◌≡◌, Bool, ◌&&◌, ◌||◌, List, ℤ, pos, Option, ◌==◌, if◌then◌else◌, nat_lt}
+use Rattle.std.specs.Prelude.{ℕ, ◌+◌, ◌^◌, ◌≡◌, Bool, ◌&&◌, ◌||◌, List, ℤ, pos, ◌==◌, if◌then◌else◌, nat_lt}
 use Rattle.std.specs.Prelude.{nat_le}
-use Rattle.std.specs.Bool.{then_some}
 use Rattle.refusals.specs.Limits.{max_polygons}
 use Rattle.cell.specs.Boxes.{Quad, sw, se, nw, ne}
 use Rattle.cell.specs.declared.Cell as Held
@@ -51,9 +50,3 @@ unfoldable pub four_at : List ℤ → ℕ → ℕ → ℕ → ℕ → Bool
 four_at t n M i p =
     nat_le (i + 4) n && nat_lt p i && (same_z (number t p 6) (pos i) && kids_at t M p i)
     && (led_at t n i && led_at t n (i + 1) && led_at t n (i + 2) && led_at t n (i + 3))
-
--- the slot past the root or the four children that stand from slot i on, and none where neither does
-unfoldable pub past_at : List ℤ → ℕ → ℕ → ℕ → ℕ → Option ℕ
-past_at t n M step i =
-    let p = (cell_at t i).parent in
-    if p == no_cell then then_some (root_at t n step i) (i + 1) else then_some (four_at t n M i p) (i + 4)

@@ -3,7 +3,7 @@ ghost use Rattle.std.specs.Prelude.{◌≡◌, ◌+◌, ◌/◌, ◌<◌, ◌≤
 ghost use Rattle.refusals.specs.Limits.{widest_level, max_slots};
 ghost use Rattle.table.specs.Mesh.{at, split};
 ghost use Rattle.table.specs.Refine.{split_row};
-ghost use Rattle.table.specs.Rows.{IsTable};
+ghost use Rattle.table.specs.Rows.{IsTable, after_split};
 
 use crate::Head;
 use crate::refine::split_cell;
@@ -17,6 +17,7 @@ pub struct TableMut<'a> {
     ghost within: { head.count ≤ length row.now / 8 },
     ghost slots: { length row.now / 8 ≤ max_slots },
     ghost range: { head.max_level ≤ widest_level },
+    ghost few: { head.leaves ≤ head.count },
     ghost formed: { IsTable row.now head },
 }
 
@@ -54,8 +55,8 @@ impl<'a> TableMut<'a> {
         self.head.count + 4 <= self.row.len() / 8
     }
 
-    /// Splits a leaf above the finest level, where there is room. Never inlined: a pass over the cells splits few of them,
-    /// and its loop would keep more on the stack (balance by 4 to 6 in 100 slower).
+    /// Splits a leaf above the deepest level, where there is room. Never inlined: a pass over the cells splits few of
+    /// them, and its loop would keep more on the stack (balance by 4 to 6 in 100 slower).
     #[inline(never)]
     pub fn split(&mut self, id: usize)
         requires inside { id < self.old.head.count }
@@ -64,13 +65,11 @@ impl<'a> TableMut<'a> {
         requires room { self.old.head.count + 4 ≤ length self.old.row.now / 8 }
         ensures cells { cells_mut self.new ≡ split (cells_mut self.old) id }
         ensures row { self.new.row.now ≡ split_row self.old.row.now self.old.head.count id }
-        ensures count { self.new.head.count ≡ self.old.head.count + 4 }
-        ensures max_level { self.new.head.max_level ≡ self.old.head.max_level }
+        ensures head { self.new.head ≡ after_split self.old.head }
         ensures row_length { length self.new.row.now ≡ length self.old.row.now }
         ensures same_reference { self.new.row.ghost_name ≡ self.old.row.ghost_name }
     {
-        let n = self.head.count;
-        split_cell(self.row, n, id);
-        self.head.count = n + 4;
+        split_cell(self.row, self.head.count, id);
+        self.head = self.head.after_split();
     }
 }

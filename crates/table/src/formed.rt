@@ -1,11 +1,13 @@
 //! The rules' "Well-formed table", tested in one walk over the row. Cells are roots, or children in fours: a four is
 //! compared with its parent, whose numbers say what the children's are, and a cell's first child must name it back.
 ghost use Rattle.std.specs.Prelude.{◌≡◌, ◌+◌, ◌*◌, ◌/◌, ◌%◌, ◌^◌, ◌<◌, ◌≤◌, length};
+ghost use Rattle.std.specs.Bool.{then_some};
 ghost use Rattle.std.specs.List.{list_all, range_with_len};
 ghost use Rattle.refusals.specs.Limits.{widest_level, max_slots};
-ghost use Rattle.table.specs.Formed.{zero_at, rest_zero, side_ok, root_ok, cell_ok, holds_whole_slots, shape_ok};
-ghost use Rattle.table.specs.Formed.{well_formed};
-ghost use Rattle.table.specs.Walk.{Power, kid_at, kids_at, slot_or, led_at, root_at, four_at, past_at};
+ghost use Rattle.table.specs.Formed.{zero_at, rest_zero, side_ok, root_ok, holds_whole_slots, shape_ok};
+ghost use Rattle.table.specs.Formed.{cells_ok, well_formed};
+ghost use Rattle.table.specs.Mesh.{table, leaf_count};
+ghost use Rattle.table.specs.Walk.{Power, kid_at, kids_at, slot_or, led_at, root_at, four_at};
 
 use crate::Head;
 use crate::slots::{cell_at, first_at, in_slot, is_at, parent_at};
@@ -136,27 +138,15 @@ impl Walk<'_> {
         is_at(self.row, q * 8 + 6, i as i64) & kids_ok(self.row, self.max_level, q, i)
             && self.led(i) & self.led(i + 1) & self.led(i + 2) & self.led(i + 3)
     }
-
-    // The slot past the root or the four children that stand from slot i on; none where neither does.
-    #[tactic(auto, unfolding(crate::specs::Walk::past_at))]
-    fn past(&self, i: usize) -> Option<usize>
-        requires { i < self.now.count }
-        ensures { result ≡ past_at self.now.row.now self.now.count self.now.max_level self.now.unit i }
-    {
-        let p = parent_at(self.row, i);
-        if p == Cell::NO_CELL {
-            self.root_here(i).then_some(i + 1)
-        } else {
-            self.four_here(i, p).then_some(i + 4)
-        }
-    }
 }
 
-fn cells_ok(t: &[i64], n: usize, m: u64) -> bool
+// How many leaves the first n cells have, where every cell passes its test. Only roots are counted: each split cell has
+// four of the others (`laws::leaves_by_roots`).
+fn leaves_of(t: &[i64], n: usize, m: u64) -> Option<usize>
     requires slots { n * 8 ≤ length t.now }
     requires few { n ≤ max_slots }
     requires range { m ≤ widest_level }
-    ensures { result ≡ list_all (cell_ok t.now n m) (range_with_len 0 n) }
+    ensures { result ≡ then_some (cells_ok t.now n m) (leaf_count (table t.now n)) }
 {
     let walk = Walk {
         row: t,
@@ -165,13 +155,23 @@ fn cells_ok(t: &[i64], n: usize, m: u64) -> bool
         unit: root_unit(m),
     };
     let mut i = 0;
+    let mut roots = 0;
     while i < n {
-        let Some(next) = walk.past(i) else {
-            return false;
-        };
-        i = next;
+        let p = parent_at(t, i);
+        if p == Cell::NO_CELL {
+            if !walk.root_here(i) {
+                return None;
+            }
+            roots += 1;
+            i += 1;
+        } else {
+            if !walk.four_here(i, p) {
+                return None;
+            }
+            i += 4;
+        }
     }
-    true
+    Some(n - (n - roots) / 4)
 }
 
 // Whether the eight numbers of slot j are zero.
@@ -217,9 +217,9 @@ fn shape_ok(size: usize, n: usize, m: u64) -> bool
 /// Whether the row holds a well-formed table: `laws::test_is_definition`. `Table::new` asks it once for all.
 #[tactic(auto, using(crate::proofs::Shape::shape_bounds), unfolding(crate::specs::Formed::well_formed))]
 pub fn well_formed(t: &[i64], head: Head) -> bool
-    ensures { result ≡ well_formed t.now head.count head.max_level }
+    ensures { result ≡ well_formed t.now head }
 {
     let n = head.count;
     let m = head.max_level;
-    shape_ok(t.len(), n, m) && rest_zero(t, n) && cells_ok(t, n, m)
+    shape_ok(t.len(), n, m) && rest_zero(t, n) && leaves_of(t, n, m) == Some(head.leaves)
 }

@@ -1,6 +1,6 @@
 //! What the calls on a lent table come to.
 ghost use Rattle.table.specs.Laws.{TestIsDefinition, EachLeafOnce, OrderHasTheLeaves, OrderIsAsLong, OneList};
-ghost use Rattle.table.specs.Laws.{OneRefined};
+ghost use Rattle.table.specs.Laws.{LeavesAreListed, LeavesByRoots, OneRefined};
 
 /// The one walk over a row says yes exactly if the rules' definition holds, clause by clause.
 pub fn test_is_definition()
@@ -22,7 +22,17 @@ pub fn order_is_as_long()
     ensures { OrderIsAsLong }
 {}
 
-/// The contracts of `leaf_count`, `leaves` and `leaf_order` permit one answer each.
+/// The stored number of leaves is how many are listed.
+pub fn leaves_are_listed()
+    ensures { LeavesAreListed }
+{}
+
+/// Four times the leaves are three times the cells and the roots.
+pub fn leaves_by_roots()
+    ensures { LeavesByRoots }
+{}
+
+/// The contracts of `leaves` and `leaf_order` permit one answer each.
 pub fn one_list()
     ensures { OneList }
 {}

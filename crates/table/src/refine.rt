@@ -58,10 +58,9 @@ pub fn refine(row: &mut [i64], head: Head, id: usize) -> Result<Head, Refusal>
     if head.max_level <= cells.level(id) {
         return Err(Refusal::FinestLevel(id));
     }
-    let count = head.count + 4;
-    if row.len() / 8 < count {
+    if row.len() / 8 < head.count + 4 {
         return Err(Refusal::NoRoom);
     }
     split_cell(row, head.count, id);
-    Ok(Head { count, ..head })
+    Ok(head.after_split())
 }

@@ -21,6 +21,7 @@ pub struct Table<'a> {
     ghost within: { head.count ≤ length row.now / 8 },
     ghost slots: { length row.now / 8 ≤ max_slots },
     ghost range: { head.max_level ≤ widest_level },
+    ghost few: { head.leaves ≤ head.count },
     ghost formed: { IsTable row.now head },
 }
 
@@ -39,7 +40,7 @@ impl<'a> Table<'a> {
     #[tactic(auto, using(crate::proofs::Tables::table_bounds))]
     pub fn new(row: &'a [i64], head: Head) -> Option<Table<'a>>
         ensures table { IsSome result ↔ IsTable row.now head }
-        ensures formed { IsSome result ↔ WellFormed row.now head.count head.max_level }
+        ensures formed { IsSome result ↔ WellFormed row.now head }
         ensures same_row { IfSome result (λ t. t.row.now ≡ row.now) }
         ensures same_head { IfSome result (λ t. t.head ≡ head) }
     {
@@ -102,7 +103,7 @@ impl<'a> Table<'a> {
     pub fn leaf_count(&self) -> usize
         ensures { result ≡ length (leaves self.now) }
     {
-        self.leaves().count()
+        self.head.leaves
     }
 
     /// The leaves by id, into the front of a row that has room for them.

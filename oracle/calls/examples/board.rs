@@ -10,7 +10,7 @@
 use calls::net::{Cell, Edge, Node};
 use calls::network::{network, NetRoom};
 use calls::sheets::Sheets;
-use calls::table::{Slot, WIDTH};
+use calls::table::{Head, Slot, WIDTH};
 use std::fmt::Debug;
 use std::str::FromStr;
 
@@ -33,7 +33,8 @@ fn main() {
         let sides = [0, 1, 2, 3].map(|place| number(text, place));
         Slot::root(sides, number(text, 4)).store(&mut table, id);
     }
-    let net = network(&table, roots.len(), 0, &sheets, &NetRoom::for_leaves(roots.len()))
+    let head = Head { count: roots.len(), leaves: roots.len(), max_level: 0 };
+    let net = network(&table, head, &sheets, &NetRoom::for_leaves(roots.len()))
         .expect("a net and no refusal");
 
     println!("unfoldable pub {name} : Board");

@@ -5,7 +5,7 @@ use crate::limits::{r_sheet_in_range, CAP, CELL, LAYER_ENTRIES, POLYGONS, WIDEST
 use crate::outcome::{require, Answer, Refusal};
 use crate::sheets::{LayerNames, Sheets};
 use crate::strips::{is_rectilinear, ring_in_range, strips_by_the_words, TickPoint};
-use crate::table::{store_grid, WIDTH};
+use crate::table::{store_grid, Head, WIDTH};
 use crate::ticks::metres;
 use crate::well_formed::sound_shape;
 use original::adaptive::AdaptiveGrid;
@@ -29,9 +29,9 @@ pub struct Outlines<'a> {
     pub points: &'a [TickPoint],
 }
 
-/// Fills the table with roots and zeroes the rest; the answer is the count. Refuses 7, 3 (settings,
+/// Fills the table with roots and zeroes the rest; the answer is its head. Refuses 7, 3 (settings,
 /// then polygon by polygon 3 before 4), 5, 6.
-pub fn build(settings: &Settings, outlines: &Outlines, table: &mut [i64]) -> Answer<u64> {
+pub fn build(settings: &Settings, outlines: &Outlines, table: &mut [i64]) -> Answer<Head> {
     require(sound_shape(table), 7, 0)?;
     let roots = roots_of(settings, outlines)?;
     require(roots <= (table.len() / WIDTH) as u64, 6, 0)?;
@@ -40,7 +40,7 @@ pub fn build(settings: &Settings, outlines: &Outlines, table: &mut [i64]) -> Ans
     assert_eq!(grid.cells.len() as u64, roots, "the original makes as many roots");
     table.fill(0);
     store_grid(&grid, table);
-    Ok(roots)
+    Ok(Head::of_grid(&grid, settings.max_level))
 }
 
 /// How many roots the board has. Refuses as build does, the room apart.

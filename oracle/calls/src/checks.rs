@@ -4,7 +4,7 @@ use crate::net::{Edge, Net};
 use crate::network::polygons_are_known;
 use crate::outcome::{require, Answer};
 use crate::sheets::Sheets;
-use crate::table::{to_grid, Slot};
+use crate::table::{to_grid, Head, Slot};
 use crate::well_formed::well_formed;
 use std::collections::{BTreeMap, BTreeSet};
 use std::ops::Bound::Excluded;
@@ -18,15 +18,10 @@ pub struct Hanging {
 }
 
 /// The original's check. Refuses 7.
-pub fn check_network_conforming(
-    table: &[i64],
-    count: usize,
-    max_level: u64,
-    net: &Net,
-) -> Answer<Option<Hanging>> {
-    require(well_formed(table, count, max_level), 7, 0)?;
+pub fn check_network_conforming(table: &[i64], head: Head, net: &Net) -> Answer<Option<Hanging>> {
+    require(well_formed(table, head), 7, 0)?;
     require(net.is_sound(), 7, 0)?;
-    let grid = to_grid(table, count, max_level);
+    let grid = to_grid(table, head);
     let verdict = grid.check_network_conforming(&net.to_original());
     Ok(verdict.err().map(|text| named_in(&text)))
 }
@@ -43,41 +38,38 @@ fn named_in(text: &str) -> Hanging {
 /// sides, the last one winning. Refuses 7.
 pub fn check_by_layer(
     table: &[i64],
-    count: usize,
-    max_level: u64,
+    head: Head,
     sheets: &Sheets,
     net: &Net,
 ) -> Answer<Option<Hanging>> {
-    first_by_layer(table, count, max_level, sheets, net, Graph::first_loose)
+    first_by_layer(table, head, sheets, net, Graph::first_loose)
 }
 
 /// The check of versions before 0.5.0, which looked at the middle of a side alone: so that the comparison
 /// can say how often the two differ.
 pub fn check_middles_by_layer(
     table: &[i64],
-    count: usize,
-    max_level: u64,
+    head: Head,
     sheets: &Sheets,
     net: &Net,
 ) -> Answer<Option<Hanging>> {
-    first_by_layer(table, count, max_level, sheets, net, Graph::loose_middle)
+    first_by_layer(table, head, sheets, net, Graph::loose_middle)
 }
 
 /// The first find of all sides of all leaves by id.
 fn first_by_layer(
     table: &[i64],
-    count: usize,
-    max_level: u64,
+    head: Head,
     sheets: &Sheets,
     net: &Net,
     find: fn(&Graph, &Side) -> Option<Hanging>,
 ) -> Answer<Option<Hanging>> {
-    require(well_formed(table, count, max_level), 7, 0)?;
+    require(well_formed(table, head), 7, 0)?;
     require(net.is_sound(), 7, 0)?;
     require(sheets.rows_are_equal(), 7, 0)?;
-    require(polygons_are_known(table, count, sheets), 7, 0)?;
+    require(polygons_are_known(table, head.count, sheets), 7, 0)?;
     let graph = Graph::of(net);
-    let leaves = (0..count).map(|id| Slot::load(table, id)).filter(Slot::is_leaf);
+    let leaves = (0..head.count).map(|id| Slot::load(table, id)).filter(Slot::is_leaf);
     Ok(leaves.flat_map(|leaf| sides_of(&leaf, sheets)).find_map(|side| find(&graph, &side)))
 }
 

@@ -2,7 +2,7 @@
 
 use crate::coarsest::coarsest;
 use crate::outcome::{require, Answer, Refusal};
-use crate::table::{store_grid, to_grid, WIDTH};
+use crate::table::{store_grid, to_grid, Head, WIDTH};
 use crate::well_formed::well_formed;
 use original::adaptive::AdaptiveGrid;
 
@@ -31,27 +31,35 @@ impl Allowed {
     }
 }
 
-/// The answer is the number of splits. Refuses 7, 6.
-pub fn balance(table: &mut [i64], count: usize, max_level: u64) -> Answer<u64> {
-    even(table, count, max_level, Allowed::One)
+/// What balance and conform answer: how many splits they made, and the new head.
+#[derive(Clone, Copy, Debug, PartialEq, Eq)]
+pub struct Evening {
+    pub splits: u64,
+    pub head: Head,
 }
 
-/// The answer is the number of splits. Refuses 7, 6.
-pub fn conform(table: &mut [i64], count: usize, max_level: u64) -> Answer<u64> {
-    even(table, count, max_level, Allowed::None)
+/// Refuses 7, 6.
+pub fn balance(table: &mut [i64], head: Head) -> Answer<Evening> {
+    even(table, head, Allowed::One)
+}
+
+/// Refuses 7, 6.
+pub fn conform(table: &mut [i64], head: Head) -> Answer<Evening> {
+    even(table, head, Allowed::None)
 }
 
 /// The room is judged by the coarsest splitting, as in docs/RULES.md: the original has no bound
 /// and might never come back. Where both can be had their sizes must agree.
-pub fn even(table: &mut [i64], count: usize, max_level: u64, allowed: Allowed) -> Answer<u64> {
-    require(well_formed(table, count, max_level), 7, 0)?;
+pub fn even(table: &mut [i64], head: Head, allowed: Allowed) -> Answer<Evening> {
+    require(well_formed(table, head), 7, 0)?;
     let no_room = Refusal { number: 6, place: 0 };
     let slots = table.len() / WIDTH;
-    let cells = coarsest(table, count, allowed.levels(), slots).ok_or(no_room)?.cells();
+    let cells = coarsest(table, head.count, allowed.levels(), slots).ok_or(no_room)?.cells();
 
-    let mut grid = to_grid(table, count, max_level);
+    let mut grid = to_grid(table, head);
     allowed.engine()(&mut grid);
     assert_eq!(grid.cells.len(), cells, "the original ends in the coarsest splitting");
     store_grid(&grid, table);
-    Ok((cells - count) as u64 / 4)
+    let splits = (cells - head.count) as u64 / 4;
+    Ok(Evening { splits, head: Head::of_grid(&grid, head.max_level) })
 }

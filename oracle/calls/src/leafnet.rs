@@ -2,13 +2,13 @@
 //! file.
 
 use crate::build::build;
-use crate::even::balance;
+use crate::even::{balance, Evening};
 use crate::limits::{LAYER_ENTRIES, POLYGONS, RING_POINTS};
 use crate::net::{Edge, Net, Node};
 use crate::network::{network, NetRoom};
 use crate::outcome::{require, Answer};
 use crate::record::{read_record, Board, RecordRoom};
-use crate::table::{leaf_order, refine, Slot, WIDTH};
+use crate::table::{leaf_count, leaf_order, refine, Head, Slot, WIDTH};
 use std::fmt::Write;
 
 pub const SLOTS: usize = 64;
@@ -20,7 +20,7 @@ pub const ROOM: RecordRoom =
 /// A board that was split and balanced, and its net.
 pub struct Meshed {
     table: Vec<i64>,
-    count: usize,
+    head: Head,
     pub splits: u64,
     leaves: Vec<u64>,
     pub net: Net,
@@ -43,22 +43,21 @@ pub fn mesh(input: &[u8]) -> Answer<Meshed> {
     require(input.len() <= LONGEST_INPUT, 6, 0)?;
     let board = read_record(input, &ROOM)?;
     let mut table = vec![0; SLOTS * WIDTH];
-    let mut count = build(&board.settings(), &board.outlines(), &mut table)? as usize;
+    let mut head = build(&board.settings(), &board.outlines(), &mut table)?;
     for &id in &board.splits {
-        count = refine(&mut table, count, board.max_level, id as usize)? as usize;
+        head = refine(&mut table, head, id as usize)?;
     }
-    let splits = balance(&mut table, count, board.max_level)?;
-    count += 4 * splits as usize;
-    net_of(&board, table, count, splits)
+    let Evening { splits, head } = balance(&mut table, head)?;
+    net_of(&board, table, head, splits)
 }
 
-fn net_of(board: &Board, table: Vec<i64>, count: usize, splits: u64) -> Answer<Meshed> {
+fn net_of(board: &Board, table: Vec<i64>, head: Head, splits: u64) -> Answer<Meshed> {
     let mut leaves = vec![0; SLOTS];
-    let number = leaf_order(&table, count, board.max_level, &mut leaves)?;
+    let number = leaf_order(&table, head, &mut leaves)?;
     leaves.truncate(number as usize);
     let room = NetRoom::for_leaves(SLOTS);
-    let net = network(&table, count, board.max_level, &board.sheets(), &room)?;
-    Ok(Meshed { table, count, splits, leaves, net })
+    let net = network(&table, head, &board.sheets(), &room)?;
+    Ok(Meshed { table, head, splits, leaves, net })
 }
 
 impl Meshed {
@@ -70,7 +69,7 @@ impl Meshed {
 
     fn put(&self, text: &mut String) -> std::fmt::Result {
         let (nodes, edges) = (self.net.nodes.len(), self.net.edges.len());
-        let (cells, leaves, splits) = (self.count, self.leaves.len(), self.splits);
+        let (cells, leaves, splits) = (self.head.count, leaf_count(self.head), self.splits);
         writeln!(
             text,
             "cells {cells} leaves {leaves} nodes {nodes} edges {edges} splits {splits}"

@@ -6,7 +6,8 @@ use crate::links::Links;
 use crate::net::{Edge, Net};
 use crate::outcome::{require, Answer};
 use crate::sheets::{LayerNames, Sheets};
-use crate::table::{leaf_count, to_grid, Slot};
+use crate::table::{leaf_count, to_grid, Head, Slot};
+use crate::well_formed::well_formed;
 use original::adaptive::build_network;
 use original::sheet::SheetPolygon;
 
@@ -44,14 +45,8 @@ impl NetRoom {
 }
 
 /// Refuses 7, 3 (the polygon count, then r_sheet, lowest polygon first), 6.
-pub fn network(
-    table: &[i64],
-    count: usize,
-    max_level: u64,
-    sheets: &Sheets,
-    room: &NetRoom,
-) -> Answer<Net> {
-    linked_network(table, count, max_level, sheets, &Links::default(), room).map(|made| made.net)
+pub fn network(table: &[i64], head: Head, sheets: &Sheets, room: &NetRoom) -> Answer<Net> {
+    linked_network(table, head, sheets, &Links::default(), room).map(|made| made.net)
 }
 
 /// A net, of whose edges the last ones are links.
@@ -64,75 +59,56 @@ pub struct Linked {
 /// Refuses 7, 3 (as `network`, then a link's value, place 0), 6.
 pub fn linked_network(
     table: &[i64],
-    count: usize,
-    max_level: u64,
+    head: Head,
     sheets: &Sheets,
     links: &Links,
     room: &NetRoom,
 ) -> Answer<Linked> {
-    let leaves = judged(table, count, max_level, sheets, links)?;
+    let leaves = judged(table, head, sheets, links)?;
     require(room.holds(leaves), 6, 0)?;
-    let made = made(table, count, max_level, sheets, links);
+    let made = made(table, head, sheets, links);
     require(room.holds_links(leaves, made.links), 6, 0)?;
     Ok(made)
 }
 
 /// The same in any room.
-pub fn roomy_network(
-    table: &[i64],
-    count: usize,
-    max_level: u64,
-    sheets: &Sheets,
-    links: &Links,
-) -> Answer<Linked> {
-    judged(table, count, max_level, sheets, links)?;
-    Ok(made(table, count, max_level, sheets, links))
+pub fn roomy_network(table: &[i64], head: Head, sheets: &Sheets, links: &Links) -> Answer<Linked> {
+    judged(table, head, sheets, links)?;
+    Ok(made(table, head, sheets, links))
 }
 
 /// How many edge rows the network asks for, read by the words of docs/RULES.md alone: no link is made.
-pub fn edge_rows(
-    table: &[i64],
-    count: usize,
-    max_level: u64,
-    sheets: &Sheets,
-    links: &Links,
-) -> Answer<u64> {
-    let leaves = judged(table, count, max_level, sheets, links)?;
-    let net = made(table, count, max_level, sheets, &Links::default()).net;
+pub fn edge_rows(table: &[i64], head: Head, sheets: &Sheets, links: &Links) -> Answer<u64> {
+    let leaves = judged(table, head, sheets, links)?;
+    let net = made(table, head, sheets, &Links::default()).net;
     let corners: Vec<_> = net.cells.iter().map(|cell| cell.corners).collect();
-    let by_polygon = leaves_by_polygon(table, count, sheets.len());
+    let by_polygon = leaves_by_polygon(table, head.count, sheets.len());
     let number = Reading::new(&net, &corners, &by_polygon).count(links);
     Ok((8 * leaves as u128 + number).min(u128::from(u64::MAX)) as u64)
 }
 
 /// Refuses all but 6; the number of leaves.
-fn judged(
-    table: &[i64],
-    count: usize,
-    max_level: u64,
-    sheets: &Sheets,
-    links: &Links,
-) -> Answer<usize> {
-    let leaves = leaf_count(table, count, max_level)? as usize;
+fn judged(table: &[i64], head: Head, sheets: &Sheets, links: &Links) -> Answer<usize> {
+    require(well_formed(table, head), 7, 0)?;
     require(sheets.rows_are_equal(), 7, 0)?;
-    require(polygons_are_known(table, count, sheets), 7, 0)?;
+    require(polygons_are_known(table, head.count, sheets), 7, 0)?;
     require(sheets.len() <= POLYGONS, 3, 0)?;
     for (polygon, &ohms) in sheets.r_sheet.iter().enumerate() {
         require(r_sheet_in_range(ohms), 3, polygon as u64)?;
     }
     require(links.in_range(), 3, 0)?;
-    Ok(leaves)
+    Ok(leaf_count(head) as usize)
 }
 
 /// The original's net of what was judged. Its links must be those that the words of docs/RULES.md make.
-fn made(table: &[i64], count: usize, max_level: u64, sheets: &Sheets, links: &Links) -> Linked {
+fn made(table: &[i64], head: Head, sheets: &Sheets, links: &Links) -> Linked {
     let names = match links.is_empty() {
         true => LayerNames::default(),
         false => LayerNames::with_channels_on(links.channel_layer),
     };
     let polygons: Vec<SheetPolygon> =
         (0..sheets.len()).map(|polygon| sheets.named(polygon, &[], names)).collect();
-    let grid = to_grid(table, count, max_level);
+    let grid = to_grid(table, head);
     let net = build_network(
         &grid,
         &polygons,
@@ -146,7 +122,7 @@ fn made(table: &[i64], count: usize, max_level: u64, sheets: &Sheets, links: &Li
         return Linked { net, links: 0 };
     }
     let corners: Vec<_> = net.cells.iter().map(|cell| cell.corners).collect();
-    let by_polygon = leaves_by_polygon(table, count, sheets.len());
+    let by_polygon = leaves_by_polygon(table, head.count, sheets.len());
     let read = Reading::new(&net, &corners, &by_polygon).links(links);
     let mesh = net.edges.len() - read.len();
     let same = |(a, b): (&Edge, &Edge)| {

@@ -1,4 +1,4 @@
-//! The lent table: leaf count, leaf lists, refine.
+//! The lent table and its head: leaf count, leaf lists, refine.
 
 use crate::outcome::{require, Answer};
 use crate::ticks::{metres, ticks};
@@ -64,31 +64,44 @@ impl Slot {
     }
 }
 
-/// Refuses 7.
-pub fn leaf_count(table: &[i64], count: usize, max_level: u64) -> Answer<u64> {
-    require(well_formed(table, count, max_level), 7, 0)?;
-    Ok(to_grid(table, count, max_level).leaf_count() as u64)
+/// What stands beside a table's row: how many cells, how many of them are leaves, and the deepest level.
+#[derive(Clone, Copy, Debug, Default, PartialEq, Eq)]
+pub struct Head {
+    pub count: usize,
+    pub leaves: usize,
+    pub max_level: u64,
+}
+
+impl Head {
+    /// Of the original's cells: the leaves are as many as it says.
+    pub fn of_grid(grid: &AdaptiveGrid, max_level: u64) -> Self {
+        Head { count: grid.cells.len(), leaves: grid.leaf_count(), max_level }
+    }
+}
+
+/// The number that the head has, whatever it is: no table is looked at, and nothing is refused.
+pub fn leaf_count(head: Head) -> u64 {
+    head.leaves as u64
 }
 
 /// Leaves by id into `out`; the answer is how many. Refuses 7, 6.
-pub fn leaves(table: &[i64], count: usize, max_level: u64, out: &mut [u64]) -> Answer<u64> {
-    leaf_list(table, count, max_level, out, AdaptiveGrid::leaves)
+pub fn leaves(table: &[i64], head: Head, out: &mut [u64]) -> Answer<u64> {
+    leaf_list(table, head, out, AdaptiveGrid::leaves)
 }
 
 /// Leaves by polygon, then by id. Refuses 7, 6.
-pub fn leaf_order(table: &[i64], count: usize, max_level: u64, out: &mut [u64]) -> Answer<u64> {
-    leaf_list(table, count, max_level, out, AdaptiveGrid::leaf_order)
+pub fn leaf_order(table: &[i64], head: Head, out: &mut [u64]) -> Answer<u64> {
+    leaf_list(table, head, out, AdaptiveGrid::leaf_order)
 }
 
 fn leaf_list(
     table: &[i64],
-    count: usize,
-    max_level: u64,
+    head: Head,
     out: &mut [u64],
     list: fn(&AdaptiveGrid) -> Vec<u32>,
 ) -> Answer<u64> {
-    require(well_formed(table, count, max_level), 7, 0)?;
-    let ids = list(&to_grid(table, count, max_level));
+    require(well_formed(table, head), 7, 0)?;
+    let ids = list(&to_grid(table, head));
     require(ids.len() <= out.len(), 6, 0)?;
     for (place, id) in out.iter_mut().zip(&ids) {
         *place = u64::from(*id);
@@ -96,23 +109,24 @@ fn leaf_list(
     Ok(ids.len() as u64)
 }
 
-/// Splits one leaf; the answer is the new count. Refuses 7, 8, 9, 10, 6.
-pub fn refine(table: &mut [i64], count: usize, max_level: u64, id: usize) -> Answer<u64> {
-    require(well_formed(table, count, max_level), 7, 0)?;
-    require(id < count, 8, id as u64)?;
+/// Splits one leaf; the answer is the new head. Refuses 7, 8, 9, 10, 6.
+pub fn refine(table: &mut [i64], head: Head, id: usize) -> Answer<Head> {
+    require(well_formed(table, head), 7, 0)?;
+    require(id < head.count, 8, id as u64)?;
     let cell = Slot::load(table, id);
     require(cell.is_leaf(), 9, id as u64)?;
-    require(cell.level < max_level as i64, 10, id as u64)?;
-    require(table.len() / WIDTH - count >= 4, 6, 0)?;
+    require(cell.level < head.max_level as i64, 10, id as u64)?;
+    require(table.len() / WIDTH - head.count >= 4, 6, 0)?;
 
-    let mut grid = to_grid(table, count, max_level);
+    let mut grid = to_grid(table, head);
     assert!(grid.refine(id as u32), "the original splits {id} too");
     store_grid(&grid, table);
-    Ok(grid.cells.len() as u64)
+    Ok(Head::of_grid(&grid, head.max_level))
 }
 
 /// A well-formed table as the original holds it.
-pub fn to_grid(table: &[i64], count: usize, max_level: u64) -> AdaptiveGrid {
+pub fn to_grid(table: &[i64], head: Head) -> AdaptiveGrid {
+    let Head { count, max_level, .. } = head;
     let cells: Vec<QuadCell> = (0..count).map(|id| to_cell(&Slot::load(table, id))).collect();
     let no_cell = original::adaptive::NO_CELL;
     let roots = (0..count as u32).filter(|&id| cells[id as usize].parent == no_cell);

@@ -1,14 +1,22 @@
 //! A well-formed table, clause by clause as docs/RULES.md has it.
 
 use crate::limits::{coordinate_in_range, POLYGONS, SLOTS, WIDEST_LEVEL};
-use crate::table::{Slot, NO_CELL, WIDTH};
+use crate::table::{Head, Slot, NO_CELL, WIDTH};
 
-pub fn well_formed(table: &[i64], count: usize, max_level: u64) -> bool {
+pub fn well_formed(table: &[i64], head: Head) -> bool {
+    let Head { count, leaves, max_level } = head;
     max_level <= WIDEST_LEVEL
         && sound_shape(table)
         && count <= table.len() / WIDTH
         && table[count * WIDTH..].iter().all(|&number| number == 0)
         && (0..count).all(|id| sound_cell(table, count, max_level, id))
+        && childless(table, count) == leaves
+}
+
+/// How many of the first slots name no child.
+pub fn childless(table: &[i64], count: usize) -> usize {
+    let slots = table.chunks_exact(WIDTH).take(count);
+    slots.filter(|numbers| numbers[6] == NO_CELL).count()
 }
 
 /// Length a multiple of 8 and slots in range: all that build asks of its room.

@@ -4,10 +4,10 @@ mod common;
 
 use calls::build::cells_along;
 use calls::contact::contact;
-use calls::even::{balance, conform};
+use calls::even::{balance, conform, Evening};
 use calls::power::cell_power;
 use calls::strips::{strips, strips_by_the_words};
-use calls::table::leaf_count;
+use calls::table::{leaves, Head};
 use common::{board, mesh, net_of, p2, refused, square, Table};
 use original::adaptive::AdaptiveGrid;
 use original::sheet::SheetPolygon;
@@ -17,7 +17,8 @@ use std::collections::BTreeMap;
 fn p1_balance_of_an_empty_table_answers_0() {
     for slots in [0, 1, 16_384] {
         let mut table = Table::new(3, slots, &[], &[]);
-        assert_eq!(balance(&mut table.row, 0, 3), Ok(0));
+        let head = table.head;
+        assert_eq!(balance(&mut table.row, head), Ok(Evening { splits: 0, head }));
         assert!(table.row.iter().all(|&number| number == 0));
     }
 }
@@ -25,10 +26,11 @@ fn p1_balance_of_an_empty_table_answers_0() {
 #[test]
 fn p2_balance_splits_only_1() {
     let mut table = p2(20);
-    assert_eq!(table.count, 10);
+    assert_eq!((table.head.count, table.head.leaves), (10, 8));
     let before = table.clone();
-    assert_eq!(balance(&mut table.row, 10, 2), Ok(1));
-    assert_eq!(leaf_count(&table.row, 14, 2), Ok(11));
+    let head = Head { count: 14, leaves: 11, max_level: 2 };
+    assert_eq!(balance(&mut table.row, table.head), Ok(Evening { splits: 1, head }));
+    assert_eq!(leaves(&table.row, head, &mut [0; 11]), Ok(11));
     assert_eq!(table.slot(1).first, 10);
     let others = (0..10).filter(|&id| id != 1);
     assert!(others.into_iter().all(|id| table.slot(id) == before.slot(id)));
@@ -39,20 +41,21 @@ fn p2_balance_splits_only_1() {
 #[test]
 fn p3_conform_makes_8_splits() {
     let mut table = p2(42);
-    assert_eq!(conform(&mut table.row, 10, 2), Ok(8));
-    assert_eq!(leaf_count(&table.row, 42, 2), Ok(32));
+    let head = Head { count: 42, leaves: 32, max_level: 2 };
+    assert_eq!(conform(&mut table.row, table.head), Ok(Evening { splits: 8, head }));
+    assert_eq!(leaves(&table.row, head, &mut [0; 32]), Ok(32));
     let mut short = p2(41);
-    assert_eq!(conform(&mut short.row, 10, 2), refused(6, 0));
+    assert_eq!(conform(&mut short.row, short.head), refused(6, 0));
 }
 
 #[test]
 fn p4_13_slots_are_too_few_and_14_are_enough() {
     let mut short = p2(13);
     let before = short.row.clone();
-    assert_eq!(balance(&mut short.row, 10, 2), refused(6, 0));
+    assert_eq!(balance(&mut short.row, short.head), refused(6, 0));
     assert_eq!(short.row, before);
     let mut exact = p2(14);
-    assert_eq!(balance(&mut exact.row, 10, 2), Ok(1));
+    assert_eq!(balance(&mut exact.row, exact.head).map(|even| even.splits), Ok(1));
 }
 
 #[test]

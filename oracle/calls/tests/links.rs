@@ -4,7 +4,7 @@
 use calls::links::{Channel, Contact, Footprint, Links, Terminal, Via};
 use calls::network::{edge_rows, linked_network, network, NetRoom};
 use calls::sheets::Sheets;
-use calls::table::{Slot, WIDTH};
+use calls::table::{Head, Slot, WIDTH};
 use calls::{Answer, Refusal};
 
 type Ends = ([usize; 2], f64);
@@ -24,10 +24,15 @@ fn table(roots: &[([i64; 4], i64)]) -> Vec<i64> {
     row
 }
 
+/// Of roots alone.
+fn head(count: usize, max_level: u64) -> Head {
+    Head { count, leaves: count, max_level }
+}
+
 /// The links of the two squares, in a room with so many edge rows.
 fn links_in(links: &Links, edges: usize) -> Answer<Vec<Ends>> {
     let room = NetRoom { edges, ..NetRoom::for_leaves(2) };
-    let made = linked_network(&two_squares(), 2, 1, &TWO, links, &room)?;
+    let made = linked_network(&two_squares(), head(2, 1), &TWO, links, &room)?;
     let (mesh, own) = made.net.edges.split_at(made.net.edges.len() - made.links);
     assert!(mesh.len() == 8 && mesh.iter().all(|edge| edge.conductance == 0.5));
     Ok(own.iter().map(|edge| (edge.ends(), edge.conductance)).collect())
@@ -35,7 +40,7 @@ fn links_in(links: &Links, edges: usize) -> Answer<Vec<Ends>> {
 
 /// With exactly the rows they need; in one less they are refused.
 fn links_of(links: Links) -> Vec<Ends> {
-    let rows = edge_rows(&two_squares(), 2, 1, &TWO, &links).expect("in range") as usize;
+    let rows = edge_rows(&two_squares(), head(2, 1), &TWO, &links).expect("in range") as usize;
     assert_eq!(links_in(&links, rows - 1), refused(6, 0));
     let own = links_in(&links, rows).expect("room");
     assert_eq!(rows, 16 + own.len());
@@ -89,7 +94,7 @@ fn rounded_squares_choose_the_node() {
     let row = table(&[([0, 0, 2, 2], 0), ([a, 2, a + 2, 4], 1), ([a, 0, a + 2, 2], 1)]);
     let sheets = Sheets { layer: &[1, 1], component: &[0, 0], r_sheet: &[1.0, 1.0] };
     let room = NetRoom::for_leaves(3).with_links(1);
-    let made = linked_network(&row, 3, 0, &sheets, &contact(0, 1), &room).expect("a net");
+    let made = linked_network(&row, head(3, 0), &sheets, &contact(0, 1), &room).expect("a net");
     let link = made.net.edges.last().expect("a link");
     assert_eq!((link.ends(), link.conductance), ([0, 4], 1.0));
     assert_eq!(made.net.nodes[4].place(), [a, 2]);
@@ -98,11 +103,12 @@ fn rounded_squares_choose_the_node() {
 #[test]
 fn without_links_the_net_is_the_leaves_alone() {
     let room = NetRoom::for_leaves(2);
-    let alone = network(&two_squares(), 2, 1, &TWO, &room).expect("a net");
+    let alone = network(&two_squares(), head(2, 1), &TWO, &room).expect("a net");
     let empty = Links { channel_layer: 1, ..Links::default() };
-    let linked = linked_network(&two_squares(), 2, 1, &TWO, &empty, &room).expect("a net");
+    let linked = linked_network(&two_squares(), head(2, 1), &TWO, &empty, &room).expect("a net");
     assert_eq!((&alone, linked.links), (&linked.net, 0));
-    let made = linked_network(&two_squares(), 2, 1, &TWO, &contact(0, 1), &room.with_links(1));
+    let made =
+        linked_network(&two_squares(), head(2, 1), &TWO, &contact(0, 1), &room.with_links(1));
     let net = made.expect("room").net;
     assert_eq!((net.nodes, net.cells), (alone.nodes, alone.cells));
     assert_eq!(net.edges[..8], alone.edges);
@@ -116,14 +122,14 @@ fn refusals_in_their_order() {
     let none = NetRoom::for_leaves(0);
     let row = two_squares();
     let of = |sheets: &Sheets, links: &Links| {
-        linked_network(&row, 2, 1, sheets, links, &none).map(|made| made.links)
+        linked_network(&row, head(2, 1), sheets, links, &none).map(|made| made.links)
     };
     assert_eq!(of(&unequal, &bad_via()), refused(7, 0));
     assert_eq!(of(&sheets, &bad_via()), refused(3, 1));
     assert_eq!(of(&TWO, &bad_via()), refused(3, 0));
     assert_eq!(of(&TWO, &contact(0, 1)), refused(6, 0));
-    assert_eq!(edge_rows(&row, 2, 1, &sheets, &bad_via()), refused(3, 1));
-    assert_eq!(edge_rows(&row, 2, 1, &TWO, &bad_via()), refused(3, 0));
+    assert_eq!(edge_rows(&row, head(2, 1), &sheets, &bad_via()), refused(3, 1));
+    assert_eq!(edge_rows(&row, head(2, 1), &TWO, &bad_via()), refused(3, 0));
     for half in [-1, (1 << 36) + 1, i64::MIN] {
         assert_eq!(of(&TWO, &via([1, 2], [0, 0], [half, 0], 1.0)), refused(3, 0));
         assert_eq!(of(&TWO, &via([1, 2], [0, 0], [0, half], 1.0)), refused(3, 0));

@@ -3,10 +3,10 @@
 mod common;
 
 use calls::checks::{check_by_layer, check_network_conforming};
-use calls::even::balance;
+use calls::even::{balance, Evening};
 use calls::net::{Edge, Net, Node};
 use calls::strips::{strips, strips_by_the_words};
-use calls::table::{leaf_order, refine, Slot};
+use calls::table::{leaf_order, refine, Head, Slot};
 use common::{board, mesh, net_of, square, Table};
 
 /// Roots may overlap: a cell is split because of a leaf that its own root never touched.
@@ -14,13 +14,14 @@ use common::{board, mesh, net_of, square, Table};
 fn overlapping_roots_ask_for_splits_across_roots() {
     let roots = [[0, 0, 16, 32], [0, 0, 16, 16]];
     let mut table = Table::new(3, 40, &roots, &[1, 4, 8]);
-    assert_eq!(balance(&mut table.row, table.count, 3), Ok(0));
+    assert_eq!(balance(&mut table.row, table.head).map(|even| even.splits), Ok(0));
 
     table.split(0);
     let child = (14..18).find(|&id| table.slot(id).rect() == [0, 16, 8, 32]);
     assert_eq!(child, Some(16));
-    let count = table.count;
-    assert_eq!(balance(&mut table.row, count, 3), Ok(1));
+    let Head { count, leaves, max_level } = table.head;
+    let head = Head { count: count + 4, leaves: leaves + 3, max_level };
+    assert_eq!(balance(&mut table.row, table.head), Ok(Evening { splits: 1, head }));
     assert_eq!(table.slot(16).first, count as i64);
 }
 
@@ -34,7 +35,8 @@ fn leaf_order_is_a_sort() {
         Slot::root([0, 0, 4, 8], polygon).store(&mut table.row, id);
     }
     let mut out = [0; 7];
-    assert_eq!(leaf_order(&table.row, 8, 1, &mut out), Ok(7));
+    let head = Head { count: 8, leaves: 7, max_level: 1 };
+    assert_eq!(leaf_order(&table.row, head, &mut out), Ok(7));
     assert_eq!(out, [7, 5, 1, 2, 3, 4, 6]);
 }
 
@@ -139,10 +141,10 @@ fn the_originals_check_mixes_layers_and_the_by_layer_check_does_not() {
     board.splits.push(0);
     let table = mesh(&board, 6);
     let net = net_of(&board, &table);
-    let (row, count) = (&table.row, table.count);
-    let named = check_network_conforming(row, count, 1, &net).expect("sound");
+    let (row, head) = (&table.row, table.head);
+    let named = check_network_conforming(row, head, &net).expect("sound");
     assert!(named.is_some());
-    assert_eq!(check_by_layer(row, count, 1, &board.sheets(), &net), Ok(None));
+    assert_eq!(check_by_layer(row, head, &board.sheets(), &net), Ok(None));
 }
 
 /// A ring whose one band has the given crossings, in pairs of up and down strokes.
@@ -194,8 +196,8 @@ fn a_ring_that_crosses_itself_goes_by_even_and_odd() {
 fn refine_judges_the_id_before_the_room() {
     let mut table = Table::new(1, 5, &[[0, 0, 4, 4]], &[0]);
     let before = table.row.clone();
-    assert_eq!(refine(&mut table.row, 5, 1, 5), common::refused(8, 5));
-    assert_eq!(refine(&mut table.row, 5, 1, 0), common::refused(9, 0));
-    assert_eq!(refine(&mut table.row, 5, 1, 4), common::refused(10, 4));
+    assert_eq!(refine(&mut table.row, table.head, 5), common::refused(8, 5));
+    assert_eq!(refine(&mut table.row, table.head, 0), common::refused(9, 0));
+    assert_eq!(refine(&mut table.row, table.head, 4), common::refused(10, 4));
     assert_eq!(table.row, before);
 }

@@ -12,7 +12,7 @@ use calls::power::cell_power;
 use calls::record::Board;
 use calls::sheets::Sheets;
 use calls::strips::strips;
-use calls::table::{leaf_order, leaves, refine, WIDTH};
+use calls::table::{leaf_order, leaves, refine, Head, WIDTH};
 use common::{board, mesh, net_of, p2, refused, square, Table};
 
 const LIMIT: i64 = 1 << 36;
@@ -36,36 +36,42 @@ fn leaf_lists_refuse_7_then_6() {
     let mut table = p2(10);
     for list in [leaves, leaf_order] {
         let mut out = [7; 9];
-        assert_eq!(list(&table.row, 10, 2, &mut out[..7]), refused(6, 0));
+        assert_eq!(list(&table.row, table.head, &mut out[..7]), refused(6, 0));
         assert_eq!(out, [7; 9]);
-        assert_eq!(list(&table.row, 10, 2, &mut out), Ok(8));
+        assert_eq!(list(&table.row, table.head, &mut out), Ok(8));
         assert_eq!(out, [1, 2, 4, 5, 6, 7, 8, 9, 7]);
     }
     table.row[0] = 1;
-    assert_eq!(leaves(&table.row, 10, 2, &mut []), refused(7, 0));
-    assert_eq!(leaf_order(&table.row, 10, 2, &mut []), refused(7, 0));
+    assert_eq!(leaves(&table.row, table.head, &mut []), refused(7, 0));
+    assert_eq!(leaf_order(&table.row, table.head, &mut []), refused(7, 0));
 }
 
 #[test]
 fn refine_refuses_7_8_9_10_6() {
     let mut table = p2(10);
-    assert_eq!(refine(&mut table.row, 10, 2, 1), refused(6, 0));
-    assert_eq!(refine(&mut table.row, 10, 2, 6), refused(10, 6));
-    assert_eq!(refine(&mut table.row, 10, 2, 3), refused(9, 3));
-    assert_eq!(refine(&mut table.row, 10, 2, 10), refused(8, 10));
-    assert_eq!(refine(&mut table.row, 10, 2, usize::MAX), refused(8, u64::MAX));
+    assert_eq!(refine(&mut table.row, table.head, 1), refused(6, 0));
+    assert_eq!(refine(&mut table.row, table.head, 6), refused(10, 6));
+    assert_eq!(refine(&mut table.row, table.head, 3), refused(9, 3));
+    assert_eq!(refine(&mut table.row, table.head, 10), refused(8, 10));
+    assert_eq!(refine(&mut table.row, table.head, usize::MAX), refused(8, u64::MAX));
+    for leaves in [0, 7, 9, 10, usize::MAX] {
+        let stale = Head { leaves, ..table.head };
+        for id in [0, 1, 3, 6, 10] {
+            assert_eq!(refine(&mut table.row, stale, id), refused(7, 0));
+        }
+    }
     table.row[0] = 1;
-    assert_eq!(refine(&mut table.row, 10, 2, 10), refused(7, 0));
+    assert_eq!(refine(&mut table.row, table.head, 10), refused(7, 0));
 }
 
 #[test]
 fn balance_and_conform_refuse_7_then_6() {
     for even in [balance, conform] {
         let mut table = p2(10);
-        assert_eq!(even(&mut table.row, 10, 2), refused(6, 0));
+        assert_eq!(even(&mut table.row, table.head), refused(6, 0));
         table.row[7] = 256;
         let before = table.row.clone();
-        assert_eq!(even(&mut table.row, 10, 2), refused(7, 0));
+        assert_eq!(even(&mut table.row, table.head), refused(7, 0));
         assert_eq!(table.row, before);
     }
 }
@@ -113,7 +119,10 @@ fn build_in(board: &Board, length: usize) -> calls::Answer<u64> {
     if answer.is_err() {
         assert_eq!(row, vec![7; length], "a refused build writes nothing");
     }
-    answer
+    answer.map(|Head { count, leaves, .. }| {
+        assert_eq!(count, leaves, "roots are leaves");
+        count as u64
+    })
 }
 
 #[test]
@@ -223,7 +232,7 @@ fn two_polygons() -> (Board, Table) {
 }
 
 fn network_with(table: &Table, sheets: &Sheets, room: &NetRoom) -> calls::Answer<Net> {
-    network(&table.row, table.count, table.max_level, sheets, room)
+    network(&table.row, table.head, sheets, room)
 }
 
 #[test]
@@ -303,11 +312,11 @@ fn power_and_the_checks_refuse_a_bad_net() {
     let (board, table, net) = sound_net();
     assert_eq!(net.nodes.len(), 6);
     let ask = |net: &Net| {
-        let (row, count, max_level) = (&table.row, table.count, table.max_level);
+        let (row, head) = (&table.row, table.head);
         (
             cell_power(net, &[0.0; 6], &mut [0.0; 3]),
-            check_network_conforming(row, count, max_level, net),
-            check_by_layer(row, count, max_level, &board.sheets(), net),
+            check_network_conforming(row, head, net),
+            check_by_layer(row, head, &board.sheets(), net),
         )
     };
     assert_eq!(ask(&net), (Ok(2), Ok(None), Ok(None)));
@@ -322,11 +331,11 @@ fn the_checks_refuse_a_bad_table_and_by_layer_an_unknown_polygon() {
     let one = Sheets { layer: &[1], component: &[0], r_sheet: &[1.0] };
     let unequal = Sheets { r_sheet: &[1.0], ..board.sheets() };
     for sheets in [one, unequal] {
-        assert_eq!(check_by_layer(&table.row, 2, 1, &sheets, &net), refused(7, 0));
+        assert_eq!(check_by_layer(&table.row, table.head, &sheets, &net), refused(7, 0));
     }
     table.row[0] = 1;
-    assert_eq!(check_network_conforming(&table.row, 2, 1, &net), refused(7, 0));
-    assert_eq!(check_by_layer(&table.row, 2, 1, &board.sheets(), &net), refused(7, 0));
+    assert_eq!(check_network_conforming(&table.row, table.head, &net), refused(7, 0));
+    assert_eq!(check_by_layer(&table.row, table.head, &board.sheets(), &net), refused(7, 0));
 }
 
 #[test]
@@ -359,6 +368,7 @@ fn an_empty_board_has_no_roots() {
     let sheets = Sheets { layer: &[], component: &[], r_sheet: &[] };
     let outlines = Outlines { sheets, point_count: &[], points: &[] };
     let mut row = vec![7; 16];
-    assert_eq!(build(&settings, &outlines, &mut row), Ok(0));
+    let head = Head { count: 0, leaves: 0, max_level: 12 };
+    assert_eq!(build(&settings, &outlines, &mut row), Ok(head));
     assert_eq!(row, vec![0; 16]);
 }

@@ -2,14 +2,16 @@
 
 mod common;
 
-use calls::table::{leaf_count, Slot, NO_CELL, WIDTH};
+use calls::table::{leaf_count, leaves, Slot, NO_CELL, WIDTH};
 use calls::well_formed::well_formed;
+use calls::Refusal;
 use common::{p2, Table};
 
 fn is_well_formed(table: &Table) -> bool {
-    let by_definition = well_formed(&table.row, table.count, table.max_level);
-    let by_call = leaf_count(&table.row, table.count, table.max_level).is_ok();
-    assert_eq!(by_definition, by_call);
+    let by_definition = well_formed(&table.row, table.head);
+    let by_call = leaves(&table.row, table.head, &mut [0; 16]);
+    assert_eq!(by_definition, by_call != Err(Refusal { number: 7, place: 0 }));
+    assert_eq!(leaf_count(table.head), table.head.leaves as u64);
     by_definition
 }
 
@@ -18,6 +20,8 @@ fn changed(change: impl Fn(&mut Table)) -> bool {
     let mut table = p2(12);
     assert!(is_well_formed(&table));
     change(&mut table);
+    // So that nothing but the change can break it.
+    table.recount();
     is_well_formed(&table)
 }
 
@@ -33,7 +37,7 @@ fn with_slot(id: usize, change: impl Fn(&mut Slot)) -> bool {
 #[test]
 fn max_level_is_in_range() {
     for level in [13, 255, 256 + 2, 1 << 32 | 2, 1 << 63, u64::MAX] {
-        assert!(!changed(|table| table.max_level = level), "{level}");
+        assert!(!changed(|table| table.head.max_level = level), "{level}");
     }
     let empty = |max_level| Table::new(max_level, 0, &[], &[]);
     assert!(is_well_formed(&empty(0)) && is_well_formed(&empty(12)));
@@ -54,7 +58,7 @@ fn length_is_a_multiple_of_8_and_slots_are_in_range() {
 #[test]
 fn count_is_at_most_the_slots() {
     for count in [13, 1 << 32, usize::MAX / 8 + 1, usize::MAX] {
-        assert!(!changed(|table| table.count = count), "{count}");
+        assert!(!changed(|table| table.head.count = count), "{count}");
     }
     assert!(is_well_formed(&p2(10)));
 }
@@ -70,7 +74,7 @@ fn slots_past_the_count_are_zero() {
 
 #[test]
 fn a_slot_of_zeros_is_no_cell() {
-    assert!(!changed(|table| table.count = 11));
+    assert!(!changed(|table| table.head.count = 11));
 }
 
 #[test]
@@ -107,10 +111,10 @@ fn a_roots_sides_are_positive_multiples() {
 
 #[test]
 fn no_level_is_above_max_level() {
-    assert!(!changed(|table| table.max_level = 1));
-    assert!(changed(|table| table.max_level = 2));
+    assert!(!changed(|table| table.head.max_level = 1));
+    assert!(changed(|table| table.head.max_level = 2));
     // A higher max_level asks for wider roots.
-    assert!(!changed(|table| table.max_level = 3));
+    assert!(!changed(|table| table.head.max_level = 3));
 }
 
 #[test]
@@ -122,7 +126,7 @@ fn children_stand_above_their_parent_and_below_the_count() {
     for first in [0, 1, 2, 3, 4, 6, 10, 14, NO_CELL - 1, NO_CELL + 1] {
         assert!(!with_slot(1, |cell| cell.first = first), "{first}");
     }
-    assert!(!changed(|table| table.count = 9));
+    assert!(!changed(|table| table.head.count = 9));
 }
 
 #[test]
@@ -174,7 +178,7 @@ fn each_cell_that_is_no_root_is_one_of_its_parents_four() {
         let orphan = changed(|table| {
             let slot = Slot { parent, ..table.slot(2) };
             slot.store(&mut table.row, 10);
-            table.count = 11;
+            table.head.count = 11;
         });
         assert!(!orphan, "{parent}");
     }
@@ -194,6 +198,40 @@ fn polygon_indices_are_below_256() {
 fn roots_need_not_stand_first() {
     assert!(changed(|table| {
         Slot::root([1, 1, 9, 9], 3).store(&mut table.row, 10);
-        table.count = 11;
+        table.head.count = 11;
     }));
+}
+
+/// The number of leaves is that of the cells without a child, and every other is refused.
+#[test]
+fn leaves_are_as_many_as_cells_without_a_child() {
+    let roots = [[0, 0, 8, 8], [8, 0, 16, 8]];
+    for (table, leaves) in [
+        (Table::new(2, 0, &[], &[]), 0),
+        (Table::new(2, 16, &[], &[]), 0),
+        (Table::new(2, 2, &roots, &[]), 2),
+        (Table::new(2, 6, &roots, &[0]), 5),
+        (p2(10), 8),
+        (p2(16), 8),
+    ] {
+        let far = [u32::MAX as usize, 1 << 32 | leaves, 1 << 63, usize::MAX];
+        let near = [leaves.wrapping_sub(1), leaves, leaves + 1, leaves + 3, table.head.count];
+        for other in near.into_iter().chain(far).chain(0..16) {
+            let mut with = table.clone();
+            with.head.leaves = other;
+            assert_eq!(is_well_formed(&with), other == leaves, "{other}");
+        }
+    }
+}
+
+/// Four times the leaves is three times the cells and the roots, whatever was split.
+#[test]
+fn a_split_is_four_cells_and_three_leaves_more() {
+    let mut table = p2(42);
+    assert_eq!((table.head.count, table.head.leaves), (10, 8));
+    for id in [1, 2, 4, 5, 10, 11, 12, 13] {
+        assert_eq!(4 * table.head.leaves, 3 * table.head.count + 2);
+        table.split(id);
+    }
+    assert_eq!((table.head.count, table.head.leaves), (42, 32));
 }

@@ -50,7 +50,7 @@ fn the_record_decodes_to_the_board_and_back() {
 fn its_table_is_one_root() {
     let table = mesh(&worked_board(), 2);
     let root = [0, 0, 4, 4, 0, 4_294_967_295, 4_294_967_295, 0];
-    assert_eq!((table.count, &table.row[..8], &table.row[8..]), (1, &root[..], &[0; 8][..]));
+    assert_eq!((table.head.count, &table.row[..8], &table.row[8..]), (1, &root[..], &[0; 8][..]));
 }
 
 #[test]

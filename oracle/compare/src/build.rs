@@ -1,6 +1,6 @@
 //! Build: boards to roots.
 
-use crate::port::{build as port, outcome_of};
+use crate::port::{build as port, counted, head_outcome_of};
 use crate::report::Report;
 use crate::rows::{difference, shown, unused};
 use calls::build::{build, roots_of};
@@ -115,9 +115,9 @@ fn run(plan: &Plan, length: usize, report: &mut Report) {
     let mut table = unused(length, |number| number as i64);
     let mut port_table = table.clone();
     let answer = plan.with_calls_rows(|settings, outlines| build(settings, outlines, &mut table));
-    let expected = outcome_of(answer);
+    let expected = head_outcome_of(answer);
     let got = port::build(plan, &mut port_table);
-    report.ran(expected, got == expected && port_table == table, || {
+    report.ran(counted(expected, expected.count), got == expected && port_table == table, || {
         let rows = difference("number", &table, &port_table);
         let words = plan_words(plan);
         let words = format!("{words}, length {length}; {rows}original {expected:?}, port {got:?}");

@@ -99,7 +99,7 @@ fn by_layer(mesh: &Mesh, net: &Net) -> [Answer<Option<Hanging>>; 2] {
     let r_sheet = vec![1.0; mesh.layers.len()];
     let sheets = Sheets { layer: &mesh.layers, component: &mesh.components, r_sheet: &r_sheet };
     [check_by_layer, check_middles_by_layer]
-        .map(|check| check(&table.row, table.count, table.max_level, &sheets, net))
+        .map(|check| check(&table.row, table.head(), &sheets, net))
 }
 
 /// Whether the node isn't halfway between the ends.
@@ -219,7 +219,7 @@ impl Reports {
     fn run(&mut self, mesh: &Mesh, net: &Net, room: usize) {
         let (table, lent) = (&mesh.table, lent(net));
         let mut work = Work::of_length(room);
-        let answer = check_network_conforming(&table.row, table.count, table.max_level, net);
+        let answer = check_network_conforming(&table.row, table.head(), net);
         let got = port::check_network_conforming(table, lent.rows(), &mut work.after);
         self.count_work(answer.is_ok(), &work);
         judge(&mut self.network, (mesh, net), answer, got, &work);
@@ -302,9 +302,10 @@ fn split_on(mesh: &mut Mesh, random: &mut Random) {
 
 fn input_words(mesh: &Mesh, net: &Net) -> String {
     format!(
-        "max_level {}, count {}, table {}, layers {}, components {}, nodes {}, edges {}, cells {}",
+        "max_level {}, count {}, leaves {}, table {}, layers {}, components {}, nodes {}, edges {}, cells {}",
         mesh.table.max_level,
         mesh.table.count,
+        mesh.table.leaves,
         shown(&mesh.table.row),
         shown(&mesh.layers),
         shown(&mesh.components),

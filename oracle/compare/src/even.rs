@@ -1,13 +1,13 @@
 //! Balance and conform: against the original, number by number, and against the coarsest splitting,
 //! by names.
 
-use crate::port::{self, outcome_of};
+use crate::port::{self, counted, evening_outcome_of};
 use crate::report::Report;
 use crate::table::{difference, first_difference};
 use calls::coarsest::{coarsest, Splitting};
 use calls::even::{even, Allowed};
 use calls::limits::SLOTS;
-use calls::table::Slot;
+use calls::table::{Head, Slot};
 use calls::well_formed::well_formed;
 use inputs::damage::damage;
 use inputs::tables::{random_table, random_unbalanced_table, Table};
@@ -117,10 +117,9 @@ impl Reports {
     /// Runs both sides and hands back the original's table, where it was accepted.
     fn run(&mut self, table: &Table, allowed: Allowed) -> Option<Table> {
         let (mut row, mut port_row) = (table.row.clone(), table.row.clone());
-        let (count, max_level) = (table.count, table.max_level);
-        let answer = even(&mut row, count, max_level, allowed);
-        let expected = outcome_of(answer);
-        let got = port::even::even(&mut port_row, count, max_level, allowed);
+        let answer = even(&mut row, table.head(), allowed);
+        let expected = evening_outcome_of(answer);
+        let got = port::even::even(&mut port_row, table.head(), allowed);
         let same = got == expected
             && port_row == row
             && (answer.is_err() || ends_in_the_coarsest(table, &port_row, allowed));
@@ -128,11 +127,10 @@ impl Reports {
             Allowed::One => &mut self.balance,
             Allowed::None => &mut self.conform,
         };
-        report.ran(expected, same, || {
+        report.ran(counted(expected, expected.splits), same, || {
             difference(table, expected, got, &first_difference(&row, &port_row))
         });
-        let count = count + 4 * answer.ok()? as usize;
-        Some(Table { row, count, max_level })
+        Some(Table::of(row, answer.ok()?.head))
     }
 
     /// A few splits, balances and conforms of one table in one room.
@@ -169,6 +167,11 @@ fn ends_in_the_coarsest(before: &Table, port_row: &[i64], allowed: Allowed) -> b
     let slots = before.slots();
     let least = coarsest(&before.row, before.count, allowed.levels(), slots);
     let least = least.expect("an accepted call has room for it");
-    well_formed(port_row, least.cells(), before.max_level)
-        && Splitting::of_table(port_row, least.cells()) == least
+    let splits = (least.cells() - before.count) / 4;
+    let head = Head {
+        count: before.count + 4 * splits,
+        leaves: before.leaves + 3 * splits,
+        max_level: before.max_level,
+    };
+    well_formed(port_row, head) && Splitting::of_table(port_row, least.cells()) == least
 }

@@ -59,8 +59,9 @@ pub fn evened(table: &Table, allowed: Allowed, slots: usize) -> Option<Table> {
     }
     let mut after = table.clone();
     after.set_slots(slots);
-    let splits = even(&mut after.row, after.count, after.max_level, allowed).ok()?;
-    after.count += 4 * splits as usize;
+    let head = after.head();
+    let evening = even(&mut after.row, head, allowed).ok()?;
+    after.set_head(evening.head);
     Some(after)
 }
 

@@ -5,25 +5,28 @@
 //! original on small tables.
 
 use calls::contact::Rect;
-use calls::even::Allowed;
+use calls::even::{Allowed, Evening};
 use calls::limits::WIDEST_LEVEL;
 use calls::outcome::{require, Answer};
-use calls::table::{Slot, NO_CELL, WIDTH};
+use calls::table::{Head, Slot, NO_CELL, WIDTH};
 use calls::well_formed::well_formed;
 use std::collections::HashSet;
 use std::mem::take;
 use std::ops::Range;
 
-/// The answer is the number of splits. Refuses 7, 6.
-pub fn even(table: &mut [i64], count: usize, max_level: u64, allowed: Allowed) -> Answer<u64> {
-    require(well_formed(table, count, max_level), 7, 0)?;
-    let cells: Vec<Slot> = (0..count).map(|id| Slot::load(table, id)).collect();
-    let mut passes = Passes::over(cells, table.len() / WIDTH, max_level, allowed);
+/// The leaves are counted anew. Refuses 7, 6.
+pub fn even(table: &mut [i64], head: Head, allowed: Allowed) -> Answer<Evening> {
+    require(well_formed(table, head), 7, 0)?;
+    let cells: Vec<Slot> = (0..head.count).map(|id| Slot::load(table, id)).collect();
+    let mut passes = Passes::over(cells, table.len() / WIDTH, head.max_level, allowed);
     while passes.pass()? {}
     for (id, cell) in passes.cells.iter().enumerate() {
         cell.store(table, id);
     }
-    Ok((passes.cells.len() - count) as u64 / 4)
+    let count = passes.cells.len();
+    let leaves = passes.cells.iter().filter(|cell| cell.is_leaf()).count();
+    let splits = (count - head.count) as u64 / 4;
+    Ok(Evening { splits, head: Head { count, leaves, ..head } })
 }
 
 struct Passes {

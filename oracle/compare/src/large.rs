@@ -5,14 +5,15 @@
 use crate::even::any_lent;
 use crate::hostile::{reordered, Kind, BALANCE, CONFORM, LOOSE};
 use crate::indexed;
-use crate::port::{self, outcome_of};
+use crate::port::{self, counted, evening_outcome_of};
 use crate::report::Report;
 use crate::table::{difference, first_difference};
 use calls::even::{even, Allowed};
 use calls::limits::SLOTS;
+use calls::table::Head;
 use inputs::tables::Table;
 use inputs::Random;
-use leafmesh::ffi::Outcome;
+use leafmesh::ffi::TableOutcome;
 
 /// Slots of large tables and of the small boards of their kinds.
 const LARGE: (usize, usize) = (4_000, SLOTS);
@@ -21,7 +22,7 @@ const SMALL: (usize, usize) = (400, 1_000);
 const SMALL_A_LARGE: u64 = 50;
 
 /// An engine on a lent table.
-type Engine = fn(&mut [i64], usize, u64, Allowed) -> Outcome;
+type Engine = fn(&mut [i64], Head, Allowed) -> TableOutcome;
 
 /// Two engines side by side.
 struct Pair {
@@ -60,12 +61,12 @@ pub fn compare(count: u64, seed: u64) -> bool {
     large.print() && same
 }
 
-fn original(row: &mut [i64], count: usize, max_level: u64, allowed: Allowed) -> Outcome {
-    outcome_of(even(row, count, max_level, allowed))
+fn original(row: &mut [i64], head: Head, allowed: Allowed) -> TableOutcome {
+    evening_outcome_of(even(row, head, allowed))
 }
 
-fn by_index(row: &mut [i64], count: usize, max_level: u64, allowed: Allowed) -> Outcome {
-    outcome_of(indexed::even(row, count, max_level, allowed))
+fn by_index(row: &mut [i64], head: Head, allowed: Allowed) -> TableOutcome {
+    evening_outcome_of(indexed::even(row, head, allowed))
 }
 
 impl Pair {
@@ -89,19 +90,19 @@ impl Pair {
 
     fn run(&mut self, table: &Table, allowed: Allowed, name: &str) {
         let (mut row, mut judged_row) = (table.row.clone(), table.row.clone());
-        let (count, max_level) = (table.count, table.max_level);
-        let expected = (self.right)(&mut row, count, max_level, allowed);
-        let got = (self.judged)(&mut judged_row, count, max_level, allowed);
+        let expected = (self.right)(&mut row, table.head(), allowed);
+        let got = (self.judged)(&mut judged_row, table.head(), allowed);
         let report = match allowed {
             Allowed::One => &mut self.balance,
             Allowed::None => &mut self.conform,
         };
-        report.ran(expected, got == expected && judged_row == row, || {
+        let same = got == expected && judged_row == row;
+        report.ran(counted(expected, expected.splits), same, || {
             let more = format!("{name}; {}", first_difference(&row, &judged_row));
             difference(table, expected, got, &more)
         });
         if expected.number == 0 {
-            let cells = count + 4 * expected.value as usize;
+            let cells = expected.count as usize;
             self.cells = (self.cells.0.min(cells), self.cells.1.max(cells));
         }
     }

@@ -75,7 +75,7 @@ pub fn compare(count: u64, seed: u64) -> bool {
 fn original(linked: &LinkedMesh) -> Answer<Linked> {
     let LinkedMesh { mesh, links } = linked;
     let table = &mesh.table;
-    roomy_network(&table.row, table.count, table.max_level, &mesh.polygons(), links)
+    roomy_network(&table.row, table.head(), &mesh.polygons(), links)
 }
 
 /// The same in a room, and what is left in the rows.
@@ -190,7 +190,7 @@ impl Tally {
         let LinkedMesh { mesh, links } = linked;
         let table = &mesh.table;
         let polygons = mesh.polygons();
-        let read = edge_rows(&table.row, table.count, table.max_level, &polygons, links);
+        let read = edge_rows(&table.row, table.head(), &polygons, links);
         assert_eq!(read, expected, "edge rows by the words of the rules");
         let got = port::edge_rows(table, &polygons, &LentLinks::of(links));
         let expected = outcome_of(expected);
@@ -214,7 +214,7 @@ impl Tally {
         let table = &mesh.table;
         let base = (EDGES_A_LEAF * mesh.leaves()) as u64;
         let made = |kind: &Links| {
-            edge_rows(&table.row, table.count, table.max_level, &mesh.polygons(), kind)
+            edge_rows(&table.row, table.head(), &mesh.polygons(), kind)
                 .map_or(false, |rows| rows > base)
         };
         self.of_each_kind += u64::from(kinds.iter().all(made));

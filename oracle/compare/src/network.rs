@@ -95,8 +95,7 @@ fn uneven_rooms(leaves: usize) -> Vec<NetRoom> {
 /// The original's answer, and what it leaves in the rows.
 fn original(mesh: &Mesh, rows: &mut Rows) -> Answer<Net> {
     let table = &mesh.table;
-    let (row, count, max_level) = (&table.row, table.count, table.max_level);
-    let net = network(row, count, max_level, &mesh.polygons(), &rows.room())?;
+    let net = network(&table.row, table.head(), &mesh.polygons(), &rows.room())?;
     let made = lent(&net);
     put(&mut rows.nodes, &made.nodes);
     put(&mut rows.edges, &made.edges);
@@ -213,9 +212,10 @@ impl Tally {
 
 pub fn mesh_words(mesh: &Mesh) -> String {
     format!(
-        "max_level {}, count {}, table {}, layers {}, components {}, sheets {}",
+        "max_level {}, count {}, leaves {}, table {}, layers {}, components {}, sheets {}",
         mesh.table.max_level,
         mesh.table.count,
+        mesh.table.leaves,
         shown(&mesh.table.row),
         shown(&mesh.layers),
         shown(&mesh.components),

@@ -5,8 +5,10 @@ pub mod checks;
 pub mod network;
 
 use calls::contact::Rect;
+use calls::even::Evening;
+use calls::table::Head;
 use calls::{Answer, Refusal};
-use leafmesh::ffi::{self, Outcome};
+use leafmesh::ffi::{self, Outcome, TableOutcome};
 use leafmesh::{Cell, Edge, Net, Node};
 
 /// An answer as the port's library hands it back.
@@ -15,6 +17,27 @@ pub fn outcome_of(answer: Answer<u64>) -> Outcome {
         Ok(value) => Outcome { number: 0, place: 0, value },
         Err(Refusal { number, place }) => Outcome { number, place, value: 0 },
     }
+}
+
+/// The same of balance and conform.
+pub fn evening_outcome_of(answer: Answer<Evening>) -> TableOutcome {
+    match answer {
+        Ok(Evening { splits, head: Head { count, leaves, max_level } }) => {
+            let (count, leaves) = (count as u64, leaves as u64);
+            TableOutcome { number: 0, place: 0, splits, count, leaves, max_level }
+        }
+        Err(Refusal { number, place }) => TableOutcome { number, place, ..TableOutcome::default() },
+    }
+}
+
+/// The same of build and refine.
+pub fn head_outcome_of(answer: Answer<Head>) -> TableOutcome {
+    evening_outcome_of(answer.map(|head| Evening { splits: 0, head }))
+}
+
+/// What a report counts: the refusal, or a value.
+pub fn counted(outcome: TableOutcome, value: u64) -> Outcome {
+    Outcome { number: outcome.number, place: outcome.place, value }
 }
 
 /// A net as the port is lent it.
@@ -37,42 +60,51 @@ pub fn contact(a: Rect, b: Rect) -> Outcome {
 }
 
 pub mod table {
-    use leafmesh::ffi::{self, Outcome};
+    use calls::table::Head;
+    use leafmesh::ffi::{self, Outcome, TableOutcome};
 
-    // SAFETY, of all four: each pointer comes with the length of the slice it was taken from, and
-    // the slice outlives the call.
+    // SAFETY, of all: each pointer comes with the length of the slice it was taken from, and the slice
+    // outlives the call.
 
-    pub fn leaf_count(table: &[i64], count: usize, max_level: u64) -> Outcome {
-        unsafe { ffi::leafmesh_leaf_count(table.as_ptr(), table.len(), count, max_level) }
+    pub fn leaf_count(Head { count, leaves, max_level }: Head) -> usize {
+        unsafe { ffi::leafmesh_leaf_count(count, leaves, max_level) }
     }
 
-    pub fn leaves(table: &[i64], count: usize, max_level: u64, out: &mut [u64]) -> Outcome {
+    pub fn leaves(table: &[i64], head: Head, out: &mut [u64]) -> Outcome {
+        let Head { count, leaves, max_level } = head;
+        let (row, length) = (table.as_ptr(), table.len());
         let (to, room) = (out.as_mut_ptr(), out.len());
-        unsafe { ffi::leafmesh_leaves(table.as_ptr(), table.len(), count, max_level, to, room) }
+        unsafe { ffi::leafmesh_leaves(row, length, count, leaves, max_level, to, room) }
     }
 
-    pub fn leaf_order(table: &[i64], count: usize, max_level: u64, out: &mut [u64]) -> Outcome {
+    pub fn leaf_order(table: &[i64], head: Head, out: &mut [u64]) -> Outcome {
+        let Head { count, leaves, max_level } = head;
+        let (row, length) = (table.as_ptr(), table.len());
         let (to, room) = (out.as_mut_ptr(), out.len());
-        unsafe { ffi::leafmesh_leaf_order(table.as_ptr(), table.len(), count, max_level, to, room) }
+        unsafe { ffi::leafmesh_leaf_order(row, length, count, leaves, max_level, to, room) }
     }
 
-    pub fn refine(table: &mut [i64], count: usize, max_level: u64, id: usize) -> Outcome {
-        unsafe { ffi::leafmesh_refine(table.as_mut_ptr(), table.len(), count, max_level, id) }
+    pub fn refine(table: &mut [i64], head: Head, id: usize) -> TableOutcome {
+        let Head { count, leaves, max_level } = head;
+        let (row, length) = (table.as_mut_ptr(), table.len());
+        unsafe { ffi::leafmesh_refine(row, length, count, leaves, max_level, id) }
     }
 }
 
 pub mod even {
     use calls::even::Allowed;
-    use leafmesh::ffi::{self, Outcome};
+    use calls::table::Head;
+    use leafmesh::ffi::{self, TableOutcome};
 
     /// Balance where one level is allowed, conform where none is.
-    pub fn even(table: &mut [i64], count: usize, max_level: u64, allowed: Allowed) -> Outcome {
+    pub fn even(table: &mut [i64], head: Head, allowed: Allowed) -> TableOutcome {
+        let Head { count, leaves, max_level } = head;
         let (row, length) = (table.as_mut_ptr(), table.len());
         // SAFETY: the pointer comes with the length of its slice, which outlives the call.
         unsafe {
             match allowed {
-                Allowed::One => ffi::leafmesh_balance(row, length, count, max_level),
-                Allowed::None => ffi::leafmesh_conform(row, length, count, max_level),
+                Allowed::One => ffi::leafmesh_balance(row, length, count, leaves, max_level),
+                Allowed::None => ffi::leafmesh_conform(row, length, count, leaves, max_level),
             }
         }
     }
@@ -92,9 +124,9 @@ pub mod strips {
 
 pub mod build {
     use inputs::plans::Plan;
-    use leafmesh::ffi::{self, Outcome};
+    use leafmesh::ffi::{self, TableOutcome};
 
-    pub fn build(plan: &Plan, table: &mut [i64]) -> Outcome {
+    pub fn build(plan: &Plan, table: &mut [i64]) -> TableOutcome {
         // SAFETY: each pointer comes with the length of its slice, which outlives the call.
         unsafe {
             ffi::leafmesh_build(

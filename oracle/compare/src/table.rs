@@ -1,14 +1,21 @@
-//! Leaf count, leaves, leaf order and refine on lent tables, half of them damaged.
+//! Leaf count, leaves, leaf order and refine on lent tables, half of them damaged; and every call with a head
+//! that has another number of leaves than the table.
 
-use crate::port::{outcome_of, table as port};
+use crate::port::network::{edge_rows, network, LentLinks, Rows};
+use crate::port::{checks, counted, even as port_even, head_outcome_of, outcome_of, table as port};
 use crate::report::Report;
+use calls::even::Allowed;
 use calls::limits::SLOTS;
-use calls::table::{leaf_count, leaf_order, leaves, refine, Slot, WIDTH};
+use calls::sheets::Sheets;
+use calls::table::{leaf_count, leaf_order, leaves, refine, Head, Slot, WIDTH};
+use calls::well_formed::well_formed;
 use calls::Answer;
 use inputs::damage::{damage, every_number};
-use inputs::tables::{random_roomy_table, random_table, Table};
+use inputs::tables::{random_roomy_table, random_table, wrong_leaves, Table};
 use inputs::Random;
-use leafmesh::ffi::Outcome;
+use leafmesh::ffi::{CheckOutcome, NetOutcome, Outcome, TableOutcome};
+use leafmesh::NetRows;
+use std::fmt::Debug;
 
 /// Most cells of an ordinary random table.
 const CELLS: usize = 40;
@@ -17,14 +24,16 @@ const LARGE_ONE_IN: u64 = 1_000;
 /// What an answer's row holds before the call, its own number at each place.
 const SENTINEL: u64 = 0xdead_0000_0000;
 
-type List = fn(&[i64], usize, u64, &mut [u64]) -> Answer<u64>;
-type PortList = fn(&[i64], usize, u64, &mut [u64]) -> Outcome;
+type List = fn(&[i64], Head, &mut [u64]) -> Answer<u64>;
+type PortList = fn(&[i64], Head, &mut [u64]) -> Outcome;
 
 struct Reports {
     leaf_count: Report,
     leaves: Report,
     leaf_order: Report,
     refine: Report,
+    /// Every call but the leaf count, with another number of leaves.
+    wrong_leaves: Report,
 }
 
 /// Tables damaged in every number, then `count` random ones, every other damaged.
@@ -35,6 +44,7 @@ pub fn compare(count: u64, seed: u64) -> bool {
         leaves: Report::new("leaves"),
         leaf_order: Report::new("leaf_order"),
         refine: Report::new("refine"),
+        wrong_leaves: Report::new("every other call, with another number of leaves"),
     };
     let (mut tables, mut damaged) = (count, count / 2);
     for sound in small_tables() {
@@ -99,8 +109,9 @@ fn fill_with_roots(table: &mut Table, spare: usize) {
 
 impl Reports {
     fn run(&mut self, table: &Table, random: &mut Random) {
-        let leaves_found = self.leaf_count(table);
-        let exact = leaves_found.unwrap_or(random.below(20)) as usize;
+        self.leaf_count(table);
+        let sound = well_formed(&table.row, table.head());
+        let exact = if sound { table.leaves } else { random.index(20) };
         for room in [exact, other_room(exact, random)] {
             run_list(table, room, leaves, port::leaves, &mut self.leaves);
             run_list(table, room, leaf_order, port::leaf_order, &mut self.leaf_order);
@@ -108,32 +119,77 @@ impl Reports {
         for _ in 0..2 {
             self.refine(table, any_id(table, random));
         }
+        let mut right = table.clone();
+        right.recount();
+        for leaves in wrong_leaves(&right) {
+            let wrong = table.with_leaves(leaves);
+            self.leaf_count(&wrong);
+            self.refuses_all(&wrong, any_id(table, random), random);
+        }
     }
 
-    fn leaf_count(&mut self, table: &Table) -> Option<u64> {
-        let answer = leaf_count(&table.row, table.count, table.max_level);
-        let expected = outcome_of(answer);
-        let got = port::leaf_count(&table.row, table.count, table.max_level);
-        let detail = || difference(table, expected, got, "");
-        self.leaf_count.ran(expected, got == expected, detail);
-        answer.ok()
+    /// The head's own number, whatever it is.
+    fn leaf_count(&mut self, table: &Table) {
+        let value = leaf_count(table.head());
+        let expected = Outcome { number: 0, place: 0, value };
+        let got = Outcome { value: port::leaf_count(table.head()) as u64, ..expected };
+        self.leaf_count.ran(expected, got == expected, || difference(table, expected, got, ""));
+    }
+
+    /// Every call refuses the table by 7, before it looks at anything else, and writes nothing.
+    fn refuses_all(&mut self, table: &Table, id: usize, random: &mut Random) {
+        assert!(!well_formed(&table.row, table.head()), "another number of leaves");
+        let expected = Outcome { number: 7, place: 0, value: 0 };
+        let bad = TableOutcome { number: 7, ..TableOutcome::default() };
+        let mut after = table.clone();
+        let mut out: Vec<u64> = (0..8).map(|place| SENTINEL + place).collect();
+        let before = out.clone();
+        let length = random.pick(&[0, 8]);
+        let (head, row) = (table.head(), &mut after.row);
+        let on_the_table = [
+            port::leaves(row, head, &mut out[..length]) == expected,
+            port::leaf_order(row, head, &mut out[..length]) == expected,
+            port::refine(row, head, id) == bad,
+            port_even::even(row, head, Allowed::One) == bad,
+            port_even::even(row, head, Allowed::None) == bad,
+        ];
+        let unread = NetRows { nodes: &[], edges: &[], cells: &[] };
+        let unknown = Sheets { layer: &[], component: &[], r_sheet: &[] };
+        let broken = CheckOutcome { number: 7, ..CheckOutcome::default() };
+        let of_nets = [
+            edge_rows(&after, &unknown, &LentLinks::default()) == expected,
+            checks::check_network_conforming(&after, unread, &mut out[..length]) == broken,
+            checks::check_by_layer(&after, unread, &[], &[], &mut out[..length]) == broken,
+        ];
+        let work = out[..length].to_vec();
+        let mut rows = Rows { nodes: vec![], edges: vec![], cells: vec![], work };
+        let net = network(&after, &unknown, &mut rows);
+        let no_net = net == NetOutcome { number: 7, ..NetOutcome::default() };
+        let kept = after.row == table.row && out == before && rows.work == before[..length];
+        for same in on_the_table.into_iter().chain(of_nets).chain([no_net]) {
+            self.wrong_leaves.ran(expected, same && kept, || {
+                let words = format!("another number of leaves; {}", table_words(table));
+                (table.row.len() as u128, words)
+            });
+        }
     }
 
     fn refine(&mut self, table: &Table, id: usize) {
         let (mut row, mut port_row) = (table.row.clone(), table.row.clone());
-        let expected = outcome_of(refine(&mut row, table.count, table.max_level, id));
-        let got = port::refine(&mut port_row, table.count, table.max_level, id);
+        let expected = head_outcome_of(refine(&mut row, table.head(), id));
+        let got = port::refine(&mut port_row, table.head(), id);
         let same = got == expected && port_row == row;
         let detail = || {
             let more = format!("refine {id}; {}", first_difference(&row, &port_row));
             difference(table, expected, got, &more)
         };
-        self.refine.ran(expected, same, detail);
+        self.refine.ran(counted(expected, expected.count), same, detail);
     }
 
     fn print(&self) -> bool {
         let mut same = true;
-        for report in [&self.leaf_count, &self.leaves, &self.leaf_order, &self.refine] {
+        let each = [&self.leaf_count, &self.leaves, &self.leaf_order, &self.refine];
+        for report in each.into_iter().chain([&self.wrong_leaves]) {
             same &= report.print();
         }
         same
@@ -143,8 +199,8 @@ impl Reports {
 fn run_list(table: &Table, room: usize, list: List, port_list: PortList, report: &mut Report) {
     let mut out: Vec<u64> = (0..room as u64).map(|place| SENTINEL + place).collect();
     let mut port_out = out.clone();
-    let expected = outcome_of(list(&table.row, table.count, table.max_level, &mut out));
-    let got = port_list(&table.row, table.count, table.max_level, &mut port_out);
+    let expected = outcome_of(list(&table.row, table.head(), &mut out));
+    let got = port_list(&table.row, table.head(), &mut port_out);
     let same = got == expected && port_out == out;
     report.ran(expected, same, || {
         let more = format!("row of {room}; {}", first_difference(&out, &port_out));
@@ -168,7 +224,7 @@ fn any_id(table: &Table, random: &mut Random) -> usize {
 }
 
 /// Size and words of an input that differs.
-pub fn difference(table: &Table, expected: Outcome, got: Outcome, more: &str) -> (u128, String) {
+pub fn difference<T: Debug>(table: &Table, expected: T, got: T, more: &str) -> (u128, String) {
     let words = format!("{}; {more}; original {expected:?}, port {got:?}", table_words(table));
     (table.row.len() as u128, words)
 }
@@ -177,11 +233,13 @@ fn table_words(table: &Table) -> String {
     let shown = 40 * WIDTH;
     let slots: Vec<&[i64]> = table.row[..table.row.len().min(shown)].chunks(WIDTH).collect();
     let cut = if table.row.len() > shown { " and more" } else { "" };
-    let (length, count, max_level) = (table.row.len(), table.count, table.max_level);
-    format!("max_level {max_level}, count {count}, length {length}, slots {slots:?}{cut}")
+    let (length, Head { count, leaves, max_level }) = (table.row.len(), table.head());
+    format!(
+        "max_level {max_level}, count {count}, leaves {leaves}, length {length}, slots {slots:?}{cut}"
+    )
 }
 
-pub fn first_difference<T: PartialEq + std::fmt::Debug>(row: &[T], port_row: &[T]) -> String {
+pub fn first_difference<T: PartialEq + Debug>(row: &[T], port_row: &[T]) -> String {
     match (0..row.len()).find(|&at| row[at] != port_row[at]) {
         Some(at) => format!("number {at} is {:?}, port {:?}", row[at], port_row[at]),
         None => "rows are equal".to_string(),

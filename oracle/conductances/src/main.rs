@@ -80,15 +80,14 @@ fn original(mesh: &Mesh, rounds: &[Vec<usize>]) -> Answer<(Vec<i64>, Net)> {
     let target = mesh.settings.target as i64;
     let settings = Settings { max_level, cap: mesh.settings.cap, target, layers: &[] };
     let mut table = vec![0; SLOT * SLOTS];
-    let mut count = build(&settings, &outlines, &mut table)?;
+    let mut head = build(&settings, &outlines, &mut table)?;
     for splits in rounds {
         for &id in splits {
-            count = refine(&mut table, count as usize, max_level, id)?;
+            head = refine(&mut table, head, id)?;
         }
-        count += 4 * balance(&mut table, count as usize, max_level)?;
+        head = balance(&mut table, head)?.head;
     }
-    let count = count as usize;
-    let room = NetRoom::for_leaves(leaf_count(&table, count, max_level)? as usize);
-    let net = network(&table, count, max_level, &sheets, &room)?;
+    let room = NetRoom::for_leaves(leaf_count(head) as usize);
+    let net = network(&table, head, &sheets, &room)?;
     Ok((table, net))
 }

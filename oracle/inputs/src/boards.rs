@@ -46,9 +46,9 @@ fn push_polygon(board: &mut Board, random: &mut Random, pitch: i64) {
 /// slots.
 pub fn random_mesh(board: &Board, random: &mut Random, slots: usize, splits: u64) -> Option<Table> {
     let mut row = vec![0; slots * WIDTH];
-    let count = build(&board.settings(), &board.outlines(), &mut row).ok()? as usize;
-    row.truncate(count * WIDTH);
-    let mut table = Table { row, count, max_level: board.max_level };
+    let head = build(&board.settings(), &board.outlines(), &mut row).ok()?;
+    row.truncate(head.count * WIDTH);
+    let mut table = Table::of(row, head);
     for _ in 0..random.below(splits + 1) {
         if let Some(id) = table.leaf_to_split(random) {
             table.split(id);

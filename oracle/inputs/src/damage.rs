@@ -1,8 +1,8 @@
-//! Damage to a table, one thing at a time: any number, the count, the level, the length, or an
-//! order.
+//! Damage to a table, one thing at a time: any number, the count, the leaves, the level, the length,
+//! or an order. The leaves are counted anew, so that nothing else is wrong where they aren't.
 
 use crate::random::Random;
-use crate::tables::Table;
+use crate::tables::{wrong_leaves, Table};
 use calls::limits::{COORDINATE, SLOTS};
 use calls::table::{NO_CELL, WIDTH};
 
@@ -30,6 +30,7 @@ pub fn every_number(table: &Table) -> impl Iterator<Item = Table> + '_ {
         replacements(table.row[at], table).into_iter().map(move |number| {
             let mut damaged = table.clone();
             damaged.row[at] = number;
+            damaged.recount();
             damaged
         })
     })
@@ -37,7 +38,7 @@ pub fn every_number(table: &Table) -> impl Iterator<Item = Table> + '_ {
 
 /// One random damage. Now and then it leaves a well-formed table.
 pub fn damage(table: &mut Table, random: &mut Random) {
-    match random.below(15) {
+    match random.below(16) {
         0 => damage_level(table, random),
         1 => damage_count(table, random),
         2 => damage_length(table, random),
@@ -47,8 +48,14 @@ pub fn damage(table: &mut Table, random: &mut Random) {
         6 => copy_a_slot(table, random),
         7 => share_children(table, random),
         8 => children_before_their_parent(table, random),
+        9 => return damage_leaves(table, random),
         _ => damage_number(table, random),
     }
+    table.recount();
+}
+
+fn damage_leaves(table: &mut Table, random: &mut Random) {
+    table.leaves = random.pick(&wrong_leaves(table));
 }
 
 fn damage_level(table: &mut Table, random: &mut Random) {

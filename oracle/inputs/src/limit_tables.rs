@@ -1,9 +1,10 @@
 //! Tables at the limits of "Well-formed table", and one damaged table a clause, each by its name. Every
-//! damaged one is well formed but for its clause.
+//! damaged one is well formed but for its clause: its leaves are those that its row has.
 
 use crate::tables::Table;
+use calls::contact::Rect;
 use calls::limits::{COORDINATE, SLOTS, WIDEST_LEVEL};
-use calls::table::{Slot, NO_CELL, WIDTH};
+use calls::table::{Head, Slot, NO_CELL, WIDTH};
 
 /// Two levels, so that root sides are multiples of 8.
 const LEVEL: u64 = 2;
@@ -12,8 +13,8 @@ const FIELDS: [&str; WIDTH] = ["x0", "y0", "x1", "y1", "level", "parent", "first
 
 type Named = (String, Table);
 
-/// Count, level and numbers of a row of zeros.
-pub type ZeroRow = (usize, u64, usize);
+/// The head of a row of zeros, and how many.
+pub type ZeroRow = (Head, usize);
 
 pub fn limit_tables() -> Vec<Named> {
     let mut list = levels_and_counts();
@@ -21,24 +22,53 @@ pub fn limit_tables() -> Vec<Named> {
     list.extend(roots());
     list.extend(children());
     list.extend(families());
+    list.iter_mut().for_each(|(_, table)| table.recount());
     list
+}
+
+/// Sound tables, and the same with a head that has another number of leaves.
+pub fn limit_heads() -> Vec<Named> {
+    let beside = Table::with(LEVEL, &[[0, 0, SIDE, SIDE], [SIDE, 0, 2 * SIDE, SIDE]], &[0]);
+    let with = |what: &str, leaves: usize| named(what, beside.with_leaves(leaves));
+    let mut spare = beside.clone();
+    spare.set_slots(spare.count + 4);
+    let empty = Table::new(LEVEL);
+    vec![
+        named("two roots, one of them split: five leaves", beside.clone()),
+        with("one leaf less than there are", 4),
+        with("one leaf more than there are", 6),
+        with("a leaf for each cell and one more", 7),
+        with("no leaf", 0),
+        with("2^32 leaves more", 1 << 32 | 5),
+        with("2^32 - 1 leaves", u32::MAX as usize),
+        with("2^63 leaves", 1 << 63),
+        with("2^64 - 1 leaves", usize::MAX),
+        named("spare slots are no leaves", spare.clone()),
+        named("a leaf for a spare slot", spare.with_leaves(9)),
+        named("no leaf of no cell", empty.clone()),
+        named("a leaf of no cell", empty.with_leaves(1)),
+    ]
 }
 
 /// The slots at the limit and one past it; their rows are too long to be stored.
 pub fn limit_zero_rows() -> Vec<(String, ZeroRow)> {
-    let row = |what: &str, count, level, slots| (what.to_string(), (count, level, slots * WIDTH));
+    let row = |what: &str, max_level, slots| {
+        (what.to_string(), (Head { max_level, ..Head::default() }, slots * WIDTH))
+    };
     vec![
-        row("all slots", 0, 0, SLOTS),
-        row("one slot too many", 0, 0, SLOTS + 1),
-        row("level 12 of no cell", 0, WIDEST_LEVEL, 1),
-        row("level 13 of no cell", 0, WIDEST_LEVEL + 1, 1),
+        row("all slots", 0, SLOTS),
+        row("one slot too many", 0, SLOTS + 1),
+        row("level 12 of no cell", WIDEST_LEVEL, 1),
+        row("level 13 of no cell", WIDEST_LEVEL + 1, 1),
     ]
 }
 
 /// Tables of which so many slots are lent. What stands behind these would pass for a part of them.
 pub fn limit_parts() -> Vec<(String, Table, usize)> {
     let part = |what: &str, table: Table, count: usize, slots: usize| {
-        (what.to_string(), Table { count, ..table }, slots)
+        let mut table = Table { count, ..table };
+        table.recount();
+        (what.to_string(), table, slots)
     };
     let beside = Table::with(LEVEL, &[[0, 0, SIDE, SIDE], [SIDE, 0, 2 * SIDE, SIDE]], &[]);
     vec![
@@ -169,7 +199,11 @@ fn families() -> Vec<Named> {
 
     let mut too_fine = beside(&[0, 2]);
     too_fine.max_level = 1;
+    // As many as would be children, if they weren't roots.
+    let row: Vec<Rect> = (0..9).map(|n| [n * SIDE, 0, (n + 1) * SIDE, SIDE]).collect();
     vec![
+        named("nine roots", Table::with(LEVEL, &row, &[])),
+        named("nine roots, three of them split", Table::with(LEVEL, &row, &[8, 0, 4])),
         named("two levels of children", beside(&[0, 2])),
         named("a level past the table's", too_fine),
         named("two cells with the same four children", fourfold),
@@ -183,16 +217,16 @@ fn families() -> Vec<Named> {
 #[cfg(test)]
 mod tests {
     use super::*;
-    use calls::table::leaf_count;
+    use calls::well_formed::well_formed;
+
+    fn sound(tables: Vec<Named>) -> Vec<String> {
+        let is_sound = |(_, table): &Named| well_formed(&table.row, table.head());
+        tables.into_iter().filter(is_sound).map(|(name, _)| name).collect()
+    }
 
     /// Those that are well formed; every other one is refused by 7.
     #[test]
     fn the_limits_are_accepted_and_all_else_is_refused() {
-        let sound: Vec<String> = limit_tables()
-            .into_iter()
-            .filter(|(_, table)| leaf_count(&table.row, table.count, table.max_level).is_ok())
-            .map(|(name, _)| name)
-            .collect();
         let expected = [
             "level 0",
             "level 1",
@@ -200,8 +234,20 @@ mod tests {
             "a root over the whole field",
             "polygon 255",
             "four children",
+            "nine roots",
+            "nine roots, three of them split",
             "two levels of children",
         ];
-        assert_eq!(sound, expected);
+        assert_eq!(sound(limit_tables()), expected);
+    }
+
+    #[test]
+    fn heads_with_another_number_of_leaves_are_refused() {
+        let expected = [
+            "two roots, one of them split: five leaves",
+            "spare slots are no leaves",
+            "no leaf of no cell",
+        ];
+        assert_eq!(sound(limit_heads()), expected);
     }
 }

@@ -6,14 +6,12 @@ use crate::meshes::{add_polygons, Mesh};
 use crate::plan_faults::bad_sheets;
 use crate::random::Random;
 use crate::ring_faults::some_place;
-use crate::tables::Table;
 use calls::limits::POLYGONS;
 use calls::well_formed::well_formed;
 
 /// One fault, in the table only if that is sound. Now and then it leaves a sound mesh.
 pub fn put_fault(mesh: &mut Mesh, random: &mut Random) {
-    let Table { row, count, max_level } = &mesh.table;
-    let sound_table = well_formed(row, *count, *max_level);
+    let sound_table = well_formed(&mesh.table.row, mesh.table.head());
     match random.below(10) {
         0..=3 if sound_table => damage(&mut mesh.table, random),
         0..=5 => spoil_sheet(mesh, random),

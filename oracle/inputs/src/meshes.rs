@@ -75,8 +75,9 @@ impl Mesh {
     pub fn balance_within(&mut self, slots: usize) {
         let mut after = self.table.clone();
         after.set_slots(slots.max(after.count));
-        if let Ok(splits) = balance(&mut after.row, after.count, after.max_level) {
-            after.count += 4 * splits as usize;
+        let head = after.head();
+        if let Ok(even) = balance(&mut after.row, head) {
+            after.set_head(even.head);
             after.set_slots(after.count);
             self.table = after;
         }
@@ -84,8 +85,8 @@ impl Mesh {
 
     /// The original's net, in exactly the room that it needs.
     pub fn net(&self) -> Answer<Net> {
-        let Table { row, count, max_level } = &self.table;
-        network(row, *count, *max_level, &self.polygons(), &NetRoom::for_leaves(self.leaves()))
+        let room = NetRoom::for_leaves(self.leaves());
+        network(&self.table.row, self.table.head(), &self.polygons(), &room)
     }
 }
 

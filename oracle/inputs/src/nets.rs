@@ -30,11 +30,12 @@ fn net_of_a_board(random: &mut Random) -> Option<Net> {
     let mut table = random_mesh(&board, random, SLOTS, SPLITS)?;
     if random.one_in(3) {
         table.set_slots(4 * SLOTS);
-        let splits = balance(&mut table.row, table.count, table.max_level).ok()?;
-        table.count += 4 * splits as usize;
+        let head = table.head();
+        let even = balance(&mut table.row, head).ok()?;
+        table.set_head(even.head);
     }
     let room = NetRoom::for_leaves(table.count);
-    network(&table.row, table.count, table.max_level, &board.sheets(), &room).ok()
+    network(&table.row, table.head(), &board.sheets(), &room).ok()
 }
 
 /// Cells anywhere and of any size, each with nodes of its own.

@@ -28,9 +28,9 @@ pub fn ring_mesh(target: i64, ring: &[TickPoint]) -> Mesh {
     let settings = Settings { max_level: 0, cap: 256, target, layers: &[] };
     let outlines = Outlines { sheets, point_count: &[ring.len() as u64], points: ring };
     let mut row = vec![0; 16 * WIDTH];
-    let count = build(&settings, &outlines, &mut row).expect("the ring is taken") as usize;
-    row.truncate(count * WIDTH);
-    let mut mesh = Mesh::of_table(Table { row, count, max_level: 0 });
+    let head = build(&settings, &outlines, &mut row).expect("the ring is taken");
+    row.truncate(head.count * WIDTH);
+    let mut mesh = Mesh::of_table(Table::of(row, head));
     mesh.push_polygon(1, 0, 1.0);
     mesh
 }

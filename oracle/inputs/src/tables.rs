@@ -5,19 +5,46 @@ use crate::random::Random;
 use calls::coarsest::Splitting;
 use calls::contact::Rect;
 use calls::limits::{COORDINATE, WIDEST_LEVEL};
-use calls::table::{Slot, WIDTH};
+use calls::table::{Head, Slot, WIDTH};
+use calls::well_formed::childless;
 
-/// A lent table with its count and level.
+/// A lent table with its head.
 #[derive(Clone, Debug, PartialEq, Eq)]
 pub struct Table {
     pub row: Vec<i64>,
     pub count: usize,
+    pub leaves: usize,
     pub max_level: u64,
 }
 
 impl Table {
     pub fn new(max_level: u64) -> Self {
-        Table { row: Vec::new(), count: 0, max_level }
+        Table { row: Vec::new(), count: 0, leaves: 0, max_level }
+    }
+
+    /// A row with its head.
+    pub fn of(row: Vec<i64>, head: Head) -> Self {
+        let Head { count, leaves, max_level } = head;
+        Table { row, count, leaves, max_level }
+    }
+
+    pub fn head(&self) -> Head {
+        Head { count: self.count, leaves: self.leaves, max_level: self.max_level }
+    }
+
+    /// After a call that was accepted.
+    pub fn set_head(&mut self, head: Head) {
+        Head { count: self.count, leaves: self.leaves, max_level: self.max_level } = head;
+    }
+
+    /// The same table by a head with another number of leaves.
+    pub fn with_leaves(&self, leaves: usize) -> Self {
+        Table { leaves, ..self.clone() }
+    }
+
+    /// As many leaves as the row has, after it was written over.
+    pub fn recount(&mut self) {
+        self.leaves = childless(&self.row, self.count);
     }
 
     /// Roots of polygon 0, then the splits in order.
@@ -46,6 +73,7 @@ impl Table {
         }
         slot.store(&mut self.row, self.count);
         self.count += 1;
+        self.leaves += usize::from(slot.is_leaf());
     }
 
     /// Splits a leaf, in ticks and without the original.
@@ -62,6 +90,7 @@ impl Table {
             });
         }
         Slot { first, ..parent }.store(&mut self.row, id);
+        self.leaves -= 1;
     }
 
     pub fn can_split(&self, id: usize) -> bool {
@@ -80,6 +109,18 @@ impl Table {
         let choice: Vec<usize> = (0..self.count).filter(|&id| self.can_split(id)).collect();
         (!choice.is_empty()).then(|| random.pick(&choice))
     }
+}
+
+/// Numbers that aren't a table's leaves: beside the right one, far off, and what a narrower number would hide.
+pub fn wrong_leaves(table: &Table) -> Vec<usize> {
+    let (count, leaves) = (table.count, table.leaves);
+    let far = [u32::MAX as usize, 1 << 32 | leaves, 1 << 63, usize::MAX];
+    let mut list = vec![leaves.wrapping_sub(1), leaves.wrapping_add(1), 0, count];
+    list.extend(far);
+    list.retain(|&other| other != leaves);
+    list.sort_unstable();
+    list.dedup();
+    list
 }
 
 /// How the roots of one table lie.

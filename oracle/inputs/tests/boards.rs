@@ -8,7 +8,7 @@ use calls::network::{network, NetRoom};
 use calls::power::cell_power;
 use calls::record::{read_record, write_record, Board, RecordRoom};
 use calls::strips::{is_rectilinear, strips, strips_by_the_words};
-use calls::table::{leaf_order, Slot, WIDTH};
+use calls::table::{leaf_order, Head, Slot, WIDTH};
 use calls::ticks::metres;
 use inputs::boards::{random_board, random_mesh};
 use inputs::rings::random_ring;
@@ -81,9 +81,9 @@ fn the_originals_roots_are_those_of_the_words() {
         let mut row = vec![7; random.pick(&[4, 40, 2_000]) * WIDTH];
         let slots = row.len() / WIDTH;
         match build(&board.settings(), &board.outlines(), &mut row) {
-            Ok(count) => {
+            Ok(Head { count, leaves, max_level }) => {
                 let roots = roots_by_the_words(&board);
-                assert_eq!(count as usize, roots.len());
+                assert_eq!((count, leaves, max_level), (roots.len(), count, board.max_level));
                 assert!((0..roots.len()).all(|id| Slot::load(&row, id) == roots[id]));
                 assert!(row[roots.len() * WIDTH..].iter().all(|&number| number == 0));
                 answers[0] += 1;
@@ -120,11 +120,12 @@ fn meshes(seed: u64, wanted: usize) -> Vec<(Board, Table, Net)> {
         };
         if found.len() % 2 == 0 {
             table.set_slots(1_500);
-            let splits = balance(&mut table.row, table.count, table.max_level);
-            table.count += 4 * splits.expect("it has room") as usize;
+            let head = table.head();
+            let even = balance(&mut table.row, head).expect("it has room");
+            table.set_head(even.head);
         }
         let room = NetRoom::for_leaves(table.count);
-        let net = network(&table.row, table.count, table.max_level, &board.sheets(), &room);
+        let net = network(&table.row, table.head(), &board.sheets(), &room);
         found.push((board, table, net.expect("a sound table has a net")));
     }
     found
@@ -139,7 +140,7 @@ fn nets_keep_their_bounds() {
         let mut conductances = net.edges.iter().map(|edge| edge.conductance);
         assert!(conductances.all(|g| g.is_finite() && g > 0.0));
         let mut order = vec![0; leaves];
-        let listed = leaf_order(&table.row, table.count, table.max_level, &mut order);
+        let listed = leaf_order(&table.row, table.head(), &mut order);
         assert_eq!(listed, Ok(leaves as u64));
         for (id, cell) in order.iter().zip(&net.cells) {
             let [x0, y0, x1, y1] = table.slot(*id as usize).rect();
@@ -172,16 +173,16 @@ fn the_walks_agree_on_middles_where_there_is_one_polygon() {
             damaged.edges.remove(random.index(edges));
         }
         for net in [&net, &damaged] {
-            let (row, count, level) = (&table.row, table.count, table.max_level);
-            let by_layer = check_middles_by_layer(row, count, level, &board.sheets(), net);
-            assert_eq!(check_network_conforming(row, count, level, net), by_layer);
+            let (row, head) = (&table.row, table.head());
+            let by_layer = check_middles_by_layer(row, head, &board.sheets(), net);
+            assert_eq!(check_network_conforming(row, head, net), by_layer);
             match by_layer.expect("both are sound") {
                 None => none += 1,
                 Some(_) => some += 1,
             }
         }
-        let (row, count, level) = (&table.row, table.count, table.max_level);
-        let whole = check_middles_by_layer(row, count, level, &board.sheets(), &net);
+        let (row, head) = (&table.row, table.head());
+        let whole = check_middles_by_layer(row, head, &board.sheets(), &net);
         assert_eq!(whole, Ok(None));
     }
     assert!(none > 500 && some > 50, "{none} {some}");

@@ -13,13 +13,12 @@ fn net_of(mesh: &Mesh) -> Net {
 
 fn checked(mesh: &Mesh, net: &Net) -> Option<Hanging> {
     let table = &mesh.table;
-    check_by_layer(&table.row, table.count, table.max_level, &mesh.polygons(), net).expect("sound")
+    check_by_layer(&table.row, table.head(), &mesh.polygons(), net).expect("sound")
 }
 
 fn middles(mesh: &Mesh, net: &Net) -> Option<Hanging> {
     let table = &mesh.table;
-    check_middles_by_layer(&table.row, table.count, table.max_level, &mesh.polygons(), net)
-        .expect("sound")
+    check_middles_by_layer(&table.row, table.head(), &mesh.polygons(), net).expect("sound")
 }
 
 fn named(node: usize, from: usize, to: usize) -> Option<Hanging> {

@@ -12,8 +12,8 @@ fn links_of(linked: &LinkedMesh) -> Answer<usize> {
     let LinkedMesh { mesh, links } = linked;
     let table = &mesh.table;
     let polygons = mesh.polygons();
-    let made = roomy_network(&table.row, table.count, table.max_level, &polygons, links);
-    let rows = edge_rows(&table.row, table.count, table.max_level, &polygons, links);
+    let made = roomy_network(&table.row, table.head(), &polygons, links);
+    let rows = edge_rows(&table.row, table.head(), &polygons, links);
     let count = made.map(|made| made.links);
     assert_eq!(rows, count.map(|count| (8 * mesh.leaves() + count) as u64));
     count
@@ -27,7 +27,7 @@ fn most_meshes_have_links() {
     for _ in 0..MESHES {
         let drawn = any_linked_mesh(&mut random);
         let mesh = &drawn.mesh;
-        assert!(well_formed(&mesh.table.row, mesh.table.count, mesh.table.max_level));
+        assert!(well_formed(&mesh.table.row, mesh.table.head()));
         let count = links_of(&drawn).expect("a sound mesh has a net");
         linked += usize::from(count > 0);
         crowded += usize::from(count > 8 * mesh.leaves());

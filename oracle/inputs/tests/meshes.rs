@@ -10,7 +10,7 @@ use inputs::net_changes::change_net;
 use inputs::Random;
 
 fn is_well_formed(mesh: &Mesh) -> bool {
-    well_formed(&mesh.table.row, mesh.table.count, mesh.table.max_level)
+    well_formed(&mesh.table.row, mesh.table.head())
 }
 
 /// The finest level of a mesh whose levels differ.
@@ -92,9 +92,9 @@ fn changed_nets_give_the_checks_something_to_find() {
         let mesh = any_mesh(&mut random);
         let mut net = mesh.net().expect("a sound mesh has a net");
         change_net(&mut net, &mut random);
-        let (row, count, level) = (&mesh.table.row, mesh.table.count, mesh.table.max_level);
-        let checked = check_network_conforming(row, count, level, &net);
-        let layered = check_by_layer(row, count, level, &mesh.polygons(), &net);
+        let (row, head) = (&mesh.table.row, mesh.table.head());
+        let checked = check_network_conforming(row, head, &net);
+        let layered = check_by_layer(row, head, &mesh.polygons(), &net);
         sound += usize::from(checked.is_ok());
         broken += usize::from(matches!(checked, Ok(Some(_))));
         by_layer += usize::from(matches!(layered, Ok(Some(_))));

@@ -2,13 +2,14 @@
 
 use calls::coarsest::{coarsest, Splitting};
 use calls::even::{even, Allowed};
+use calls::table::{leaf_count, to_grid, Head};
 use calls::well_formed::well_formed;
 use inputs::damage::{damage, every_number};
-use inputs::tables::{random_roomy_table, random_table, Table};
+use inputs::tables::{random_roomy_table, random_table, wrong_leaves, Table};
 use inputs::Random;
 
 fn is_well_formed(table: &Table) -> bool {
-    well_formed(&table.row, table.count, table.max_level)
+    well_formed(&table.row, table.head())
 }
 
 #[test]
@@ -63,9 +64,11 @@ fn the_original_ends_in_the_coarsest_splitting() {
             };
             let mut full = table.clone();
             full.set_slots(least.cells());
-            let splits = even(&mut full.row, table.count, table.max_level, allowed);
-            let splits = splits.expect("the room is exact") as usize;
-            assert_eq!(table.count + 4 * splits, least.cells());
+            let made = even(&mut full.row, table.head(), allowed).expect("the room is exact");
+            let splits = made.splits as usize;
+            let (count, leaves) = (table.count + 4 * splits, table.leaves + 3 * splits);
+            assert_eq!(made.head, Head { count, leaves, ..table.head() });
+            assert_eq!(count, least.cells());
             assert_eq!(Splitting::of_table(&full.row, least.cells()), least);
             split[kind] += usize::from(splits > 0);
         }
@@ -147,4 +150,21 @@ fn even_means_what_contact_says() {
         }
     }
     assert!(uneven.into_iter().all(|tables| (400..1_900).contains(&tables)), "{uneven:?}");
+}
+
+/// The head's number is what the original counts, and four times the leaves is three times the cells and
+/// the roots.
+#[test]
+fn the_original_counts_as_many_leaves() {
+    let mut random = Random::new(17);
+    for _ in 0..4_000 {
+        let table = random_roomy_table(&mut random, 60);
+        let counted = to_grid(&table.row, table.head()).leaf_count();
+        assert_eq!((leaf_count(table.head()), table.leaves), (counted as u64, counted));
+        let roots = (0..table.count).filter(|&id| table.slot(id).level == 0).count();
+        assert_eq!(4 * counted, 3 * table.count + roots);
+        for wrong in wrong_leaves(&table) {
+            assert!(!is_well_formed(&table.with_leaves(wrong)), "{wrong}");
+        }
+    }
 }

@@ -58,12 +58,12 @@ fn refusing_step(record: &[u8]) -> &'static str {
         return "read";
     };
     let mut row = vec![0; SLOTS * WIDTH];
-    let Ok(mut count) = build(&board.settings(), &board.outlines(), &mut row) else {
+    let Ok(mut head) = build(&board.settings(), &board.outlines(), &mut row) else {
         return "build";
     };
     for &id in &board.splits {
-        match refine(&mut row, count as usize, board.max_level, id as usize) {
-            Ok(after) => count = after,
+        match refine(&mut row, head, id as usize) {
+            Ok(after) => head = after,
             Err(_) => return "refine",
         }
     }

@@ -122,11 +122,20 @@ fn orders() -> Vec<NetCase> {
     too_many.sheets[1] = 0.0;
     let mut bad_table = bad();
     bad_table.table.count += 1;
+    bad_table.table.recount();
+    let none = NetLengths::of(&NetRoom::for_leaves(0));
+    let leaves = |leaves: usize| {
+        let mut mesh = bad();
+        mesh.table.leaves = leaves;
+        mesh
+    };
     vec![
         case("the sheet before the room", bad(), short),
         case("the rows before the sheet", bad(), ragged),
         case("the polygon count before the sheet", too_many, exact()),
         case("the polygon count before the room", with_polygons(POLYGONS + 1), short),
         case("the table before the sheet", bad_table, exact()),
+        case("a leaf too few before the sheet", leaves(LEAVES - 1), none),
+        case("a leaf too many before the sheet", leaves(LEAVES + 1), none),
     ]
 }

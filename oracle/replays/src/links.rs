@@ -47,8 +47,8 @@ pub fn offer(replay: &mut Replay) {
 
 fn run_in_rooms(linked: &LinkedMesh, replay: &mut Replay) {
     let LinkedMesh { mesh, links } = linked;
-    let Table { row, count, max_level } = &mesh.table;
-    let made = roomy_network(row, *count, *max_level, &mesh.polygons(), links).expect("a net");
+    let (row, head) = (&mesh.table.row, mesh.table.head());
+    let made = roomy_network(row, head, &mesh.polygons(), links).expect("a net");
     let exact = NetRoom::for_leaves(mesh.leaves()).with_links(made.links);
     run_network(linked, &exact, replay);
     if made.links > 0 {
@@ -59,13 +59,13 @@ fn run_in_rooms(linked: &LinkedMesh, replay: &mut Replay) {
 
 fn run_network(linked: &LinkedMesh, room: &NetRoom, replay: &mut Replay) {
     let LinkedMesh { mesh, links } = linked;
-    let Table { row, count, max_level } = &mesh.table;
+    let (row, head) = (&mesh.table.row, mesh.table.head());
     let mut rows = unused(&NetLengths::of(room));
     let mut work: Vec<u64> = (0..room.work as u64).map(|place| SENTINEL + place).collect();
     let mut case = lent(LINKED_NETWORK, linked);
     lend_net(&mut case, &rows);
     case.row(&work);
-    let answer = linked_network(row, *count, *max_level, &mesh.polygons(), links, room);
+    let answer = linked_network(row, head, &mesh.polygons(), links, room);
     if let Ok(made) = &answer {
         rows.put(&made.net);
         work.fill(0);
@@ -83,8 +83,8 @@ fn run_network(linked: &LinkedMesh, room: &NetRoom, replay: &mut Replay) {
 
 fn run_edge_rows(linked: &LinkedMesh, replay: &mut Replay) {
     let LinkedMesh { mesh, links } = linked;
-    let Table { row, count, max_level } = &mesh.table;
-    let answer = edge_rows(row, *count, *max_level, &mesh.polygons(), links);
+    let (row, head) = (&mesh.table.row, mesh.table.head());
+    let answer = edge_rows(row, head, &mesh.polygons(), links);
     let number = answer.as_ref().err().map_or(0, |why| why.number);
     let mut case = lent(EDGE_ROWS, linked);
     case.answer("edge_rows", answer.map(|rows| vec![rows]));

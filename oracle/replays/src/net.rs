@@ -3,7 +3,7 @@
 use crate::limit_nets::{limit_nets, NetCase};
 use crate::links;
 use crate::loose::{NetLengths, Rows};
-use crate::replay::{class, Case, Replay};
+use crate::replay::{class, head_numbers, Case, Replay};
 use calls::checks::{check_by_layer, check_network_conforming, Hanging};
 use calls::net::Net;
 use calls::network::network;
@@ -97,9 +97,8 @@ fn run_network(lent: &NetCase, replay: &mut Replay) {
     case.fraction_row(&mesh.sheets);
     lend_net(&mut case, &rows);
     case.row(&work);
-    let answer = lengths.room().and_then(|room| {
-        network(&table.row, table.count, table.max_level, &mesh.polygons(), &room)
-    });
+    let answer =
+        lengths.room().and_then(|room| network(&table.row, table.head(), &mesh.polygons(), &room));
     if let Ok(net) = &answer {
         rows.put(net);
         work.fill(0);
@@ -228,9 +227,8 @@ fn run_by_place(mesh: &Mesh, rows: &Rows, room: usize, replay: &mut Replay) {
     let table = &mesh.table;
     let mut case = lent(NETWORK_CONFORMING, rows);
     lend_table(&mut case, mesh);
-    let answer = rows
-        .net()
-        .and_then(|net| check_network_conforming(&table.row, table.count, table.max_level, &net));
+    let answer =
+        rows.net().and_then(|net| check_network_conforming(&table.row, table.head(), &net));
     finish("check_network_conforming", case, answer, room, work_needed(rows), replay);
 }
 
@@ -241,14 +239,12 @@ fn run_by_layer(mesh: &Mesh, rows: &Rows, room: usize, replay: &mut Replay) {
     lend_polygons(&mut case, mesh);
     let r_sheet = vec![1.0; mesh.layers.len()];
     let sheets = Sheets { layer: &mesh.layers, component: &mesh.components, r_sheet: &r_sheet };
-    let answer = rows
-        .net()
-        .and_then(|net| check_by_layer(&table.row, table.count, table.max_level, &sheets, &net));
+    let answer = rows.net().and_then(|net| check_by_layer(&table.row, table.head(), &sheets, &net));
     finish("check_by_layer", case, answer, room, work_needed(rows), replay);
 }
 
 pub fn lend_table(case: &mut Case, mesh: &Mesh) {
-    case.numbers([mesh.table.count as u64, mesh.table.max_level]);
+    case.numbers(head_numbers(mesh.table.head()));
     case.signed_row(&mesh.table.row);
 }
 

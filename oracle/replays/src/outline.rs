@@ -1,6 +1,6 @@
 //! Strips and build, on small rings and boards.
 
-use crate::replay::{class, Case, Replay};
+use crate::replay::{class, head_numbers, Case, Replay};
 use calls::build::{build, roots_of};
 use calls::contact::Rect;
 use calls::limits::{COORDINATE, RING_POINTS};
@@ -153,10 +153,10 @@ fn run_build(plan: &Plan, length: usize, replay: &mut Replay) {
     case.signed_row(&table);
 
     let answer = plan.with_calls_rows(|settings, outlines| build(settings, outlines, &mut table));
-    case.answer("build", answer.map(|roots| vec![roots]));
+    case.answer("build", answer.map(|head| head_numbers(head).to_vec()));
     case.print(&table);
     let class = match answer {
-        Ok(roots) => ("build", 0, roots.min(9) / 3),
+        Ok(head) => ("build", 0, head.count.min(9) as u64 / 3),
         Err(why) => ("build", why.number, why.place.min(1)),
     };
     replay.offer(class, case);
@@ -168,8 +168,8 @@ fn run_build_in_zeros(plan: &Plan, length: usize, replay: &mut Replay) {
     let mut case = lent(BUILD_IN_ZEROS, plan);
     case.number(length as u64);
     let answer = plan.with_calls_rows(|settings, outlines| build(settings, outlines, &mut table));
-    case.answer("build", answer.map(|roots| vec![roots]));
-    replay.offer(class("build", &answer, |&roots| roots), case);
+    case.answer("build", answer.map(|head| head_numbers(head).to_vec()));
+    replay.offer(class("build", &answer, |head| head.count as u64), case);
 }
 
 /// Settings, layer list and polygons as they are lent.

@@ -1,6 +1,7 @@
 //! One replay: the stream of cases and the text of their answers, as crates/cases reads and prints
 //! them.
 
+use calls::table::Head;
 use calls::Answer;
 use std::collections::BTreeMap;
 use std::fmt::Write;
@@ -86,6 +87,11 @@ impl Case {
             false => format!("{:016x}", number.to_bits()),
         }));
     }
+}
+
+/// A head as a case has it and as a program prints it.
+pub fn head_numbers(Head { count, leaves, max_level }: Head) -> [u64; 3] {
+    [count as u64, leaves as u64, max_level]
 }
 
 /// What is counted: the call, the refusal or 0, and what else tells cases apart.

@@ -1,13 +1,16 @@
 //! Contact, and the calls on a table of at most 64 slots.
 
-use crate::replay::{class, Case, Replay};
+use crate::replay::{class, head_numbers, Case, Replay};
 use calls::contact::contact;
-use calls::even::{even, Allowed};
-use calls::table::{leaf_count, leaf_order, leaves, refine, Slot, WIDTH};
+use calls::even::{even, Allowed, Evening};
+use calls::table::{leaf_count, leaf_order, leaves, refine, Head, Slot, WIDTH};
+use calls::well_formed::{childless, well_formed};
 use inputs::damage::damage;
-use inputs::limit_tables::{limit_parts, limit_tables, limit_zero_rows, ZeroRow};
+use inputs::limit_tables::{limit_heads, limit_parts, limit_tables, limit_zero_rows, ZeroRow};
 use inputs::rectangles::{random_pair, Pair};
-use inputs::tables::{random_roomy_table, random_table, random_unbalanced_table, Table};
+use inputs::tables::{
+    random_roomy_table, random_table, random_unbalanced_table, wrong_leaves, Table,
+};
 use inputs::Random;
 
 const CONTACT: u64 = 1;
@@ -17,8 +20,8 @@ const LEAF_ORDER: u64 = 4;
 const REFINE: u64 = 5;
 const BALANCE: u64 = 6;
 const CONFORM: u64 = 7;
-const LEAF_COUNT_OF_ZEROS: u64 = 8;
-const LEAF_COUNT_OF_PART: u64 = 9;
+const LEAVES_OF_ZEROS: u64 = 8;
+const LEAVES_OF_PART: u64 = 9;
 
 /// The longest table and the longest answer row of the program.
 const LONGEST: usize = 520;
@@ -42,7 +45,20 @@ pub fn replay(count: u64, random: &mut Random) -> Replay {
     for (name, table) in limit_tables() {
         assert!(table.row.len() <= LONGEST, "the program reads no more");
         replay.name(&name);
-        run_leaf_count(&table, &mut replay);
+        run_leaves(&table, childless(&table.row, table.count), &mut replay);
+    }
+    for (name, table) in limit_heads() {
+        for (call, run) in CALLS {
+            replay.name(&format!("{name}, {call}"));
+            run(&table, &mut replay);
+        }
+    }
+    for (name, table, allowed) in splits_to_make() {
+        replay.name(name);
+        match allowed {
+            Some(allowed) => run_even(&table, allowed, &mut replay),
+            None => run_refine(&table, 1, &mut replay),
+        }
     }
     replay.name("a pair or table that shows one thing");
     for pair in boundary_pairs() {
@@ -57,6 +73,9 @@ pub fn replay(count: u64, random: &mut Random) -> Replay {
         let mut table = any_table(random);
         if random.one_in(3) {
             damage(&mut table, random);
+        }
+        if random.one_in(12) {
+            table.leaves = random.pick(&wrong_leaves(&table));
         }
         if table.row.len() <= LONGEST {
             run_table(&table, random, &mut replay);
@@ -118,44 +137,75 @@ fn run_contact(pair: Pair, replay: &mut Replay) {
 
 fn lent(kind: u64, table: &Table) -> Case {
     let mut case = Case::of_kind(kind);
-    case.numbers([table.count as u64, table.max_level]);
+    case.numbers(head_numbers(table.head()));
     case.signed_row(&table.row);
     case
 }
 
-/// The row is made of zeros by the program.
-fn run_zeros((count, max_level, length): ZeroRow, replay: &mut Replay) {
-    let found = leaf_count(&vec![0; length], count, max_level);
-    let mut case = Case::of_kind(LEAF_COUNT_OF_ZEROS);
-    case.numbers([count as u64, max_level, length as u64]);
-    case.answer("leaf_count", found.map(|leaves| vec![leaves]));
-    replay.offer(class("leaf_count", &found, |_| 0), case);
+/// A stored case of one call.
+type Run = fn(&Table, &mut Replay);
+
+/// Every call on a table. Each stored case has a name of its own.
+const CALLS: [(&str, Run); 8] = [
+    ("leaf count", run_leaf_count),
+    ("leaves", |table, replay| run_leaves(table, table.leaves.min(9), replay)),
+    ("leaf order", |table, replay| run_leaf_order(table, table.leaves.min(9), replay)),
+    ("refine 0", |table, replay| run_refine(table, 0, replay)),
+    ("refine 1", |table, replay| run_refine(table, 1, replay)),
+    ("refine past the count", |table, replay| run_refine(table, table.count, replay)),
+    ("balance", |table, replay| run_even(table, Allowed::One, replay)),
+    ("conform", |table, replay| run_even(table, Allowed::None, replay)),
+];
+
+/// Tables of which a leaf is split, or whose leaves are evened, by name.
+fn splits_to_make() -> Vec<(&'static str, Table, Option<Allowed>)> {
+    let with_slots = |slots: usize, splits: &[usize]| {
+        let mut table = Table::with(2, &[[0, 0, 8, 8], [8, 0, 16, 8]], splits);
+        table.set_slots(slots);
+        table
+    };
+    vec![
+        ("a split: four cells and three leaves more", with_slots(6, &[]), None),
+        ("a second split", with_slots(10, &[0]), None),
+        ("balance, one split", with_slots(14, &[0, 3]), Some(Allowed::One)),
+        ("conform, one split", with_slots(10, &[0]), Some(Allowed::None)),
+        ("conform, eight splits", with_slots(42, &[0, 3]), Some(Allowed::None)),
+        ("balance of a balanced table", with_slots(10, &[0]), Some(Allowed::One)),
+    ]
 }
 
-/// The whole row is in the stream, and its first slots are lent.
+/// The row is made of zeros by the program, and there is no room for an id.
+fn run_zeros((head, length): ZeroRow, replay: &mut Replay) {
+    let mut case = Case::of_kind(LEAVES_OF_ZEROS);
+    case.numbers(head_numbers(head));
+    case.number(length as u64);
+    finish_leaves(case, &vec![0; length], head, &mut [], replay);
+}
+
+/// The whole row is in the stream, and its first slots are lent; no room for an id either.
 fn run_part(table: &Table, slots: usize, replay: &mut Replay) {
     let length = slots * WIDTH;
-    let found = leaf_count(&table.row[..length], table.count, table.max_level);
-    let mut case = Case::of_kind(LEAF_COUNT_OF_PART);
-    case.numbers([table.count as u64, table.max_level, length as u64]);
+    let mut case = Case::of_kind(LEAVES_OF_PART);
+    case.numbers(head_numbers(table.head()));
+    case.number(length as u64);
     case.signed_row(&table.row);
-    case.answer("leaf_count", found.map(|leaves| vec![leaves]));
-    replay.offer(class("leaf_count", &found, |_| 0), case);
+    finish_leaves(case, &table.row[..length], table.head(), &mut [], replay);
 }
 
-/// The count, where there is one.
-fn run_leaf_count(table: &Table, replay: &mut Replay) -> Option<u64> {
-    let found = leaf_count(&table.row, table.count, table.max_level);
+/// The head's number, whatever the table.
+fn run_leaf_count(table: &Table, replay: &mut Replay) {
+    let sound = well_formed(&table.row, table.head());
     let mut case = lent(LEAF_COUNT, table);
-    case.answer("leaf_count", found.map(|leaves| vec![leaves]));
-    replay.offer(class("leaf_count", &found, |_| 0), case);
-    found.ok()
+    let answer = Ok(leaf_count(table.head()));
+    case.answer("leaf_count", answer.map(|leaves| vec![leaves]));
+    replay.offer(class("leaf_count", &answer, |_| u64::from(sound)), case);
 }
 
 /// Each call once.
 fn run_table(table: &Table, random: &mut Random, replay: &mut Replay) {
-    let found = run_leaf_count(table, replay);
-    let exact = found.unwrap_or(random.below(12)) as usize;
+    run_leaf_count(table, replay);
+    let sound = well_formed(&table.row, table.head());
+    let exact = if sound { table.leaves } else { random.index(12) };
     let rooms = [exact, exact, exact.saturating_sub(1), exact + 3, 0];
     run_leaves(table, random.pick(&rooms).min(ANSWERS), replay);
     run_leaf_order(table, random.pick(&rooms).min(ANSWERS), replay);
@@ -168,10 +218,14 @@ fn run_leaves(table: &Table, room: usize, replay: &mut Replay) {
     let mut out: Vec<u64> = (0..room as u64).map(|place| SENTINEL + place).collect();
     let mut case = lent(LEAVES, table);
     case.row(&out);
-    let answer = leaves(&table.row, table.count, table.max_level, &mut out);
+    finish_leaves(case, &table.row, table.head(), &mut out, replay);
+}
+
+fn finish_leaves(mut case: Case, row: &[i64], head: Head, out: &mut [u64], replay: &mut Replay) {
+    let answer = leaves(row, head, out);
     case.answer("leaves", answer.map(|leaves| vec![leaves]));
-    case.print(&out);
-    replay.offer(class("leaves", &answer, |&leaves| u64::from(leaves < room as u64)), case);
+    case.print(out.iter());
+    replay.offer(class("leaves", &answer, |&leaves| u64::from(leaves < out.len() as u64)), case);
 }
 
 /// Tables that name several polygons are a class of their own.
@@ -179,7 +233,7 @@ fn run_leaf_order(table: &Table, room: usize, replay: &mut Replay) {
     let mut out: Vec<u64> = (0..room as u64).map(|place| SENTINEL + place).collect();
     let mut case = lent(LEAF_ORDER, table);
     case.row(&out);
-    let answer = leaf_order(&table.row, table.count, table.max_level, &mut out);
+    let answer = leaf_order(&table.row, table.head(), &mut out);
     case.answer("leaf_order", answer.map(|leaves| vec![leaves]));
     case.print(&out);
     let sorted = |&leaves: &u64| {
@@ -193,8 +247,8 @@ fn run_refine(table: &Table, id: usize, replay: &mut Replay) {
     let mut row = table.row.clone();
     let mut case = lent(REFINE, table);
     case.number(id as u64);
-    let answer = refine(&mut row, table.count, table.max_level, id);
-    case.answer("refine", answer.map(|count| vec![count, table.max_level]));
+    let answer = refine(&mut row, table.head(), id);
+    case.answer("refine", answer.map(|head| head_numbers(head).to_vec()));
     case.print(&row);
     replay.offer(class("refine", &answer, |_| 0), case);
 }
@@ -207,11 +261,11 @@ fn run_even(table: &Table, allowed: Allowed, replay: &mut Replay) {
     };
     let mut row = table.row.clone();
     let mut case = lent(kind, table);
-    let answer = even(&mut row, table.count, table.max_level, allowed);
-    let head = |splits: u64| vec![splits, table.count as u64 + 4 * splits, table.max_level];
-    case.answer(call, answer.map(head));
+    let answer = even(&mut row, table.head(), allowed);
+    let numbers = |even: Evening| [&[even.splits], &head_numbers(even.head)[..]].concat();
+    case.answer(call, answer.map(numbers));
     case.print(&row);
-    replay.offer(class(call, &answer, |&splits| splits.min(3)), case);
+    replay.offer(class(call, &answer, |even| even.splits.min(3)), case);
 }
 
 fn any_id(table: &Table, random: &mut Random) -> usize {

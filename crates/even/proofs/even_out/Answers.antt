@@ -19,7 +19,7 @@ back : (row : List ℤ) (head : Head) (t u : TableMut) → IsTable row head → 
     → undone head.count u.row.now ≡ row
 back row head t u formed same e g =
     g.undone head.count (omega (arith, ap (λ h. h.count) e)) ∙ ap (undone head.count) same
-    ∙ undone-formed row head.count head.max_level (formed-facts _ _ _ formed)
+    ∙ undone-formed row head (formed-facts _ _ formed)
 
 pub returns-in_err-passes-clause-undone : goal.returns-in_err-passes-clause-undone
 returns-in_err-passes-clause-undone c =

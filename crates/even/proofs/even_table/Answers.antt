@@ -1,13 +1,14 @@
 use Rattle.std.proofs.Common.{sym, ap, ap₂, ◌∙◌, true≢false, arith, ◌≡◌, ◌≤◌, ◌/◌, ℤ, List, length, le-leb}
 use borrow.Author.Tests.{lt-leb}
 use Rattle.table.specs.declared.Head.{Head}
+use Rattle.table.specs.Mesh.{leaf_count}
 use Rattle.table.specs.Formed.{WellFormed}
 use Rattle.table.specs.Rows.{IsTable, cells_in}
 use Rattle.coarsest.specs.declared.Engine.{Engine}
 use Rattle.coarsest.specs.Passes.{difference}
 use Rattle.table.proofs.Cells.{length-table}
 use Rattle.table.proofs.Wellformed.{formed-facts, facts-formed}
-use Rattle.coarsest.proofs.Evened.{evened-grown}
+use Rattle.coarsest.proofs.Evened.{evened-leaves}
 use Rattle.even.specs.Rows.{row_of}
 use Rattle.even.specs.Even.{even_cells, even_says, even_row}
 use Rattle.even.proofs.Rowing.{row_is}
@@ -27,11 +28,11 @@ returns-then-not-well_formed-clause-row_after c = rw (← returns-then-not-well_
 pub returns-then-not-well_formed-clause-coarsest : goal.returns-then-not-well_formed-clause-coarsest
 returns-then-not-well_formed-clause-coarsest c =
     ends-bad _ _ _
-    (λ w. true≢false (sym (facts-formed _ _ _ w) ∙ sym c.well_formed-2.ensures ∙ c.if-not-well_formed.true))
+    (λ w. true≢false (sym (facts-formed _ _ w) ∙ sym c.well_formed-2.ensures ∙ c.if-not-well_formed.true))
 
 pub undo-requires : goal.undo-requires
 undo-requires c =
-    let w = formed-facts _ _ _ (sym c.well_formed-2.ensures ∙ c.if-not-well_formed.false) in
+    let w = formed-facts _ _ (sym c.well_formed-2.ensures ∙ c.if-not-well_formed.false) in
     omega (arith, w.count, c.even_out.auto.row)
 
 pub returns-in-Err-clause-says : goal.returns-in-Err-clause-says
@@ -48,27 +49,30 @@ returns-in-Err-clause-row_after c =
 
 pub returns-in-Err-clause-coarsest : goal.returns-in-Err-clause-coarsest
 returns-in-Err-clause-coarsest c =
-    let w = formed-facts _ _ _ (sym c.well_formed-2.ensures ∙ c.if-not-well_formed.false) in
+    let w = formed-facts _ _ (sym c.well_formed-2.ensures ∙ c.if-not-well_formed.false) in
     rw c.in-Err.ensures.refusal
     (ends-full c.args.engine c.args.head c.args.row.now _ w c.in-Err.ensures.full
     (c.undo.ensures ∙ c.in-Err.ensures.undone))
 
--- where there was room: the row has as many cells as the passes end in
+-- where there was room: the row has as many cells and leaves as the passes end in
 module _ (e : Engine) (head grown : Head) (old new : List ℤ) (formed : IsTable new grown)
     (cells : cells_in new grown ≡ even_cells e old head) where
   as_many : length (even_cells e old head) ≡ grown.count
   as_many = ap length (sym cells) ∙ length-table new grown.count
 
   room : length new ≡ length old → grown.count ≤ length old / 8
-  room l = let w = formed-facts _ _ _ formed in omega (arith, w.count, ap (λ x. x / 8) l)
+  room l = let w = formed-facts _ _ formed in omega (arith, w.count, ap (λ x. x / 8) l)
 
-  grows : WellFormed old head.count head.max_level → head.count ≤ grown.count
-  grows w = omega (arith, evened-grown e (difference e) head.max_level (cells_in old head) w.cells, as_many, length-table old head.count)
+  as-leafy : leaf_count (even_cells e old head) ≡ grown.leaves
+  as-leafy = ap leaf_count (sym cells) ∙ sym (formed-facts _ _ formed).leaves
+
+  grows : WellFormed old head → head.leaves ≤ grown.leaves
+  grows w = let a = (evened-leaves e (difference e) head.max_level (cells_in old head)).leaves in omega (arith, as-leafy, w.leaves)
 
 pub overflow_sub-result : goal.overflow_sub-result
 overflow_sub-result c =
     grows c.args.engine c.args.head c.in-Ok.grown c.args.row.now c.even_out.new.row c.in-Ok.ensures.formed
-    c.in-Ok.ensures.cells (formed-facts _ _ _ (sym c.well_formed-2.ensures ∙ c.if-not-well_formed.false))
+    c.in-Ok.ensures.cells (formed-facts _ _ (sym c.well_formed-2.ensures ∙ c.if-not-well_formed.false))
 
 pub returns-in-Ok-clause-says : goal.returns-in-Ok-clause-says
 unfolding even_says
@@ -78,6 +82,7 @@ returns-in-Ok-clause-says c =
     sym (rw (
       yes,
       as_many c.args.engine c.args.head c.in-Ok.grown c.args.row.now c.even_out.new.row g.formed g.cells,
+      as-leafy c.args.engine c.args.head c.in-Ok.grown c.args.row.now c.even_out.new.row g.formed g.cells,
       le-leb _ _ (room c.args.engine c.args.head c.in-Ok.grown c.args.row.now c.even_out.new.row g.formed
           g.cells c.even_out.auto.row),
       ← g.max_level,
@@ -88,13 +93,14 @@ unfolding even_row
 returns-in-Ok-clause-row_after c =
     let g = c.in-Ok.ensures in
     rw (← returns-in-Ok-clause-says c)
-    (row_is _ _ _ (formed-facts _ _ _ g.formed) ∙ ap₂ row_of g.cells c.even_out.auto.row)
+    (row_is _ _ (formed-facts _ _ g.formed) ∙ ap₂ row_of g.cells c.even_out.auto.row)
 
 pub returns-in-Ok-clause-coarsest : goal.returns-in-Ok-clause-coarsest
 returns-in-Ok-clause-coarsest c =
-    let w = formed-facts _ _ _ (sym c.well_formed-2.ensures ∙ c.if-not-well_formed.false) in
+    let w = formed-facts _ _ (sym c.well_formed-2.ensures ∙ c.if-not-well_formed.false) in
     let g = c.in-Ok.ensures in
     rw g.max_level
-    (ends-done c.args.engine c.args.head c.args.row.now _ w _ g.cells
+    (ends-done c.args.engine c.args.head c.args.row.now _ w _ _ g.cells
+    (sym (as-leafy c.args.engine c.args.head c.in-Ok.grown c.args.row.now c.even_out.new.row g.formed g.cells))
     (room c.args.engine c.args.head c.in-Ok.grown c.args.row.now c.even_out.new.row g.formed g.cells
     c.even_out.auto.row))

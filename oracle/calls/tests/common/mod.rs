@@ -6,21 +6,22 @@ use calls::even::balance;
 use calls::net::Net;
 use calls::network::{network, NetRoom};
 use calls::record::{Board, RecordRoom};
-use calls::table::{refine, Slot, WIDTH};
+use calls::table::{refine, Head, Slot, WIDTH};
+use calls::well_formed::childless;
 use calls::{Answer, Refusal};
 
-/// A table with its count and level.
+/// A table with its head.
 #[derive(Clone, Debug)]
 pub struct Table {
     pub row: Vec<i64>,
-    pub count: usize,
-    pub max_level: u64,
+    pub head: Head,
 }
 
 impl Table {
     /// Roots of polygon 0, then the splits in order.
     pub fn new(max_level: u64, slots: usize, roots: &[[i64; 4]], splits: &[usize]) -> Self {
-        let mut table = Table { row: vec![0; slots * WIDTH], count: roots.len(), max_level };
+        let head = Head { count: roots.len(), leaves: roots.len(), max_level };
+        let mut table = Table { row: vec![0; slots * WIDTH], head };
         for (id, &rect) in roots.iter().enumerate() {
             Slot::root(rect, 0).store(&mut table.row, id);
         }
@@ -31,8 +32,12 @@ impl Table {
     }
 
     pub fn split(&mut self, id: usize) {
-        let count = refine(&mut self.row, self.count, self.max_level, id);
-        self.count = count.expect("it can be split") as usize;
+        self.head = refine(&mut self.row, self.head, id).expect("it can be split");
+    }
+
+    /// As many leaves as the row has, after it was written over.
+    pub fn recount(&mut self) {
+        self.head.leaves = childless(&self.row, self.head.count);
     }
 
     pub fn slot(&self, id: usize) -> Slot {
@@ -78,17 +83,16 @@ pub fn wide_room() -> RecordRoom {
 /// The board's roots, its splits made and balanced.
 pub fn mesh(board: &Board, slots: usize) -> Table {
     let mut row = vec![0; slots * WIDTH];
-    let count = build(&board.settings(), &board.outlines(), &mut row).expect("it builds");
-    let mut table = Table { row, count: count as usize, max_level: board.max_level };
+    let head = build(&board.settings(), &board.outlines(), &mut row).expect("it builds");
+    let mut table = Table { row, head };
     for &id in &board.splits {
         table.split(id as usize);
     }
-    let splits = balance(&mut table.row, table.count, table.max_level).expect("it has room");
-    table.count += 4 * splits as usize;
+    table.head = balance(&mut table.row, table.head).expect("it has room").head;
     table
 }
 
 pub fn net_of(board: &Board, table: &Table) -> Net {
-    let room = NetRoom::for_leaves(table.count);
-    network(&table.row, table.count, table.max_level, &board.sheets(), &room).expect("a net")
+    let room = NetRoom::for_leaves(table.head.leaves);
+    network(&table.row, table.head, &board.sheets(), &room).expect("a net")
 }

@@ -41,7 +41,7 @@ pub fn run() -> bool {
 /// The time, and whether nothing was named.
 fn time_original(mesh: &Mesh, net: &Net) -> Best<bool> {
     let table = &mesh.table;
-    let grid = to_grid(&table.row, table.count, table.max_level);
+    let grid = to_grid(&table.row, table.head());
     let original_net = net.to_original();
     best(|| {
         let mut clear = false;

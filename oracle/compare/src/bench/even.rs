@@ -21,7 +21,7 @@ pub fn run() -> bool {
 fn measure(call: &str, cells: i64, allowed: Allowed, engine: fn(&mut AdaptiveGrid)) -> bool {
     let table = board_with_eight_corners(cells);
     let original = best(|| {
-        let mut grid = to_grid(&table.row, table.count, table.max_level);
+        let mut grid = to_grid(&table.row, table.head());
         let time = timed(|| engine(&mut grid));
         let mut row = vec![0; SLOTS * WIDTH];
         store_grid(&grid, &mut row);
@@ -30,8 +30,8 @@ fn measure(call: &str, cells: i64, allowed: Allowed, engine: fn(&mut AdaptiveGri
     let port = best(|| {
         let mut row = table.row.clone();
         let mut outcome = None;
-        let (count, max_level) = (table.count, table.max_level);
-        let time = timed(|| outcome = Some(port::even::even(&mut row, count, max_level, allowed)));
+        let head = table.head();
+        let time = timed(|| outcome = Some(port::even::even(&mut row, head, allowed)));
         assert_eq!(outcome.map(|outcome| outcome.number), Some(0), "there is room");
         (time, row)
     });

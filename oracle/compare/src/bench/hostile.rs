@@ -85,7 +85,8 @@ impl Side {
         let (cost, row) = time(board, allowed);
         self.runs.push((board.table.slots(), board.cells, cost.time.as_secs_f64()));
         let mut right = board.table.clone();
-        indexed::even(&mut right.row, right.count, right.max_level, allowed).expect("it fits");
+        let head = right.head();
+        indexed::even(&mut right.row, head, allowed).expect("it fits");
         row == right.row
     }
 
@@ -151,7 +152,7 @@ fn time_port(board: &Fitted, allowed: Allowed) -> Best<Vec<i64>> {
     best_within(ENOUGH, || {
         let mut row = table.row.clone();
         let time = timed(|| {
-            port::even::even(&mut row, table.count, table.max_level, allowed);
+            port::even::even(&mut row, table.head(), allowed);
         });
         (time, row)
     })
@@ -164,7 +165,7 @@ fn time_original(board: &Fitted, allowed: Allowed) -> Best<Vec<i64>> {
         Allowed::None => AdaptiveGrid::conform,
     };
     best_within(ENOUGH, || {
-        let mut grid = to_grid(&table.row, table.count, table.max_level);
+        let mut grid = to_grid(&table.row, table.head());
         let time = timed(|| engine(&mut grid));
         let mut row = vec![0; table.row.len()];
         store_grid(&grid, &mut row);

@@ -41,7 +41,7 @@ pub fn run() -> bool {
     let mut same = true;
     for (words, links, spare) in kinds {
         let table = &mesh.table;
-        let rows = edge_rows(&table.row, table.count, table.max_level, &mesh.polygons(), &links);
+        let rows = edge_rows(&table.row, table.head(), &mesh.polygons(), &links);
         let exact = rows.expect("they are sound") as usize;
         let count = exact - mesh_rows;
         let mut room = NetRoom::for_leaves(leaves).with_links(count);
@@ -55,7 +55,7 @@ pub fn run() -> bool {
 
 fn time_original(mesh: &Mesh, links: &Links) -> Best<Bits> {
     let table = &mesh.table;
-    let grid = to_grid(&table.row, table.count, table.max_level);
+    let grid = to_grid(&table.row, table.head());
     let names = LayerNames::with_channels_on(links.channel_layer);
     let sheets = mesh.polygons();
     let polygons: Vec<SheetPolygon> =

@@ -46,7 +46,7 @@ pub fn run() -> bool {
 
 fn time_original(mesh: &Mesh) -> Best<Bits> {
     let table = &mesh.table;
-    let grid = to_grid(&table.row, table.count, table.max_level);
+    let grid = to_grid(&table.row, table.head());
     let polygons: [SheetPolygon; 1] = [mesh.polygons().to_original(0, &[])];
     best(|| {
         let mut net = SheetNetwork::default();

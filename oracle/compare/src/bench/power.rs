@@ -42,5 +42,5 @@ fn square_net() -> Net {
     let table = Table::with(3, &rects, &[]);
     let sheets = Sheets { layer: &[1], component: &[0], r_sheet: &[1.5] };
     let room = NetRoom::for_leaves(table.count);
-    network(&table.row, table.count, table.max_level, &sheets, &room).expect("a sound table")
+    network(&table.row, table.head(), &sheets, &room).expect("a sound table")
 }

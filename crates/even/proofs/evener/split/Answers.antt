@@ -31,12 +31,12 @@ returns c =
       goes_on = record {
         same_reference = c.split.ensures.same_reference;
         row_length = c.split.ensures.row_length;
-        max_level = c.split.ensures.max_level;
-        more = omega (arith, c.split.ensures.count);
+        max_level = ap (λ h. h.max_level) c.split.ensures.head;
+        more = omega (arith, ap (λ h. h.count) c.split.ensures.head);
         roots = λ r x. subst (λ (u : List Cell). Indexes r u) (sym c.split.ensures.cells)
             (split-indexed (cells_mut t) c.args.id (rw length-of i) r x);
         undone = λ m h. ap (undone m) c.split.ensures.row
-            ∙ undone-split t.row.now t.head.count t.head.max_level c.args.id m (formed-facts _ _ _ t.formed) i
+            ∙ undone-split t.row.now t.head c.args.id m (formed-facts _ _ t.formed) i
             (leaf_read _ _ _ i ∙ ap is_none c.requires.leaf) (c.has_room.ensures.0 c.if-not-has_room.false) h;
       };
       cells = c.split.ensures.cells;

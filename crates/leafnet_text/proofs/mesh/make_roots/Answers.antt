@@ -1,30 +1,19 @@
 -- What build says and leaves is what the board's roots say and leave.
-use Rattle.std.proofs.Common.{◌∷◌, [], ◌≡◌, ◌∙◌, length, rules}
-use Rattle.refusals.specs.Said.{accepted, refusal}
+use Rattle.std.proofs.Common.{◌≡◌, ◌∙◌, length, rules}
 use Rattle.strips.specs.Said.{if_accepted}
 use Rattle.build.specs.Board.{board}
-use Rattle.build.specs.Says.{build_says, build_leaves, filled}
+use Rattle.build.specs.Says.{built_said, build_says, build_leaves, filled}
 use Rattle.leafnet_text.specs.Boards.{given_of}
-use Rattle.leafnet_text.specs.Growing.{rooted_said, roots_say, roots_row}
+use Rattle.leafnet_text.specs.Growing.{roots_say, roots_row}
 use Rattle.leafnet_text.proofs.Steps.{built-head, built-row}
 use Rattle.leafnet_text.proofs.mesh.make_roots.Goals as goal
-
-pub returns-in_err-count-clause-says : goal.returns-in_err-count-clause-says
-returns-in_err-count-clause-says c =
-    let b = c.args.board.now in
-    let x = c.in_err-count in
-    let said : rooted_said c.from_residual.result ≡ refusal x.field-0.0 = search rules in
-    let long : length c.args.row.now ≡ 512 = search rules in
-    said ∙ x.ensures.answer
-    ∙ (λ i. build_says (board b.settings (c.deref-6.ensures.value i) (c.deref.ensures.value i) (c.deref-4.ensures.value i)
-    (c.deref-5.ensures.value i)) (c.deref-2.ensures.value i) (c.deref-3.ensures.value i) (long i))
 
 pub returns : goal.returns
 unfolding build_leaves
 returns c =
     let b = c.args.board.now in
     let g = given_of b in
-    let x = c.in_ok-count in
+    let r = c.build.result in
     let long : length c.args.row.now ≡ 512 = search rules in
     let list = c.deref-6.ensures.value in
     let layers = c.deref.ensures.value in
@@ -32,14 +21,14 @@ returns c =
     let points = c.deref-5.ensures.value in
     let components = c.deref-2.ensures.value in
     let sheets = c.deref-3.ensures.value in
-    let says : accepted (x.count ∷ []) ≡ roots_say g =
-    x.ensures.answer ∙ (λ i. build_says (board b.settings (list i) (layers i) (counts i) (points i)) (components i) (sheets i) (long i)) in
+    let says : built_said r ≡ roots_say g =
+    c.build.ensures.answer ∙ (λ i. build_says (board b.settings (list i) (layers i) (counts i) (points i)) (components i) (sheets i) (long i)) in
     let left : c.build.new.table ≡ if_accepted (roots_say g) (roots_row g) c.args.row.now =
-    x.ensures.slots
+    c.build.ensures.slots
     ∙ (λ i. if_accepted (build_says (board b.settings (list i) (layers i) (counts i) (points i)) (components i) (sheets i) (long i))
     (filled (board b.settings (list i) (layers i) (counts i) (points i)) (long i)) c.args.row.now) in
     record {
       says = says;
-      head = built-head g x.count says;
-      row_after = built-row g x.count c.args.row.now c.build.new.table says left;
+      head = built-head g r says;
+      row_after = built-row g r c.args.row.now c.build.new.table says left;
     }

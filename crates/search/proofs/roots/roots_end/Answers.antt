@@ -16,6 +16,6 @@ loop-id-preserved c =
     let t = c.args.table.now in
     let l = c.loop-id in
     let e : l.id ≡ l.id - 1 + 1 = omega arith in
-    roots_less t.head.max_level (cells t) (formed-facts _ _ _ t.formed).cells (l.id - 1)
+    roots_less t.head.max_level (cells t) (formed-facts _ _ t.formed).cells (l.id - 1)
     (subst (RootsBelow (cells t)) e l.invariant)
     (λ z. c.if-level-eq0.false (c.level.ensures ∙ z))

@@ -29,7 +29,7 @@ low t p h =
     let l = length-table t.row.now t.head.count in
     omega (
       arith,
-      level-most t.head.max_level (cells t) (formed-facts _ _ _ t.formed).cells p (rw l h),
+      level-most t.head.max_level (cells t) (formed-facts _ _ t.formed).cells p (rw l h),
       t.range,
     )
 
@@ -42,7 +42,7 @@ concerned-levels-requires c = omega (arith, low c.args.table.now c.args.parent c
 pub mark_four-requires : goal.mark_four-requires
 mark_four-requires c =
     let t = c.args.table.now in
-    let g = ((formed-facts _ _ _ t.formed).cells.split c.args.parent c.args.first c.requires.kids).below in
+    let g = ((formed-facts _ _ t.formed).cells.split c.args.parent c.args.first c.requires.kids).below in
     omega (arith, g, length-table t.row.now t.head.count, t.within, t.slots)
 
 pub returns-clause-met : goal.returns-clause-met
@@ -52,7 +52,7 @@ returns-clause-met c y low high =
     let M = c.args.table.now.head.max_level in
     let e : c.level.result + 1 ≡ (at t c.args.parent).level + 1 = omega (arith, c.level.ensures) in
     let l = c.concerned-levels.result in
-    let m = kid-met s.engine (difference s.engine) M t (formed-facts _ _ _ c.args.table.now.formed).cells c.args.parent c.args.first l
+    let m = kid-met s.engine (difference s.engine) M t (formed-facts _ _ c.args.table.now.formed).cells c.args.parent c.args.first l
     c.requires.kids
     (subst (λ (z : ℕ). (x : ℕ) → Reaches s.engine (difference s.engine) M z x → (l.low ≤ x) × (x ≤ l.high)) e
     (λ x r. (c.concerned-levels.ensures.low x r, c.concerned-levels.ensures.high x r)))

@@ -15,7 +15,7 @@ use Rattle.even.proofs.evener.Evener.mark_new.Goals as goal
 group : (t : Table) (x p : ℕ) → x < t.head.count → (at (cells t) x).parent ≡ Some p → Group (cells t) p x
 group t x p h e =
     let l = length-table t.row.now t.head.count in
-    group-of t.head.max_level (cells t) (formed-facts _ _ _ t.formed).cells p x (rw l h) e
+    group-of t.head.max_level (cells t) (formed-facts _ _ t.formed).cells p x (rw l h) e
 
 -- and by the first child that it reads of that
 record Four (t : Table) (x p f : ℕ) : Type 0 where

@@ -1,6 +1,7 @@
 -- The first refusal is printed, or the text is the table's.
-use Rattle.std.proofs.Common.{◌≡◌, ◌∙◌, ◌∷◌, [], Err, rules}
+use Rattle.std.proofs.Common.{◌≡◌, ◌∙◌, Err, rules}
 use Rattle.refusals.specs.Said.{accepted, refusal}
+use Rattle.table.specs.Rows.{head_values}
 use Rattle.coarsest.specs.declared.Engine.TheVariants.{Balancing}
 use Rattle.even.specs.Even.{even_says, even_row}
 use Rattle.leafnet_text.specs.Boards.{given_of}
@@ -26,7 +27,7 @@ returns-in_err-refined c =
     let split : refusal x.field-0.0 ≡ splits_say g =
     x.ensures.says ∙ (λ i. refine_all_says (d.ensures.row_after i) (d.ensures.head i) (c.deref.ensures.value i)) in
     prints-refused c.from_residual-in_err-refined.result x.field-0.0 _ _ same
-    (split-refused g d.roots.count x.field-0.0 d.ensures.says split)
+    (split-refused g d.roots x.field-0.0 d.ensures.says split)
 
 pub returns-in_err-splits : goal.returns-in_err-splits
 returns-in_err-splits c =
@@ -35,14 +36,14 @@ returns-in_err-splits c =
     let r = c.in_ok-refined in
     let x = c.in_err-splits in
     let same : c.from_residual-in_err-splits.result ≡ Err x.field-0.0 = search rules in
-    let split : accepted (r.refined.count ∷ r.refined.max_level ∷ []) ≡ splits_say g =
+    let split : accepted (head_values r.refined) ≡ splits_say g =
     r.ensures.says ∙ (λ i. refine_all_says (d.ensures.row_after i) (d.ensures.head i) (c.deref.ensures.value i)) in
     let row : c.refine_all.new.row ≡ split_row g =
     r.ensures.row_after ∙ (λ i. refine_all_row (d.ensures.row_after i) (d.ensures.head i) (c.deref.ensures.value i)) in
     let head = split-is g r.refined split in
     let even : refusal x.field-0.0 ≡ balance_says g = x.ensures.says ∙ (λ i. even_says Balancing (row i) (head i)) in
     prints-refused c.from_residual-in_err-splits.result x.field-0.0 _ _ same
-    (balance-refused g d.roots.count r.refined.count r.refined.max_level x.field-0.0 d.ensures.says split even)
+    (balance-refused g d.roots r.refined x.field-0.0 d.ensures.says split even)
 
 pub returns : goal.returns
 returns c =
@@ -50,11 +51,11 @@ returns c =
     let d = c.in_ok-roots in
     let r = c.in_ok-refined in
     let x = c.in_ok-splits in
-    let split : accepted (r.refined.count ∷ r.refined.max_level ∷ []) ≡ splits_say g =
+    let split : accepted (head_values r.refined) ≡ splits_say g =
     r.ensures.says ∙ (λ i. refine_all_says (d.ensures.row_after i) (d.ensures.head i) (c.deref.ensures.value i)) in
     let row : c.refine_all.new.row ≡ split_row g =
     r.ensures.row_after ∙ (λ i. refine_all_row (d.ensures.row_after i) (d.ensures.head i) (c.deref.ensures.value i)) in
     let head = split-is g r.refined split in
-    grown-text g d.roots.count r.refined.count r.refined.max_level x.field-0.splits x.field-0.head c.balance.new.row
+    grown-text g d.roots r.refined x.field-0.splits x.field-0.head c.balance.new.row
     d.ensures.says split (x.ensures.says ∙ (λ i. even_says Balancing (row i) (head i)))
     (x.ensures.row_after ∙ (λ i. even_row Balancing (row i) (head i)))

@@ -15,7 +15,7 @@ below : (t : ℕ) (c : In-Some t) (j : ℕ) → c.in-Some.first ≤ j → j < c.
     → Child c.args.self.now.table.head.max_level (cells c.args.self.now.table) c.args.c j
 below t c j l h =
     let s = c.args.self.now in
-    child _ _ (formed-facts _ _ _ s.table.formed).cells c.args.c c.in-Some.first j (sym c.in-Some.ensures) l h
+    child _ _ (formed-facts _ _ s.table.formed).cells c.args.c c.in-Some.first j (sym c.in-Some.ensures) l h
 
 pub overflow_add-child-end : goal.overflow_add-child-end
 overflow_add-child-end t c =
@@ -28,7 +28,7 @@ returns-then-not-is_near t c =
     let s = c.args.self.now in
     let l = length-table s.table.row.now s.table.head.count in
     least-none (owes s c.args.difference) c.args.from (Under (cells s.table) c.args.c) c.args.best
-    (λ b u f d. absurd (far-owes _ _ (formed-facts _ _ _ s.table.formed).cells c.args.c c.args.difference s.cell
+    (λ b u f d. absurd (far-owes _ _ (formed-facts _ _ s.table.formed).cells c.args.c c.args.difference s.cell
     (rw l s.inside) (c.is_near.ensures c.if-not-is_near.true) b u d))
 
 pub returns-in_default : goal.returns-in_default

@@ -15,7 +15,7 @@ below : (t : ℕ) (c : In-Some t) (j : ℕ) → c.in-Some.first ≤ j → j < c.
     → Child c.args.self.now.table.head.max_level (cells c.args.self.now.table) c.args.c j
 below t c j l h =
     let s = c.args.self.now in
-    child _ _ (formed-facts _ _ _ s.table.formed).cells c.args.c c.in-Some.first j (sym c.in-Some.ensures) l h
+    child _ _ (formed-facts _ _ s.table.formed).cells c.args.c c.in-Some.first j (sym c.in-Some.ensures) l h
 
 pub overflow_add-child-end : goal.overflow_add-child-end
 overflow_add-child-end t c =
@@ -27,27 +27,27 @@ pub returns-then-not-meets : goal.returns-then-not-meets
 returns-then-not-meets t c =
     let s = c.args.self.now in
     marked-none (Wanted (cells s.table) s.cell c.args.levels) (Under (cells s.table) c.args.c) c.args.marks.now
-    (apart-unwanted _ _ (formed-facts _ _ _ s.table.formed).cells s.cell c.args.levels c.args.c
+    (apart-unwanted _ _ (formed-facts _ _ s.table.formed).cells s.cell c.args.levels c.args.c
     (c.meets.ensures c.if-not-meets.true))
 
 pub returns-then-levels-level : goal.returns-then-levels-level
 returns-then-levels-level t c =
     let s = c.args.self.now in
     marked-none (Wanted (cells s.table) s.cell c.args.levels) (Under (cells s.table) c.args.c) c.args.marks.now
-    (fine-unwanted _ _ (formed-facts _ _ _ s.table.formed).cells s.cell c.args.levels c.args.c
+    (fine-unwanted _ _ (formed-facts _ _ s.table.formed).cells s.cell c.args.levels c.args.c
     (omega (arith, c.if-levels-level.true, c.level-level.ensures)))
 
 pub returns-then-levels-level-2 : goal.returns-then-levels-level-2
 returns-then-levels-level-2 t c =
     let s = c.args.self.now in
-    leaf-marked _ (cells s.table) (formed-facts _ _ _ s.table.formed).cells s.cell c.args.levels c.args.c
+    leaf-marked _ (cells s.table) (formed-facts _ _ s.table.formed).cells s.cell c.args.levels c.args.c
     (sym c.in_default.ensures) c.args.marks.now c.mark.new.self c.mark.ensures
 
 pub returns-else-levels-level-2 : goal.returns-else-levels-level-2
 returns-else-levels-level-2 t c =
     let s = c.args.self.now in
     marked-none (Wanted (cells s.table) s.cell c.args.levels) (Under (cells s.table) c.args.c) c.args.marks.now
-    (leaf-unwanted _ _ (formed-facts _ _ _ s.table.formed).cells s.cell c.args.levels c.args.c (sym c.in_default.ensures)
+    (leaf-unwanted _ _ (formed-facts _ _ s.table.formed).cells s.cell c.args.levels c.args.c (sym c.in_default.ensures)
     (omega (arith, c.if-levels-level-2.false, c.level-level.ensures)))
 
 pub mark_under-requires : goal.mark_under-requires
@@ -61,10 +61,10 @@ mark_under-requires t c =
 
 pub loop-child-preserved : goal.loop-child-preserved
 loop-child-preserved t c =
-    next-marked _ _ (formed-facts _ _ _ c.args.self.now.table.formed).cells _ _ c.args.c _ _ _ _ _ c.loop-child.invariant
+    next-marked _ _ (formed-facts _ _ c.args.self.now.table.formed).cells _ _ c.args.c _ _ _ _ _ c.loop-child.invariant
     c.mark_under.ensures
 
 pub returns : goal.returns
 returns t c =
-    kids-marked _ _ (formed-facts _ _ _ c.args.self.now.table.formed).cells _ _ c.args.c c.in-Some.first c.loop-child.child _ _
+    kids-marked _ _ (formed-facts _ _ c.args.self.now.table.formed).cells _ _ c.args.c c.in-Some.first c.loop-child.child _ _
     (sym c.in-Some.ensures) c.loop-child-test.false c.loop-child.invariant

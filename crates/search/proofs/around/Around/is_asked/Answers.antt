@@ -13,7 +13,7 @@ loop-root-init c =
     let t = cells s.table in
     let r = c.next_root-root.result in
     found_none (asks s c.args.difference) c.args.stop (Seen t r)
-    (λ b u l d. aside-asks _ t (formed-facts _ _ _ s.table.formed).cells c.args.difference s.cell
+    (λ b u l d. aside-asks _ t (formed-facts _ _ s.table.formed).cells c.args.difference s.cell
     (rw length-table s.inside) b (seen_first t s.cell r b c.next_root-root.ensures.passed u) d)
 
 pub asked_under-requires : goal.asked_under-requires
@@ -30,7 +30,7 @@ loop-root-preserved c =
     found_none (asks s c.args.difference) c.args.stop (Seen t r)
     (λ b u f d. ⊎_elim
     (λ v. ⊎_elim (λ w. c.loop-root.invariant.no refl b w f d) (λ w. c.asked_under.ensures.no c.if-asked_under.false b w f d) v)
-    (λ v. aside-asks _ t (formed-facts _ _ _ s.table.formed).cells c.args.difference s.cell
+    (λ v. aside-asks _ t (formed-facts _ _ s.table.formed).cells c.args.difference s.cell
     (rw length-table s.inside) b v d)
     (seen_next t s.cell c.loop-root.root r b c.next_root-root-in-loop-root.ensures.passed u))
 
@@ -40,5 +40,5 @@ returns c =
     let t = cells s.table in
     found_as (asks s c.args.difference) c.args.stop (Seen t c.loop-root.root) (λ (b : ℕ). b < s.table.head.count) _
     c.loop-root.invariant
-    (λ b h d. seen_all _ t (formed-facts _ _ _ s.table.formed).cells s.roots.now.end c.loop-root.root s.indexed.below
+    (λ b h d. seen_all _ t (formed-facts _ _ s.table.formed).cells s.roots.now.end c.loop-root.root s.indexed.below
     c.loop-root-test.false b (rw length-table h))

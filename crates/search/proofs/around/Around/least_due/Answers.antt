@@ -14,7 +14,7 @@ loop-root-init c =
     let t = cells s.table in
     let r = c.next_root-root.result in
     least-none (owes s c.args.difference) c.args.from (Seen t r) c.args.stop
-    (λ b u f d. absurd (aside-owes _ t (formed-facts _ _ _ s.table.formed).cells c.args.difference s.cell
+    (λ b u f d. absurd (aside-owes _ t (formed-facts _ _ s.table.formed).cells c.args.difference s.cell
     (rw length-table s.inside) b (seen_first t s.cell r b c.next_root-root.ensures.passed u) d))
 
 pub least_under-best-requires : goal.least_under-best-requires
@@ -34,7 +34,7 @@ loop-root-preserved c =
     least-as owed c.args.from (λ (b : ℕ). Seen t l.root b ⊎ Under t l.root b) (Seen t r) c.args.stop g.result
     (least-then owed c.args.from (Seen t l.root) (Under t l.root) c.args.stop l.best g.result l.invariant g.ensures)
     (λ b u d. ⊎_elim (λ v. v)
-    (λ v. absurd (aside-owes _ t (formed-facts _ _ _ s.table.formed).cells c.args.difference s.cell
+    (λ v. absurd (aside-owes _ t (formed-facts _ _ s.table.formed).cells c.args.difference s.cell
     (rw length-table s.inside) b v d))
     (seen_next t s.cell l.root r b c.next_root-root-in-loop-root.ensures.passed u))
 
@@ -44,5 +44,5 @@ returns c =
     let t = cells s.table in
     least-as (owes s c.args.difference) c.args.from (Seen t c.loop-root.root) (λ (b : ℕ). b < s.table.head.count) c.args.stop
     c.loop-root.best c.loop-root.invariant
-    (λ b h d. seen_all _ t (formed-facts _ _ _ s.table.formed).cells s.roots.now.end c.loop-root.root s.indexed.below
+    (λ b h d. seen_all _ t (formed-facts _ _ s.table.formed).cells s.roots.now.end c.loop-root.root s.indexed.below
     c.loop-root-test.false b (rw length-table h))

@@ -14,7 +14,7 @@ loop-root-init c =
     let t = cells s.table in
     let r = c.next_root-root.result in
     marked-none (Wanted t s.cell c.args.levels) (Seen t r) c.args.marks.now
-    (λ a u w. aside-unwanted _ t (formed-facts _ _ _ s.table.formed).cells s.cell c.args.levels a
+    (λ a u w. aside-unwanted _ t (formed-facts _ _ s.table.formed).cells s.cell c.args.levels a
     (seen_first t s.cell r a c.next_root-root.ensures.passed u) w)
 
 pub mark_under-requires : goal.mark_under-requires
@@ -34,7 +34,7 @@ loop-root-preserved c =
     marked-as w (λ (a : ℕ). Seen t l.root a ⊎ Under t l.root a) (Seen t r) c.args.marks.now g.new.marks
     (marked-then w (Seen t l.root) (Under t l.root) c.args.marks.now l.marks g.new.marks l.invariant g.ensures)
     (λ a u v. ⊎_elim (λ x. x)
-    (λ x. absurd (aside-unwanted _ t (formed-facts _ _ _ s.table.formed).cells s.cell c.args.levels a x v))
+    (λ x. absurd (aside-unwanted _ t (formed-facts _ _ s.table.formed).cells s.cell c.args.levels a x v))
     (seen_next t s.cell l.root r a c.next_root-root-in-loop-root.ensures.passed u))
 
 pub returns : goal.returns
@@ -43,5 +43,5 @@ returns c =
     let t = cells s.table in
     marked-as (Wanted t s.cell c.args.levels) (Seen t c.loop-root.root) (λ (a : ℕ). a < s.table.head.count) c.args.marks.now
     c.loop-root.marks c.loop-root.invariant
-    (λ a h w. seen_all _ t (formed-facts _ _ _ s.table.formed).cells s.roots.now.end c.loop-root.root s.indexed.below
+    (λ a h w. seen_all _ t (formed-facts _ _ s.table.formed).cells s.roots.now.end c.loop-root.root s.indexed.below
     c.loop-root-test.false a (rw length-table h))

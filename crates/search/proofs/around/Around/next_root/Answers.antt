@@ -36,5 +36,5 @@ loop-id-preserved c =
     let l = c.loop-id in (
       omega (arith, l.invariant.0),
       passed-one (cells s.table) s.cell c.args.from l.id l.invariant.1
-          (λ e. c.meets_root.ensures c.if-meets_root.false ((formed-facts _ _ _ s.table.formed).cells.root l.id e).level),
+          (λ e. c.meets_root.ensures c.if-meets_root.false ((formed-facts _ _ s.table.formed).cells.root l.id e).level),
     )

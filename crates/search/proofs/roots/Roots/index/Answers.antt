@@ -11,7 +11,7 @@ returns c =
     let t = c.args.table.now in
     let l = c.loop-block in
     let same = l.invariant.0 in
-    blocks-indexed t.head.max_level (cells t) (formed-facts _ _ _ t.formed).cells l.self l.block
+    blocks-indexed t.head.max_level (cells t) (formed-facts _ _ t.formed).cells l.self l.block
     (omega (arith, length-table t.row.now t.head.count, c.roots_end-end.ensures.inside, same))
     (subst (RootsBelow (cells t)) (sym same) c.roots_end-end.ensures.below) l.invariant.1
     (omega (arith, same, c.loop-block-test.false))

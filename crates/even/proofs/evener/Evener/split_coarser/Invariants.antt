@@ -5,7 +5,7 @@ use Rattle.coarsest.specs.Passes.{difference}
 use Rattle.coarsest.specs.Sweep.{row}
 use Rattle.table.specs.TablesMut.{cells_mut}
 use Rattle.even.proofs.Going.{On}
-use Rattle.even.proofs.evener.Evener.balance_row.Given as goal
+use Rattle.even.proofs.evener.Evener.split_coarser.Given as goal
 
 abbrev pub invariant-loop-from : goal.invariant-loop-from
 invariant-loop-from l =

@@ -1,0 +1,223 @@
+//! What is asked of a row and a head, whoever holds them. Each call judges the head against the row, but
+//! [`Lent::leaf_count`].
+
+use crate::refusal::{judged, judged_check, judged_net};
+use crate::{
+    ffi, limits, Cell, Counts, Edge, Hanging, Head, Links, Net, NetRoom, NetRows, Node, Outlines,
+    Reason, Refusal,
+};
+
+/// A row and the head of the table in it.
+#[derive(Clone, Copy)]
+pub struct Lent<'a> {
+    pub row: &'a [i64],
+    pub head: Head,
+}
+
+// SAFETY, of every call below: each pointer comes with the length of the slice that it was taken from;
+// the slices outlive the call, and those that are written are borrowed mutably, so none overlaps another.
+
+impl Lent<'_> {
+    /// Whether row and head are a table.
+    pub fn judge(self) -> Result<(), Refusal> {
+        match self.leaves(&mut []) {
+            Err(refusal) if refusal.reason == Reason::BadTable => Err(refusal),
+            _ => Ok(()),
+        }
+    }
+
+    pub fn leaf_count(self) -> usize {
+        let Head {
+            count,
+            leaves,
+            max_level,
+        } = self.head;
+        unsafe { ffi::leafmesh_leaf_count(count, leaves, max_level) }
+    }
+
+    pub fn leaves(self, out: &mut [u64]) -> Result<usize, Refusal> {
+        let outcome = unsafe {
+            ffi::leafmesh_leaves(
+                self.row.as_ptr(),
+                self.row.len(),
+                self.head.count,
+                self.head.leaves,
+                self.head.max_level,
+                out.as_mut_ptr(),
+                out.len(),
+            )
+        };
+        Ok(judged(outcome)? as usize)
+    }
+
+    pub fn leaf_order(self, out: &mut [u64]) -> Result<usize, Refusal> {
+        let outcome = unsafe {
+            ffi::leafmesh_leaf_order(
+                self.row.as_ptr(),
+                self.row.len(),
+                self.head.count,
+                self.head.leaves,
+                self.head.max_level,
+                out.as_mut_ptr(),
+                out.len(),
+            )
+        };
+        Ok(judged(outcome)? as usize)
+    }
+
+    pub fn edge_rows(self, outlines: Outlines, links: Links) -> Result<usize, Refusal> {
+        let outcome = unsafe {
+            ffi::leafmesh_edge_rows(
+                self.row.as_ptr(),
+                self.row.len(),
+                self.head.count,
+                self.head.leaves,
+                self.head.max_level,
+                outlines.layers.as_ptr(),
+                outlines.layers.len(),
+                outlines.components.as_ptr(),
+                outlines.components.len(),
+                outlines.sheets.as_ptr(),
+                outlines.sheets.len(),
+                links.contacts.as_ptr(),
+                links.contacts.len(),
+                links.vias.as_ptr(),
+                links.vias.len(),
+                links.channel_layer,
+                links.channels.as_ptr(),
+                links.channels.len(),
+            )
+        };
+        Ok(judged(outcome)? as usize)
+    }
+
+    pub fn linked_network(self, outlines: Outlines, links: Links) -> Result<Net, Refusal> {
+        // This judges the head; only then do rows get a length by its leaves.
+        let edge_rows = self.edge_rows(outlines, links)?;
+        let leaves = self.leaf_count();
+        let mut net = Net {
+            nodes: vec![Node::default(); limits::NODES_A_LEAF * leaves],
+            edges: edges_lent(edge_rows)?,
+            cells: vec![Cell::default(); limits::CELLS_A_LEAF * leaves],
+            links: 0,
+        };
+        let room = NetRoom {
+            nodes: &mut net.nodes,
+            edges: &mut net.edges,
+            cells: &mut net.cells,
+            work: &mut vec![0; limits::WORK_A_LEAF * leaves],
+        };
+        let counts = self.network_with(outlines, links, room)?;
+        net.nodes.truncate(counts.nodes);
+        net.edges.truncate(counts.edges);
+        net.cells.truncate(counts.cells);
+        net.links = counts.links;
+        Ok(net)
+    }
+
+    pub fn network_with(
+        self,
+        outlines: Outlines,
+        links: Links,
+        room: NetRoom,
+    ) -> Result<Counts, Refusal> {
+        let outcome = unsafe {
+            ffi::leafmesh_network(
+                self.row.as_ptr(),
+                self.row.len(),
+                self.head.count,
+                self.head.leaves,
+                self.head.max_level,
+                outlines.layers.as_ptr(),
+                outlines.layers.len(),
+                outlines.components.as_ptr(),
+                outlines.components.len(),
+                outlines.sheets.as_ptr(),
+                outlines.sheets.len(),
+                links.contacts.as_ptr(),
+                links.contacts.len(),
+                links.vias.as_ptr(),
+                links.vias.len(),
+                links.channel_layer,
+                links.channels.as_ptr(),
+                links.channels.len(),
+                room.nodes.as_mut_ptr(),
+                room.nodes.len(),
+                room.edges.as_mut_ptr(),
+                room.edges.len(),
+                room.cells.as_mut_ptr(),
+                room.cells.len(),
+                room.work.as_mut_ptr(),
+                room.work.len(),
+            )
+        };
+        judged_net(outcome)
+    }
+
+    pub fn check_network_conforming(
+        self,
+        net: NetRows,
+        work: &mut [u64],
+    ) -> Result<Option<Hanging>, Refusal> {
+        let outcome = unsafe {
+            ffi::leafmesh_check_network_conforming(
+                self.row.as_ptr(),
+                self.row.len(),
+                self.head.count,
+                self.head.leaves,
+                self.head.max_level,
+                net.nodes.as_ptr(),
+                net.nodes.len(),
+                net.edges.as_ptr(),
+                net.edges.len(),
+                net.cells.as_ptr(),
+                net.cells.len(),
+                work.as_mut_ptr(),
+                work.len(),
+            )
+        };
+        judged_check(outcome)
+    }
+
+    pub fn check_by_layer(
+        self,
+        net: NetRows,
+        outlines: Outlines,
+        work: &mut [u64],
+    ) -> Result<Option<Hanging>, Refusal> {
+        let outcome = unsafe {
+            ffi::leafmesh_check_by_layer(
+                self.row.as_ptr(),
+                self.row.len(),
+                self.head.count,
+                self.head.leaves,
+                self.head.max_level,
+                net.nodes.as_ptr(),
+                net.nodes.len(),
+                net.edges.as_ptr(),
+                net.edges.len(),
+                net.cells.as_ptr(),
+                net.cells.len(),
+                outlines.layers.as_ptr(),
+                outlines.layers.len(),
+                outlines.components.as_ptr(),
+                outlines.components.len(),
+                work.as_mut_ptr(),
+                work.len(),
+            )
+        };
+        judged_check(outcome)
+    }
+}
+
+/// So many edges from the heap, if it has them.
+fn edges_lent(rows: usize) -> Result<Vec<Edge>, Refusal> {
+    let no_room = Refusal {
+        reason: Reason::NoRoom,
+        place: 0,
+    };
+    let mut edges = Vec::new();
+    edges.try_reserve_exact(rows).map_err(|_| no_room)?;
+    edges.resize(rows, Edge::default());
+    Ok(edges)
+}
