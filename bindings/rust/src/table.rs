@@ -120,14 +120,9 @@ impl<'a> Table<'a> {
     /// [`Reason::NoSuchCell`](crate::Reason::NoSuchCell), [`Reason::AlreadySplit`](crate::Reason::AlreadySplit),
     /// [`Reason::FinestLevel`](crate::Reason::FinestLevel), [`Reason::NoRoom`](crate::Reason::NoRoom).
     pub fn refine(&mut self, id: usize) -> Result<(), Refusal> {
-        let Head {
-            count,
-            leaves,
-            max_level,
-        } = self.head;
-        let (row, length) = (self.row.as_mut_ptr(), self.row.len());
-        let outcome = unsafe { ffi::leafmesh_refine(row, length, count, leaves, max_level, id) };
-        (_, self.head) = judged_table(outcome)?;
+        self.change(|row, length, head| unsafe {
+            ffi::leafmesh_refine(row, length, head.count, head.leaves, head.max_level, id)
+        })?;
         Ok(())
     }
 
@@ -152,14 +147,18 @@ impl<'a> Table<'a> {
     }
 
     fn even_out(&mut self, call: ffi::Evening) -> Result<usize, Refusal> {
-        let Head {
-            count,
-            leaves,
-            max_level,
-        } = self.head;
-        let (row, length) = (self.row.as_mut_ptr(), self.row.len());
+        self.change(|row, length, head| unsafe {
+            call(row, length, head.count, head.leaves, head.max_level)
+        })
+    }
+
+    /// The new head is kept where the call was accepted. Answers how many splits balance or conform made.
+    fn change(
+        &mut self,
+        call: impl FnOnce(*mut i64, usize, Head) -> ffi::TableOutcome,
+    ) -> Result<usize, Refusal> {
+        let outcome = call(self.row.as_mut_ptr(), self.row.len(), self.head);
         let splits;
-        let outcome = unsafe { call(row, length, count, leaves, max_level) };
         (splits, self.head) = judged_table(outcome)?;
         Ok(splits)
     }
