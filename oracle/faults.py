@@ -100,7 +100,7 @@ FAULTS = [
     ("more leaves than there are", TABLE, FORMED, LEAVES, AT_MOST.replace("<=", ">=")),
     ("half of the leaves' bits", TABLE, FORMED, "Some(head.leaves)", "Some(head.leaves % 4294967296)"),
     ("a leaf for each cell", TABLE, FORMED, "Some(n - (n - roots) / 4)", "Some(n)"),
-    ("a leaf for each child", TABLE, FORMED, "next == i + 1", "next == i"),
+    ("roots not counted", TABLE, FORMED, "roots += 1;", "roots += 0;"),
     ("leaf count: the cells", TABLE, "table/src/leaves.rt", "    head.leaves\n", "    head.count\n"),
     ("refine: four leaves more", TABLE, HEAD, "leaves: self.leaves + 3,", "leaves: self.leaves + 4,"),
     ("refine: the leaves of before", TABLE, HEAD, "leaves: self.leaves + 3,", "leaves: self.leaves,"),
