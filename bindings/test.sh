@@ -55,7 +55,8 @@ leafmesh = { path = "$root/bindings/rust" }
 USER
 cat >"$folder/beside/user/src/main.rs" <<'USER'
 fn main() {
-    assert_eq!(leafmesh::contact([0, 0, 4, 4], [4, 3, 8, 8]), Ok(true));
+    let border = leafmesh::contact([0, 0, 4, 4], [4, 3, 8, 8]).unwrap().unwrap();
+    assert_eq!((border.side, border.length), (leafmesh::Side::East, 1));
 }
 USER
 (cd "$folder/beside" && CARGO_TARGET_DIR=$folder/built cargo run --offline --quiet -p user)
@@ -95,11 +96,13 @@ say "outline to net, printed as it should be"
 say "figures of docs/CONDUCTANCES.md, and the neck from outline to pictures"
 ./figures.sh --check
 (cd rust && cargo run --offline --release --quiet --example neck -- "$folder") >/dev/null
-for file in neck.svg neck-power.svg neck.vtk; do
+for file in neck.svg neck-power.svg neck-borders.svg neck.vtk; do
     [ -s "$folder/$file" ] || fail "no $file"
 done
 leaves=$(grep -c '<title>leaf ' "$folder/neck.svg")
 [ "$leaves" -ge 1500 ] || fail "the neck has $leaves leaves"
+borders=$(grep -c '<title>leaves ' "$folder/neck-borders.svg")
+[ "$borders" -ge 3000 ] || fail "the neck has $borders borders"
 
 say "two layers joined by vias: currents, pictures and a file"
 (cd rust && cargo run --offline --release --quiet --example layers -- "$folder") | diff rust/examples/layers.txt -

@@ -46,9 +46,9 @@ extern "C" {
 #endif
 
 /* The version of this header and its library; CHANGELOG.md says what changed. */
-#define LEAFMESH_VERSION "0.6.0"
+#define LEAFMESH_VERSION "0.7.0"
 #define LEAFMESH_VERSION_MAJOR 0
-#define LEAFMESH_VERSION_MINOR 6
+#define LEAFMESH_VERSION_MINOR 7
 #define LEAFMESH_VERSION_PATCH 0
 
 /* Ranges. */
@@ -86,6 +86,9 @@ enum {
 /* The corners of a cell of a net, in their order. */
 enum { LEAFMESH_SW, LEAFMESH_SE, LEAFMESH_NE, LEAFMESH_NW };
 #define LEAFMESH_CORNERS 4
+
+/* The sides of a rectangle, anticlockwise from the south. */
+enum { LEAFMESH_SOUTH, LEAFMESH_EAST, LEAFMESH_NORTH, LEAFMESH_WEST };
 
 /* Room that leafmesh_network needs for each leaf: nodes, edges, cells, and work numbers of 64 bits; and one edge more
  * for each link that it makes, which leafmesh_edge_rows counts. */
@@ -260,6 +263,16 @@ typedef struct {
     uint64_t value;
 } leafmesh_outcome;
 
+/* The border that two rectangles share: the side of the first that it lies on, LEAFMESH_SOUTH to LEAFMESH_WEST, and its
+ * length in ticks. A length of 0 means that they share none: ask for it first, since the side is then 0, too, which is
+ * LEAFMESH_SOUTH. */
+typedef struct {
+    uint64_t number;
+    uint64_t place;
+    uint64_t side;
+    uint64_t length;
+} leafmesh_border_outcome;
+
 /* What a call that makes or changes a table answers: how many splits balance or conform made, and the table's new
  * head. */
 typedef struct {
@@ -305,9 +318,10 @@ typedef struct {
     uint64_t to;
 } leafmesh_check_outcome;
 
-/* Whether two rectangles share an edge: 1 or 0. Refuses 3. */
-leafmesh_outcome leafmesh_contact(int64_t ax0, int64_t ay0, int64_t ax1, int64_t ay1, int64_t bx0, int64_t by0,
-                                  int64_t bx1, int64_t by1);
+/* On which side of a the rectangles a and b share an edge, and how long it is; none where they don't, as at a corner.
+ * Exchanged, they have it on the opposite side, and as long. Refuses 3. */
+leafmesh_border_outcome leafmesh_contact(int64_t ax0, int64_t ay0, int64_t ax1, int64_t ay1, int64_t bx0, int64_t by0,
+                                         int64_t bx1, int64_t by1);
 
 /* The strips of one ring, from the bottom, then left to right: how many. points_length counts points, out_length
  * rectangles. Refuses 3, 4, 6. */

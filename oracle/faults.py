@@ -37,6 +37,9 @@ RING = "strips/src/ring.rt"
 JUDGE = "network/src/judge.rt"
 POLYGONS = "net_rows/src/polygons.rt"
 NETWORK = "network/src/lib.rt"
+CELL = "cell/src/lib.rt"
+BORDER = "cell/src/border.rt"
+RECTANGLES = "cell/src/rectangles.rt"
 
 SHEETS = """    if let Some(p) = first_bad(sheets) {
         return Err(Refusal::OutOfRange(p));
@@ -57,9 +60,60 @@ STALE = """            head: Head {
                 max_level: head.max_level,
             },
 """
+SEEN = "a.as_cell().border(b.as_cell())"
+COMMON = "b.min(d).saturating_sub(a.max(c))"
+HEIGHT = "common(self.y0, self.y1, other.y0, other.y1)"
+WIDTH = "common(self.x0, self.x1, other.x0, other.x1)"
+EAST = "if (self.x1 == other.x0) & (0 < height)"
+WEST = "if (other.x1 == self.x0) & (0 < height)"
+NORTH = "if (self.y1 == other.y0) & (0 < width)"
+SOUTH = "if (other.y1 == self.y0) & (0 < width)"
 
 # What is wrong, the program that shall see it, the file, what stands there and what is put in its place.
 FAULTS = [
+    ("contact: the side of the second", TABLE, RECTANGLES, SEEN, "b.as_cell().border(a.as_cell())"),
+    ("contact: west for east", TABLE, CELL, "(Side::East, height)", "(Side::West, height)"),
+    ("contact: east for west", TABLE, CELL, "(Side::West, height)", "(Side::East, height)"),
+    ("contact: south for north", TABLE, CELL, "(Side::North, width)", "(Side::South, width)"),
+    ("contact: north for south", TABLE, CELL, "(Side::South, width)", "(Side::North, width)"),
+    ("contact: sides clockwise", TABLE, BORDER, "self as usize", "(4 - self as usize) % 4"),
+    ("contact: sides from the east on", TABLE, BORDER, "self as usize", "(self as usize + 3) % 4"),
+    ("contact: the x ranges for a height", TABLE, CELL, HEIGHT, WIDTH),
+    ("contact: the y ranges for a width", TABLE, CELL, WIDTH, HEIGHT),
+    ("contact: a width on the east side", TABLE, CELL, "(Side::East, height)", "(Side::East, width)"),
+    ("contact: a width on the west side", TABLE, CELL, "(Side::West, height)", "(Side::West, width)"),
+    ("contact: a height on the north side", TABLE, CELL, "(Side::North, width)", "(Side::North, height)"),
+    ("contact: a height on the south side", TABLE, CELL, "(Side::South, width)", "(Side::South, height)"),
+    ("contact: no height asked in the east", TABLE, CELL, EAST, EAST.replace("0 < height", "0 <= height")),
+    ("contact: no height asked in the west", TABLE, CELL, WEST, WEST.replace("0 < height", "0 <= height")),
+    ("contact: no width asked in the north", TABLE, CELL, NORTH, NORTH.replace("0 < width", "0 <= width")),
+    ("contact: no width asked in the south", TABLE, CELL, SOUTH, SOUTH.replace("0 < width", "0 <= width")),
+    ("contact: no border of one tick in the east", TABLE, CELL, EAST, EAST.replace("0 < height", "1 < height")),
+    ("contact: no border of one tick in the south", TABLE, CELL, SOUTH, SOUTH.replace("0 < width", "1 < width")),
+    ("contact: a gap of a tick in the east", TABLE, CELL, EAST, EAST.replace("self.x1 ==", "self.x1 + 1 ==")),
+    ("contact: a gap of a tick in the south", TABLE, CELL, SOUTH, SOUTH.replace("other.y1 ==", "other.y1 + 1 ==")),
+    ("contact: an overlap of a tick in the west", TABLE, CELL, WEST, WEST.replace("== self.x0", "== self.x0 + 1")),
+    ("contact: an overlap of a tick in the north", TABLE, CELL, NORTH, NORTH.replace("== other.y0", "== other.y0 + 1")),
+    ("contact: east beside east", TABLE, CELL, EAST, EAST.replace("other.x0", "other.x1")),
+    ("contact: north beside north", TABLE, CELL, NORTH, NORTH.replace("other.y0", "other.y1")),
+    ("contact: what both cover", TABLE, CELL, COMMON, "b.max(d).saturating_sub(a.min(c))"),
+    ("contact: the first's whole side", TABLE, CELL, COMMON, "if a.max(c) < b.min(d) { b - a } else { 0 }"),
+    ("contact: the second's whole side", TABLE, CELL, COMMON, "if a.max(c) < b.min(d) { d - c } else { 0 }"),
+    ("contact: a tick too long", TABLE, CELL, COMMON, "if a.max(c) < b.min(d) { b.min(d) - a.max(c) + 1 } else { 0 }"),
+    ("contact: a tick too short", TABLE, CELL, COMMON, COMMON + ".saturating_sub(1)"),
+    ("contact: a corner of a tick", TABLE, CELL, COMMON, "(b.min(d) + 1).saturating_sub(a.max(c))"),
+    ("contact: 32 bits of a length", TABLE, CELL, COMMON, COMMON + " % 4294967296"),
+    ("contact: the first not judged", TABLE, RECTANGLES, "!(a.is_sound() & b.is_sound())", "!b.is_sound()"),
+    ("contact: the second not judged", TABLE, RECTANGLES, "!(a.is_sound() & b.is_sound())", "!a.is_sound()"),
+    ("contact: one of two judged", TABLE, RECTANGLES, "a.is_sound() & b", "a.is_sound() | b"),
+    ("contact: x0 of any range", TABLE, RECTANGLES, "in_range(self.x0)\n            & ", ""),
+    ("contact: y0 of any range", TABLE, RECTANGLES, "\n            & in_range(self.y0)", ""),
+    ("contact: x1 of any range", TABLE, RECTANGLES, "\n            & in_range(self.x1)", ""),
+    ("contact: y1 of any range", TABLE, RECTANGLES, "\n            & in_range(self.y1)", ""),
+    ("contact: any width", TABLE, RECTANGLES, "\n            & (self.x0 < self.x1)", ""),
+    ("contact: any height", TABLE, RECTANGLES, "\n            & (self.y0 < self.y1)", ""),
+    ("contact: no width", TABLE, RECTANGLES, "self.x0 < self.x1", "self.x0 <= self.x1"),
+    ("contact: no height", TABLE, RECTANGLES, "self.y0 < self.y1", "self.y0 <= self.y1"),
     ("level range dropped", TABLE, FORMED, "(m <= Cell::WIDEST_LEVEL) & ", ""),
     ("level 13 in a table", TABLE, FORMED, "m <= Cell::WIDEST_LEVEL", "m <= Cell::WIDEST_LEVEL + 1"),
     ("length of whole slots dropped", TABLE, FORMED, "(size % 8 == 0) & ", ""),

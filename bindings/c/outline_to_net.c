@@ -1,5 +1,5 @@
-/* From outline to net in C: a square of 8 by 8 ticks, split once, balanced, and its net printed; then the same square
- * on two layers that a via joins, with just enough edge rows.
+/* From outline to net in C: a square of 8 by 8 ticks, split once, balanced, its net and the borders of its leaves
+ * printed; then the same square on two layers that a via joins, with just enough edge rows.
  *
  * Built and run by run.sh beside this file.
  */
@@ -24,6 +24,25 @@ static void judge(const char *call, uint64_t number, uint64_t place)
     if (number != LEAFMESH_ACCEPTED) {
         fprintf(stderr, "%s: refused %" PRIu64 " %" PRIu64 ": %s\n", call, number, place, leafmesh_words(number));
         exit(1);
+    }
+}
+
+/* Every border that two of these leaves share, each once. */
+static void print_borders(const uint64_t *ids, uint64_t count)
+{
+    static const char *const sides[] = {"south", "east", "north", "west"};
+    for (uint64_t i = 0; i < count; i++) {
+        for (uint64_t j = i + 1; j < count; j++) {
+            const int64_t *a = row + LEAFMESH_SLOT * ids[i], *b = row + LEAFMESH_SLOT * ids[j];
+            leafmesh_border_outcome border =
+                leafmesh_contact(a[LEAFMESH_X0], a[LEAFMESH_Y0], a[LEAFMESH_X1], a[LEAFMESH_Y1], b[LEAFMESH_X0],
+                                 b[LEAFMESH_Y0], b[LEAFMESH_X1], b[LEAFMESH_Y1]);
+            judge("contact", border.number, border.place);
+            if (border.length > 0) {
+                printf("leaf %" PRIu64 " has leaf %" PRIu64 " on its %s side, %" PRIu64 " ticks\n", ids[i], ids[j],
+                       sides[border.side], border.length);
+            }
+        }
     }
 }
 
@@ -100,6 +119,7 @@ int main(void)
     judge("check by layer", checked.number, checked.place);
     printf("cell 0 is leaf %" PRIu64 " of %" PRIu64 "; %s\n", order[0], listed.value,
            checked.broken ? "a node isn't joined" : "all sides are joined");
+    print_borders(order, listed.value);
 
     /* A refusal: there is no cell 99, and nothing is changed. */
     leafmesh_table_outcome none = leafmesh_table_refine(&table, 99);

@@ -1,5 +1,5 @@
 /* A ring that is filled while the program runs, as a reader of layouts would: a comb of as many teeth as the first
- * word says, through strips, record and build. It is C99, C11 and C++17 alike. */
+ * word says, through strips, their borders, record and build. It is C99, C11 and C++17 alike. */
 #include "leafmesh.h"
 
 #include <stdio.h>
@@ -46,6 +46,21 @@ static int is_accepted(const char *call, uint64_t number, uint64_t place)
     return number == LEAFMESH_ACCEPTED;
 }
 
+/* How many ticks of border the back, which is the first strip, has with the teeth above it. */
+static uint64_t on_the_back(size_t count)
+{
+    const leafmesh_rect a = strips[0];
+    uint64_t ticks = 0;
+    for (size_t tooth = 1; tooth < count; tooth++) {
+        const leafmesh_rect b = strips[tooth];
+        const leafmesh_border_outcome border = leafmesh_contact(a.x0, a.y0, a.x1, a.y1, b.x0, b.y0, b.x1, b.y1);
+        if (border.side == LEAFMESH_NORTH) {
+            ticks += border.length;
+        }
+    }
+    return ticks;
+}
+
 int main(int argc, char **argv)
 {
     const int64_t teeth = argc > 1 ? strtol(argv[1], NULL, 10) : 3;
@@ -84,7 +99,8 @@ int main(int argc, char **argv)
     if (!is_accepted("build", built.number, built.place)) {
         return 1;
     }
-    printf("leafmesh %s: %u points, %u strips, %u bytes, %u cells\n", LEAFMESH_VERSION, (unsigned)points,
-           (unsigned)cut.value, (unsigned)written.value, (unsigned)table.count);
+    printf("leafmesh %s: %u points, %u strips, %u ticks on the back, %u bytes, %u cells\n", LEAFMESH_VERSION,
+           (unsigned)points, (unsigned)cut.value, (unsigned)on_the_back(cut.value), (unsigned)written.value,
+           (unsigned)table.count);
     return fflush(stdout) == 0 ? 0 : 1;
 }

@@ -1,7 +1,7 @@
 #!/bin/sh
-# draw.sh BOARD [OUT]: the mesh of a board (its record or its text) as OUT.svg, and its cells by power, at 1 V from the
-# bottom to the top of each component, as OUT-power.svg. OUT is the board's name without its ending unless it is
-# given. Both files are written, or none.
+# draw.sh BOARD [OUT]: the mesh of a board (its record or its text) as OUT.svg, its cells by power, at 1 V from the
+# bottom to the top of each component, as OUT-power.svg, and the borders between its cells as OUT-borders.svg. OUT is
+# the board's name without its ending unless it is given. All files are written, or none.
 set -eu
 case $# in
 1 | 2) ;;
@@ -23,6 +23,8 @@ made=$(mktemp -d "$(dirname "$out")/.draw.XXXXXX")
 trap 'rm -rf "$made"' EXIT
 "$draw" --board "$board" --title "$(basename "$name")" >"$made/mesh"
 "$draw" --board "$board" --title "$(basename "$name")" --power >"$made/power"
+"$draw" --board "$board" --title "$(basename "$name")" --borders >"$made/borders"
 mv "$made/mesh" "$out.svg"
 mv "$made/power" "$out-power.svg"
-echo "$out.svg $out-power.svg"
+mv "$made/borders" "$out-borders.svg"
+echo "$out.svg $out-power.svg $out-borders.svg"

@@ -99,6 +99,7 @@ static size_t link_count, edge_room = LEAFMESH_EDGES_LENGTH(SLOTS);
 static size_t work_length, edge_count, byte_count;
 static uint8_t bytes[1 << 15];
 static leafmesh_outcome outcome;
+static leafmesh_border_outcome border;
 static leafmesh_table_outcome made;
 static leafmesh_net_outcome net;
 static leafmesh_check_outcome checked;
@@ -106,7 +107,8 @@ static leafmesh_read_outcome record;
 
 static void contact(void)
 {
-    outcome = CALL(leafmesh_contact)(0, 0, 8, 8, 8, 0, points[0].x, 8);
+    border = CALL(leafmesh_contact)(0, 0, 8, 8, 8, 0, points[0].x, 8);
+    outcome.number = border.number;
 }
 
 static void strips(void)

@@ -1,10 +1,14 @@
 //! A mesh as a picture (SVG): leaves by level, or by a value on a logarithmic scale; one panel a layer, the nodes
-//! that stand at the middle of a leaf's side marked, a scale bar and a legend. Links are shown where they end.
+//! that stand at the middle of a leaf's side marked, a scale bar and a legend. Links are shown where they end, borders
+//! along the sides that leaves share.
 
+use crate::border_lines::{self, Line, Scale};
 use crate::marks::{self, Marks};
 use crate::printed::Printed;
 use crate::sides::hanging;
-use crate::{Board, Links, Mesh, Net, NetRows, Rect, Refusal, TICK};
+use crate::{
+    borders, Board, LeafBorder, Links, Mesh, Net, NetRows, Point, Rect, Refusal, Side, TICK,
+};
 use std::collections::{BTreeMap, BTreeSet};
 use std::fmt::{self, Write};
 
@@ -33,6 +37,8 @@ pub struct Picture {
     hanging: BTreeSet<Place>,
     values: Option<Values>,
     marks: Marks,
+    /// By the cells' places, if they are to be shown.
+    borders: Option<Vec<LeafBorder>>,
 }
 
 /// One value a cell, and what it is.
@@ -96,6 +102,7 @@ impl Picture {
             nodes,
             values: None,
             marks: Marks::default(),
+            borders: None,
         })
     }
 
@@ -147,7 +154,20 @@ impl Picture {
             hanging,
             values: None,
             marks: Marks::of(&printed.nodes, printed.links(), |_| 0),
+            borders: None,
         })
+    }
+
+    /// Draws every border that two cells share, over their colours: a line along it, the longer the wider, and its
+    /// length in figures where there is room. A border of cells on two layers is dashed, and in both panels.
+    ///
+    /// # Errors
+    ///
+    /// Those of [`borders`], of cells that leafnet never prints.
+    pub fn with_borders(mut self) -> Result<Self, Refusal> {
+        let rects = self.cells.iter().map(|cell| cell.rect).enumerate();
+        self.borders = Some(borders(&rects.collect::<Vec<_>>())?);
+        Ok(self)
     }
 
     /// Colours the cells by a value each, in the order of the cells, on a logarithmic scale.
@@ -157,6 +177,11 @@ impl Picture {
             all: all.to_vec(),
         });
         self
+    }
+
+    /// Whether a border is one of cells on two layers.
+    fn is_across(&self, border: &LeafBorder) -> bool {
+        self.cells[border.first].layer != self.cells[border.second].layer
     }
 
     /// The picture as a text that browsers show.
@@ -247,12 +272,18 @@ impl Layout {
         ]
     }
 
-    /// What of a rectangle lies in a layer's panel: x0, y0, x1, y1 of the picture.
-    fn clipped(&self, layer: i64, [x0, y0, x1, y1]: Rect) -> Option<[f64; 4]> {
-        self.layers.binary_search(&layer).ok()?;
-        let [left, top] = self.corner(layer);
+    /// A rectangle of a layer: x0, y0, x1, y1 of the picture.
+    fn rect(&self, layer: i64, [x0, y0, x1, y1]: Rect) -> [f64; 4] {
         let [west, north] = self.place([layer, x0, y1]);
         let [east, south] = self.place([layer, x1, y0]);
+        [west, north, east, south]
+    }
+
+    /// What of a rectangle lies in a layer's panel.
+    fn clipped(&self, layer: i64, rect: Rect) -> Option<[f64; 4]> {
+        self.layers.binary_search(&layer).ok()?;
+        let [left, top] = self.corner(layer);
+        let [west, north, east, south] = self.rect(layer, rect);
         let (right, bottom) = (left + self.size[0], top + self.size[1] - HEADING);
         let [x0, y0, x1, y1] = [
             west.max(left),
@@ -274,13 +305,14 @@ fn put(picture: &Picture, text: &mut String) -> fmt::Result {
     let layout = Layout::of(picture);
     let mut body = String::new();
     put_cells(picture, &layout, &mut body)?;
+    put_borders(picture, &layout, &mut body)?;
     put_nodes(picture, &layout, &mut body)?;
     put_marks(picture, &layout, &mut body)?;
     let mut y = put_scale_bar(&layout, &mut body)?;
     if let Some(values) = &picture.values {
         y = put_colour_bar(values, y, &mut body)?;
     }
-    let height = put_legend(picture, layout.width, y, &mut body)? + MARGIN;
+    let height = put_legend(picture, &layout, y, &mut body)? + MARGIN;
     let width = layout.width;
     writeln!(
         text,
@@ -320,6 +352,8 @@ fn put_cells(picture: &Picture, layout: &Layout, text: &mut String) -> fmt::Resu
         }
     }
     let range = picture.values.as_ref().map(|values| range_of(&values.all));
+    // Below borders the cells' own lines are thin, so that they aren't taken for these.
+    let outline = if picture.borders.is_some() { 0.5 } else { 1.0 };
     for (index, cell) in picture.cells.iter().enumerate() {
         let [x0, y0, x1, y1] = cell.rect;
         let [x, y] = layout.place([cell.layer, x0, y1]);
@@ -337,7 +371,7 @@ fn put_cells(picture: &Picture, layout: &Layout, text: &mut String) -> fmt::Resu
                 String::new(),
             ),
         };
-        let line = (0.06 * w.min(h)).min(0.8);
+        let line = outline * (0.06 * w.min(h)).min(0.8);
         writeln!(
             text,
             "<rect x=\"{x:.4}\" y=\"{y:.4}\" width=\"{w:.4}\" height=\"{h:.4}\" fill=\"{fill}\" stroke=\"#1c2733\" \
@@ -346,6 +380,44 @@ fn put_cells(picture: &Picture, layout: &Layout, text: &mut String) -> fmt::Resu
         )?;
     }
     Ok(())
+}
+
+fn put_borders(picture: &Picture, layout: &Layout, text: &mut String) -> fmt::Result {
+    let Some(borders) = &picture.borders else {
+        return Ok(());
+    };
+    let mut lines = Vec::new();
+    for one in borders {
+        let [a, b] = [one.first, one.second].map(|at| &picture.cells[at]);
+        let across = picture.is_across(one);
+        // Within a layer the number goes to the north or east, across layers to the panel's own leaf.
+        let homes: &[&Cell] = match one.border.side {
+            _ if across => &[a, b],
+            Side::North | Side::East => &[b],
+            Side::South | Side::West => &[a],
+        };
+        let ends = shared(a.rect, b.rect);
+        lines.extend(homes.iter().map(|home| Line {
+            leaves: [a.id.min(b.id), a.id.max(b.id)],
+            length: one.border.length,
+            ends: ends.map(|[x, y]| layout.place([home.layer, x, y])),
+            leaf: layout.rect(home.layer, home.rect),
+            across,
+        }));
+    }
+    border_lines::put(&lines, &scale_of(borders, layout), text)
+}
+
+fn scale_of(borders: &[LeafBorder], layout: &Layout) -> Scale {
+    Scale::of(borders.iter().map(|one| one.border.length), layout.unit)
+}
+
+/// The ends of the border that two rectangles share.
+fn shared(a: Rect, b: Rect) -> [Point; 2] {
+    [
+        [a[0].max(b[0]), a[1].max(b[1])],
+        [a[2].min(b[2]), a[3].min(b[3])],
+    ]
 }
 
 /// The smallest side of the cells at each place, in picture units.
@@ -565,10 +637,11 @@ fn marks(least: f64, most: f64) -> Vec<f64> {
 /// Swatches and words, as many lines as they need; answers where they end.
 fn put_legend(
     picture: &Picture,
-    width: f64,
+    layout: &Layout,
     top: f64,
     text: &mut String,
 ) -> Result<f64, fmt::Error> {
+    let width = layout.width;
     let (mut x, mut y) = (MARGIN, top);
     if picture.values.is_none() {
         let levels: BTreeSet<u64> = picture.cells.iter().map(|cell| cell.level).collect();
@@ -588,6 +661,17 @@ fn put_legend(
     }
     [x, y] = put_signs_legend(picture, [x, y], width, text)?;
     let mut words = format!("{} leaves", picture.cells.len());
+    if let Some(borders) = &picture.borders {
+        let across = borders.iter().filter(|one| picture.is_across(one)).count();
+        if !borders.is_empty() {
+            let scale = scale_of(borders, layout);
+            [x, y] = put_borders_legend(&scale, across > 0, [x, y], width, text)?;
+        }
+        let _ = write!(words, ", {} borders", borders.len());
+        if across > 0 {
+            let _ = write!(words, ", {across} of them across layers");
+        }
+    }
     if picture.marks.links > 0 {
         let _ = write!(words, ", {} links", picture.marks.links);
     }
@@ -635,14 +719,44 @@ fn put_signs_legend(
     Ok([x, y])
 }
 
+/// Lines of some lengths, on a row of their own.
+fn put_borders_legend(
+    scale: &Scale,
+    any_across: bool,
+    [x, mut y]: [f64; 2],
+    width: f64,
+    text: &mut String,
+) -> Result<[f64; 2], fmt::Error> {
+    if x > MARGIN {
+        y += ROW;
+    }
+    writeln!(text, "<text x=\"{MARGIN}\" y=\"{y:.0}\">borders:</text>")?;
+    let mut x = MARGIN + entry_width("border");
+    for sample in scale.samples(any_across) {
+        [x, y] = wrapped([x, y], width, &sample.words);
+        border_lines::put_sample([x, y - 4.0], &sample, scale, text)?;
+        let after = x + border_lines::SAMPLE + 5.0;
+        writeln!(
+            text,
+            "<text x=\"{after:.0}\" y=\"{y:.0}\">{}</text>",
+            sample.words
+        )?;
+        x = after - 19.0 + entry_width(&sample.words);
+    }
+    Ok([x, y])
+}
+
 fn entry_width(words: &str) -> f64 {
     36.0 + LETTER * words.len() as f64
 }
 
+/// From one line of the legend to the next.
+const ROW: f64 = 22.0;
+
 /// Where an entry goes: here, or at the start of the next line.
 fn wrapped([x, y]: [f64; 2], width: f64, words: &str) -> [f64; 2] {
     if x > MARGIN && x + entry_width(words) > width - MARGIN {
-        [MARGIN, y + 22.0]
+        [MARGIN, y + ROW]
     } else {
         [x, y]
     }

@@ -22,6 +22,17 @@ pub struct Outcome {
     pub value: u64,
 }
 
+/// The border that two rectangles share: the side of the first, 0 to 3 anticlockwise from the south, and the length
+/// in ticks. Both are 0 where they share none, and behind a refusal.
+#[repr(C)]
+#[derive(Clone, Copy, Debug, Default, PartialEq, Eq)]
+pub struct BorderOutcome {
+    pub number: u64,
+    pub place: u64,
+    pub side: u64,
+    pub length: u64,
+}
+
 /// What a call that makes or changes a table answers: the splits of balance or conform, and the new head; zeros behind
 /// a refusal.
 #[repr(C)]
@@ -88,7 +99,7 @@ extern "C" {
         by0: i64,
         bx1: i64,
         by1: i64,
-    ) -> Outcome;
+    ) -> BorderOutcome;
     pub fn leafmesh_strips(
         points: *const Point,
         points_length: usize,

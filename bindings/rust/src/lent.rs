@@ -1,10 +1,11 @@
 //! What is asked of a row and a head, whoever holds them. Each call judges the head against the row, but
 //! [`Lent::leaf_count`].
 
+use crate::columns::{X0, X1, Y0, Y1};
 use crate::refusal::{judged, judged_check, judged_net};
 use crate::{
-    ffi, limits, Cell, Counts, Edge, Hanging, Head, Links, Net, NetRoom, NetRows, Node, Outlines,
-    Reason, Refusal,
+    borders, ffi, limits, Cell, Counts, Edge, Hanging, Head, LeafBorder, Links, Net, NetRoom,
+    NetRows, Node, Outlines, Reason, Rect, Refusal, SLOT,
 };
 
 /// A row and the head of the table in it.
@@ -63,6 +64,23 @@ impl Lent<'_> {
             )
         };
         Ok(judged(outcome)? as usize)
+    }
+
+    pub fn borders(self) -> Result<Vec<LeafBorder>, Refusal> {
+        // Only then has the row as many slots as the head says.
+        self.judge()?;
+        let mut ids = vec![0; self.leaf_count()];
+        self.leaves(&mut ids)?;
+        let leaves: Vec<_> = ids
+            .iter()
+            .map(|&id| (id as usize, self.rect(id as usize)))
+            .collect();
+        borders(&leaves)
+    }
+
+    /// Where a cell lies.
+    fn rect(self, id: usize) -> Rect {
+        [X0, Y0, X1, Y1].map(|column| self.row[SLOT * id + column])
     }
 
     pub fn edge_rows(self, outlines: Outlines, links: Links) -> Result<usize, Refusal> {

@@ -4,9 +4,9 @@
 //! millimetres there and back. Sheet resistance is in ohms a square, potential in volts, power in watts, conductance in
 //! siemens. Every call takes any input and answers `Ok`, or `Err` with a [`Refusal`]; a refused call changes nothing
 //! that it was lent. No call of the library allocates or keeps anything, so any number of threads may call at once;
-//! what is lent stands in the caller's rows. [`Mesh`], [`read`], [`Table::network`], [`Table::linked_network`] and the
-//! two checks take rows from the heap; [`Table::network_with`], [`Table::check_network_conforming_with`] and
-//! [`Table::check_by_layer_with`] take lent ones.
+//! what is lent stands in the caller's rows. [`Mesh`], [`read`], [`borders`], [`Table::borders`], [`Table::network`],
+//! [`Table::linked_network`] and the two checks take rows from the heap; [`Table::network_with`],
+//! [`Table::check_network_conforming_with`] and [`Table::check_by_layer_with`] take lent ones.
 //! [`limits`] has the ranges, [`columns`] the places of numbers in a slot and of corners in a cell. [`Links`] are what
 //! joins polygons and layers: contacts, vias and channels.
 //!
@@ -56,6 +56,8 @@
 
 #![warn(missing_docs)]
 
+mod border_lines;
+mod borders;
 pub mod drawing;
 pub mod ffi;
 mod lent;
@@ -75,11 +77,12 @@ pub mod tool;
 mod unmeshed;
 pub mod vtk;
 
+pub use borders::{borders, Border, LeafBorder, Side};
 pub use links::{Channel, Contact, Footprint, Link, Links, OwnedLinks, Terminal, Via};
 pub use mesh::{Mesh, Polygons};
 pub use net::{Cell, Counts, Edge, Net, NetRoom, NetRows, Node};
 pub use pitch::{Misfit, Pitch, Why};
-use refusal::{judged, judged_read};
+use refusal::{judged, judged_border, judged_read};
 pub use refusal::{Reason, Refusal};
 pub use table::Table;
 pub use unmeshed::{Idle, Loose, TooLong, Unmeshed};
@@ -187,19 +190,24 @@ pub struct Hanging {
 // SAFETY, of every call below: each pointer comes with the length of the slice that it was taken from;
 // the slices outlive the call, and those that are written are borrowed mutably, so none overlaps another.
 
-/// Whether two rectangles share an edge of positive length.
+/// The border that two rectangles share: the side of a that it lies on, and its length. None where they share none, as
+/// at a corner.
 ///
 /// ```
-/// assert_eq!(leafmesh::contact([0, 0, 4, 4], [4, 3, 8, 8]), Ok(true));
-/// assert_eq!(leafmesh::contact([0, 0, 4, 4], [4, 4, 8, 8]), Ok(false));
+/// use leafmesh::{contact, Border, Side};
+///
+/// let (a, b) = ([0, 0, 4, 4], [4, 3, 8, 8]);
+/// assert_eq!(contact(a, b), Ok(Some(Border { side: Side::East, length: 1 })));
+/// assert_eq!(contact(b, a), Ok(Some(Border { side: Side::West, length: 1 })));
+/// assert_eq!(contact(a, [4, 4, 8, 8]), Ok(None));
 /// ```
 ///
 /// # Errors
 ///
 /// [`Reason::OutOfRange`] for a coordinate out of range or a side that isn't positive.
-pub fn contact(a: Rect, b: Rect) -> Result<bool, Refusal> {
+pub fn contact(a: Rect, b: Rect) -> Result<Option<Border>, Refusal> {
     let outcome = unsafe { ffi::leafmesh_contact(a[0], a[1], a[2], a[3], b[0], b[1], b[2], b[3]) };
-    Ok(judged(outcome)? == 1)
+    judged_border(outcome)
 }
 
 /// The strips of a ring into the front of `out`, from the bottom, then left to right. Answers how many.

@@ -5,8 +5,8 @@ use crate::lent::Lent;
 use crate::sides::has_side;
 use crate::unmeshed::{refused, Idle, Loose, TooLong, Unmeshed};
 use crate::{
-    Board, Hanging, Head, Links, Net, NetRows, Outlines, Point, Reason, Rect, Refusal, Settings,
-    Table, NO_CELL, SLOT, SLOTS,
+    Board, Hanging, Head, LeafBorder, Links, Net, NetRows, Outlines, Point, Reason, Rect, Refusal,
+    Settings, Table, NO_CELL, SLOT, SLOTS,
 };
 
 /// Polygons by rows, owned: what [`Table::build`] and [`Table::network`] take as [`Outlines`].
@@ -177,6 +177,15 @@ impl Mesh {
         let mut ids = vec![0; self.lent().leaf_count()];
         self.lent().leaf_order(&mut ids)?;
         Ok(ids.into_iter().map(|id| id as usize).collect())
+    }
+
+    /// Every pair of leaves that share a border, as in [`Table::borders`].
+    ///
+    /// # Errors
+    ///
+    /// [`Reason::BadTable`].
+    pub fn borders(&self) -> Result<Vec<LeafBorder>, Refusal> {
+        self.lent().borders()
     }
 
     /// The net of the leaves, without links.

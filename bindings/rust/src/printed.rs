@@ -2,8 +2,8 @@
 
 use crate::sides::{corners_of, has_side};
 use crate::{
-    Board, Edge, Hanging, Head, Mesh, Net, NetRows, Node, Outlines, Rect, Refusal, Table, Unmeshed,
-    COORDINATE, MAX_LEVEL, NO_CELL,
+    borders, Board, Edge, Hanging, Head, LeafBorder, Mesh, Net, NetRows, Node, Outlines, Rect,
+    Refusal, Table, Unmeshed, COORDINATE, MAX_LEVEL, NO_CELL,
 };
 use std::collections::{BTreeMap, BTreeSet};
 use std::fmt::Write;
@@ -38,6 +38,16 @@ impl Printed {
     /// The edges that are links.
     pub fn links(&self) -> &[Edge] {
         &self.edges[self.edges.len() - self.links..]
+    }
+
+    /// Every pair of leaves that share a border, as in [`Table::borders`].
+    ///
+    /// # Errors
+    ///
+    /// Those of [`borders`], of leaves that leafnet never prints.
+    pub fn borders(&self) -> Result<Vec<LeafBorder>, Refusal> {
+        let leaves = self.leaves.iter().map(|leaf| (leaf.id, leaf.rect));
+        borders(&leaves.collect::<Vec<_>>())
     }
 }
 

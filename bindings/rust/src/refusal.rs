@@ -1,7 +1,7 @@
 //! Why a call is refused.
 
-use crate::ffi::{CheckOutcome, NetOutcome, Outcome, ReadOutcome, TableOutcome};
-use crate::{Counts, Hanging, Head};
+use crate::ffi::{BorderOutcome, CheckOutcome, NetOutcome, Outcome, ReadOutcome, TableOutcome};
+use crate::{Border, Counts, Hanging, Head, Side};
 use std::error::Error;
 use std::fmt;
 
@@ -122,6 +122,24 @@ pub fn judged(outcome: Outcome) -> Result<u64, Refusal> {
     Ok(outcome.value)
 }
 
+pub fn judged_border(outcome: BorderOutcome) -> Result<Option<Border>, Refusal> {
+    refused(outcome.number, outcome.place)?;
+    let length = outcome.length;
+    if length == 0 {
+        return Ok(None);
+    }
+    let side = match outcome.side {
+        0 => Side::South,
+        1 => Side::East,
+        2 => Side::North,
+        3 => Side::West,
+        other => unreachable!(
+            "of a border the library is proved to answer one of four sides, not {other}"
+        ),
+    };
+    Ok(Some(Border { side, length }))
+}
+
 /// The splits and the new head.
 pub fn judged_table(outcome: TableOutcome) -> Result<(usize, Head), Refusal> {
     refused(outcome.number, outcome.place)?;
@@ -185,5 +203,34 @@ mod tests {
             );
         }
         assert_eq!(judged(Outcome::default()), Ok(0));
+    }
+
+    #[test]
+    fn sides_by_their_numbers() {
+        for (number, side) in [Side::South, Side::East, Side::North, Side::West]
+            .into_iter()
+            .enumerate()
+        {
+            let outcome = BorderOutcome {
+                side: number as u64,
+                length: 1 << 37,
+                ..BorderOutcome::default()
+            };
+            let border = Border {
+                side,
+                length: 1 << 37,
+            };
+            assert_eq!(judged_border(outcome), Ok(Some(border)));
+            let none = BorderOutcome {
+                length: 0,
+                ..outcome
+            };
+            assert_eq!(judged_border(none), Ok(None));
+            let refused = BorderOutcome { number: 3, ..none };
+            assert_eq!(
+                judged_border(refused).map_err(|why| why.reason),
+                Err(Reason::OutOfRange)
+            );
+        }
     }
 }

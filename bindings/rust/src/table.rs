@@ -3,11 +3,13 @@
 use crate::lent::Lent;
 use crate::refusal::judged_table;
 use crate::{
-    ffi, Counts, Hanging, Head, Links, Net, NetRoom, NetRows, Outlines, Refusal, Settings,
+    ffi, Counts, Hanging, Head, LeafBorder, Links, Net, NetRoom, NetRows, Outlines, Refusal,
+    Settings,
 };
 
 /// A table in a lent row, and its head, which every call keeps: so none can be asked with another table's. No call but
-/// [`Table::network`], [`Table::linked_network`] and the two checks without a work room takes anything from the heap.
+/// [`Table::borders`], [`Table::network`], [`Table::linked_network`] and the two checks without a work room takes
+/// anything from the heap.
 #[derive(Debug)]
 pub struct Table<'a> {
     row: &'a mut [i64],
@@ -111,6 +113,51 @@ impl<'a> Table<'a> {
     /// [`Reason::NoRoom`](crate::Reason::NoRoom).
     pub fn leaf_order(&self, out: &mut [u64]) -> Result<usize, Refusal> {
         self.lent().leaf_order(out)
+    }
+
+    /// Every pair of leaves that share a border, once: `first` is below `second`, the pairs are in their order, and
+    /// each has the border as the first sees it, which is what [`contact`](crate::contact) says of the two. Layers and
+    /// polygons play no part, as in [`Table::balance`]. It takes n log n steps for n leaves, and m log m for m pairs.
+    ///
+    /// A plot of power density draws each border over the two cells, with its length, and so does
+    /// [`Picture::with_borders`](crate::drawing::Picture::with_borders):
+    ///
+    /// ```
+    /// use leafmesh::{Border, LeafBorder, Outlines, Settings, Side, Table};
+    ///
+    /// // Cells 0 and 1 of 8 by 8 ticks side by side, the first split into cells 2, 3, 4 and 5.
+    /// let outlines = Outlines {
+    ///     layers: &[1],
+    ///     components: &[0],
+    ///     sheets: &[1.0],
+    ///     counts: &[4],
+    ///     points: &[[0, 0], [16, 0], [16, 8], [0, 8]],
+    /// };
+    /// let settings = Settings { max_level: 2, cap: 256, target: 8 };
+    /// let mut row = vec![0; 8 * 64];
+    /// let mut table = Table::build(settings, &[], outlines, &mut row)?;
+    /// table.refine(0)?;
+    ///
+    /// let mut plot = Vec::new();
+    /// for LeafBorder { first, second, border: Border { side, length } } in table.borders()? {
+    ///     plot.push(format!("{first} has {second} on its {side:?} side along {length} ticks"));
+    /// }
+    /// assert_eq!(plot, [
+    ///     "1 has 3 on its West side along 4 ticks",
+    ///     "1 has 5 on its West side along 4 ticks",
+    ///     "2 has 3 on its East side along 4 ticks",
+    ///     "2 has 4 on its North side along 4 ticks",
+    ///     "3 has 5 on its North side along 4 ticks",
+    ///     "4 has 5 on its East side along 4 ticks",
+    /// ]);
+    /// # Ok::<(), leafmesh::Refusal>(())
+    /// ```
+    ///
+    /// # Errors
+    ///
+    /// [`Reason::BadTable`](crate::Reason::BadTable), of a table that isn't well formed.
+    pub fn borders(&self) -> Result<Vec<LeafBorder>, Refusal> {
+        self.lent().borders()
     }
 
     /// Splits the leaf with this id into four: four cells more, and three leaves.

@@ -460,6 +460,7 @@ fn stale_mesh(row: &[i64], head: Head, outlines: Outlines, net: &Net) {
         place: 0,
     };
     assert_eq!(mesh.order(), Err(bad));
+    assert_eq!(mesh.borders(), Err(bad));
     assert_eq!(mesh.unjudged_net(), Err(bad));
     assert_eq!(mesh.net(), Err(Unmeshed::Refused(bad)));
     assert_eq!(mesh.edges_of_links(Links::default()), Err(bad));

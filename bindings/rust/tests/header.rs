@@ -1,7 +1,7 @@
 //! The header's constants and the crate's are the same.
 
 use leafmesh::{
-    columns, ffi, limits, Cell, Channel, Contact, Edge, Node, Via, NO_CELL, SLOT, SLOTS,
+    columns, ffi, limits, Cell, Channel, Contact, Edge, Node, Side, Via, NO_CELL, SLOT, SLOTS,
 };
 use std::fs;
 use std::mem::size_of;
@@ -59,6 +59,9 @@ fn the_headers_constants_are_the_crates() {
             "LEAFMESH_ASSERT(sizeof(leafmesh_{name}) == {size}"
         )));
     }
+    let sides = [Side::South, Side::East, Side::North, Side::West];
+    let names = sides.map(|side| format!("LEAFMESH_{side:?}").to_uppercase());
+    assert!(header.contains(&format!("enum {{ {} }};", names.join(", "))));
     assert_eq!(columns::POLYGON + 1, SLOT);
     assert_eq!(limits::check_work(10, 4), 102);
     assert_eq!(limits::check_work(limits::CHECK_NODES + 1, 4), 0);
@@ -104,6 +107,7 @@ fn the_headers_outcomes_are_the_crates() {
     let header = fs::read_to_string(file).expect("the header");
     for (name, size) in [
         ("outcome", size_of::<ffi::Outcome>()),
+        ("border_outcome", size_of::<ffi::BorderOutcome>()),
         ("table_outcome", size_of::<ffi::TableOutcome>()),
         ("read_outcome", size_of::<ffi::ReadOutcome>()),
         ("net_outcome", size_of::<ffi::NetOutcome>()),

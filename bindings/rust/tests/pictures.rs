@@ -2,7 +2,7 @@
 
 use leafmesh::drawing::{densities, Picture, LEVELS};
 use leafmesh::vtk::{self, Field};
-use leafmesh::{sides, text, Mesh, Net, OwnedLinks};
+use leafmesh::{printed, sides, text, LeafBorder, Mesh, Net, OwnedLinks, TICK};
 use std::fs;
 use std::path::Path;
 
@@ -237,6 +237,221 @@ fn links_are_seen_where_they_end() {
         assert!(!bare.contains(words), "{words}");
     }
     assert_uncut(&svg);
+}
+
+fn picture_with_borders(mesh: &Mesh) -> String {
+    let net = mesh.unjudged_net().expect("a net");
+    let picture = Picture::of_mesh("A board", mesh, net.rows()).expect("a picture");
+    picture.with_borders().expect("borders").svg()
+}
+
+/// The line of a border: its title, how wide it is, and whether it is dashed.
+struct Line<'a> {
+    title: &'a str,
+    wide: f64,
+    dashed: bool,
+    tag: &'a str,
+}
+
+fn lines_of(svg: &str) -> Vec<Line<'_>> {
+    let mut lines = Vec::new();
+    for part in svg.split("<path ").skip(1) {
+        let (tag, rest) = part.split_once('>').expect("a tag");
+        let Some(rest) = rest.strip_prefix("<title>") else {
+            continue;
+        };
+        lines.push(Line {
+            title: rest.split('<').next().expect("a title"),
+            wide: number(&format!(" {tag}"), "stroke-width").expect("a width"),
+            dashed: tag.contains("stroke-dasharray"),
+            tag,
+        });
+    }
+    lines
+}
+
+/// Where figures stand: x0, y0, x1, y1, at a generous width a letter.
+fn figures_of(svg: &str) -> Vec<[f64; 4]> {
+    let Some((_, group)) = svg.split_once("paint-order=\"stroke\">") else {
+        return vec![];
+    };
+    let group = group.split("</g>").next().expect("an end");
+    let texts = group.split("<text").skip(1).map(|part| {
+        let (tag, words) = part.split_once('>').expect("a tag");
+        let words = words.split('<').next().expect("figures");
+        let [x, y] = ["x", "y"].map(|name| number(tag, name).expect("a place"));
+        let half = 2.9 * words.len() as f64;
+        [x - half, y - 7.0, x + half, y]
+    });
+    texts.collect()
+}
+
+fn is_across(mesh: &Mesh, border: &LeafBorder) -> bool {
+    let layer = |id: usize| mesh.polygons.layers[mesh.polygon(id)];
+    layer(border.first) != layer(border.second)
+}
+
+/// Every border is a line with its leaves and its length, once, or once in each of two panels.
+#[test]
+fn borders_are_lines_with_their_lengths() {
+    for (name, figures) in [
+        ("neck.txt", 40),
+        ("two_layers.txt", 16),
+        ("overlap.txt", 4),
+        ("comb.txt", 20),
+        ("deep.txt", 10),
+        ("shunt.txt", 0),
+        ("vias.txt", 0),
+    ] {
+        let words = fs::read_to_string(
+            Path::new(env!("CARGO_MANIFEST_DIR"))
+                .join("../../boards")
+                .join(name),
+        );
+        let board = text::parse_whole(&words.expect("a sample"))
+            .expect("a board")
+            .board;
+        let mesh = Mesh::of_board(&board).expect("a mesh");
+        let borders = mesh.borders().expect("borders");
+        let svg = picture_with_borders(&mesh);
+        let lines = lines_of(&svg);
+        let across = borders.iter().filter(|one| is_across(&mesh, one)).count();
+        assert_eq!(lines.len(), borders.len() + across, "{name}");
+        assert_eq!(
+            lines.iter().filter(|line| line.dashed).count(),
+            2 * across,
+            "{name}"
+        );
+        let legend = [" mm", " ticks"].map(|unit| svg.contains(&format!("{unit} across layers<")));
+        assert_eq!(legend.contains(&true), across > 0, "{name}");
+        let mut said: Vec<(String, bool)> = lines
+            .iter()
+            .map(|line| (line.title.to_string(), line.dashed))
+            .collect();
+        let mut expected = Vec::new();
+        for one in &borders {
+            let digits = format!("{:.3e}", one.border.length as f64 * TICK * 1e3);
+            let value: f64 = digits.parse().expect("a number");
+            let length = if value < 1e-4 {
+                digits
+            } else {
+                value.to_string()
+            };
+            let across = is_across(&mesh, one);
+            let title = format!("leaves {} and {}: {length} mm", one.first, one.second);
+            expected.extend(vec![(title, across); if across { 2 } else { 1 }]);
+        }
+        said.sort();
+        expected.sort();
+        assert!(said == expected, "{name}");
+        let mut counts = format!(", {} borders", borders.len());
+        if across > 0 {
+            counts += &format!(", {across} of them across layers");
+        }
+        assert!(svg.contains(&counts), "{name}: {counts}");
+        // Figures where there is room for them, and none over another.
+        let all = figures_of(&svg);
+        let many = all.len();
+        assert!(
+            many >= figures && (figures > 0 || many == 0),
+            "{name}: {many}"
+        );
+        for (at, a) in all.iter().enumerate() {
+            for b in &all[..at] {
+                let is_clear = a[2] <= b[0] || b[2] <= a[0] || a[3] <= b[1] || b[3] <= a[1];
+                assert!(is_clear, "{name}: {a:?} and {b:?}");
+            }
+        }
+        assert_uncut(&svg);
+    }
+}
+
+/// In the order of their lengths they are in the order of their widths, within layers and across them.
+#[test]
+fn a_longer_border_has_a_wider_line() {
+    for name in ["neck.txt", "two_layers.txt", "deep.txt", "shunt.txt"] {
+        let svg = picture_with_borders(&mesh_of(name));
+        let lines = lines_of(&svg);
+        let sizes = |dashed: bool| {
+            let mut sizes: Vec<(f64, f64)> = lines
+                .iter()
+                .filter(|line| line.dashed == dashed)
+                .map(|line| {
+                    let length = line.title.rsplit(": ").next().expect("a length");
+                    let length = length.trim_end_matches(" mm").parse();
+                    (length.expect("a number"), line.wide)
+                })
+                .collect();
+            sizes.sort_by(|a, b| a.partial_cmp(b).expect("numbers"));
+            sizes.dedup();
+            let grow = |two: &[(f64, f64)]| two[0].0 < two[1].0 && two[0].1 < two[1].1;
+            assert!(sizes.windows(2).all(grow), "{name}: {sizes:?}");
+            sizes
+        };
+        let (within, across) = (sizes(false), sizes(true));
+        assert!(
+            within.len() > usize::from(name != "two_layers.txt"),
+            "{name}"
+        );
+        // The legend begins with the longest and its half, and ends with the longest across layers.
+        let samples: Vec<f64> = svg
+            .split("<path ")
+            .filter_map(|part| part.split_once("></path>"))
+            .filter(|(tag, _)| !tag.contains('>'))
+            .map(|(tag, _)| number(&format!(" {tag}"), "stroke-width").expect("a width"))
+            .collect();
+        let widest = within.last().expect("a border").1;
+        assert_eq!(samples[0], widest, "{name}");
+        assert!(
+            (2.0 * samples[1] - widest).abs() < 1e-3,
+            "{name}: {samples:?}"
+        );
+        if let Some(&(_, wide)) = across.last() {
+            assert!(wide < widest && samples.last() == Some(&wide), "{name}");
+        }
+    }
+}
+
+/// Without borders there is nothing of them, and with none there is the word for it.
+#[test]
+fn pictures_without_borders() {
+    let bare = picture_of(&mesh_of("neck.txt"));
+    assert!(lines_of(&bare).is_empty() && !bare.contains("border"));
+    let cell = "level 0\ntarget 8\npolygon 1 0 1\n0 0\n8 0\n8 8\n0 8\n";
+    let board = text::parse(cell).expect("a board");
+    let svg = picture_with_borders(&Mesh::of_board(&board).expect("a mesh"));
+    assert!(svg.contains(">1 leaves, 0 borders<"));
+    assert!(!svg.contains("NaN") && !svg.contains(">borders:<") && lines_of(&svg).is_empty());
+    assert_uncut(&svg);
+}
+
+/// Of leafnet's text alone, all layers stand in one panel; over values the lines are the same.
+#[test]
+fn borders_of_leafnets_text_and_over_values() {
+    let name = Path::new(env!("CARGO_MANIFEST_DIR")).join("../../boards/two_layers.txt");
+    let board = text::parse(&fs::read_to_string(name).expect("a sample")).expect("a board");
+    let read = printed::read(&printed::show(&board).expect("a net")).expect("a text");
+    let picture = Picture::of_printed("A board", &read, None).expect("a picture");
+    let svg = picture.with_borders().expect("borders").svg();
+    let borders = read.borders().expect("borders").len();
+    assert_eq!(lines_of(&svg).len(), borders);
+    assert!(!svg.contains("across layers"));
+
+    let mesh = mesh_of("shunt.txt");
+    let net = mesh.net().expect("a net");
+    let picture = Picture::of_mesh("A board", &mesh, net.rows()).expect("a picture");
+    let picture = picture.with_borders().expect("borders");
+    let plain = picture.svg();
+    let values: Vec<f64> = (1..=net.cells.len()).map(|n| n as f64).collect();
+    let heat = picture.by_value("W/mm2", &values).svg();
+    let tags = |svg: &str| {
+        lines_of(svg)
+            .iter()
+            .map(|line| line.tag.to_string())
+            .collect::<Vec<_>>()
+    };
+    assert_eq!(tags(&plain), tags(&heat));
+    assert!(heat.rfind("<title>leaf ") < heat.find("<title>leaves "));
 }
 
 #[test]

@@ -130,17 +130,23 @@ fn base_cells() {
 
 #[test]
 fn contacts() {
+    let cell = [0, 0, 4, 4];
+    let border = |side, length| Some(Border { side, length });
     for (other, shared) in [
-        ([4, 2, 8, 6], true),
-        ([1, 4, 2, 5], true),
-        ([4, 4, 8, 8], false),
-        ([4, 3, 8, 8], true),
-        ([5, 0, 8, 4], false),
-        ([2, 2, 6, 6], false),
-        ([0, 0, 4, 4], false),
+        ([4, 2, 8, 6], border(Side::East, 2)),
+        ([1, 4, 2, 5], border(Side::North, 1)),
+        ([-2, -4, 9, 0], border(Side::South, 4)),
+        ([4, 4, 8, 8], None),
+        ([4, 3, 8, 8], border(Side::East, 1)),
+        ([5, 0, 8, 4], None),
+        ([2, 2, 6, 6], None),
+        ([0, 0, 4, 4], None),
     ] {
-        assert_eq!(contact([0, 0, 4, 4], other), Ok(shared), "{other:?}");
+        assert_eq!(contact(cell, other), Ok(shared), "{other:?}");
+        let turned = shared.and_then(|one| border(one.side.opposite(), one.length));
+        assert_eq!(contact(other, cell), Ok(turned), "{other:?}");
     }
+    assert_eq!(contact([4, 2, 8, 6], cell), Ok(border(Side::West, 2)));
 }
 
 /// A table of these roots, split and balanced: the splits that balance made, and the table.

@@ -258,6 +258,7 @@ fn another_boards_record_or_potentials_are_told() {
     fs::write(&volts, made(RELAX, &[], &net)).expect("a file");
     let picture = String::from_utf8(made(DRAW, &words, &net)).expect("text");
     assert!(picture.contains("power density in W/mm2, logarithmic"));
+    assert!(!picture.contains("borders"));
     fs::remove_dir_all(&folder).expect("a folder");
     refused(DRAW, &["--record", "/no/such/file"], &net);
 }
@@ -269,6 +270,8 @@ fn words_that_make_no_sense_get_the_usage() {
         (BOARD, vec!["park"]),
         (DRAW, vec!["--potentials", "file"]),
         (DRAW, vec!["--power"]),
+        (DRAW, vec!["--borders", "--power"]),
+        (DRAW, vec!["--border"]),
         (DRAW, vec!["--board"]),
         (DRAW, vec!["picture"]),
         (RELAX, vec!["--help"]),
@@ -304,7 +307,7 @@ fn draw_sh_says_its_usage_and_leaves_no_empty_file() {
         .arg(folder.join("neck"))
         .output()
         .expect("the script");
-    assert_eq!((output.status.code(), names()), (Some(0), 3), "{output:?}");
+    assert_eq!((output.status.code(), names()), (Some(0), 4), "{output:?}");
     fs::remove_dir_all(&folder).expect("a folder");
 }
 
@@ -471,6 +474,20 @@ fn links_of_a_text_are_in_its_net_and_its_pictures() {
     ] {
         let picture = String::from_utf8(made(DRAW, &words, input)).expect("text");
         assert!(picture.contains("32 leaves, 82 links"), "{words:?}");
+        // 24 borders on each layer; across them each of these twice, and none of a cell and the one above it.
+        let words = [&words[..], &["--borders"]].concat();
+        let picture = String::from_utf8(made(DRAW, &words, input)).expect("text");
+        let (counts, lines) = match words[..] {
+            ["--borders"] => ("96 borders", 96),
+            _ => ("96 borders, 48 of them across layers", 48 + 2 * 48),
+        };
+        let all = format!("32 leaves, {counts}, 82 links");
+        assert!(picture.contains(&all), "{words:?}");
+        assert_eq!(
+            picture.matches("<title>leaves ").count(),
+            lines,
+            "{words:?}"
+        );
     }
     // The same board without its links has another net.
     fs::write(&file, TWO_LAYERS).expect("a file");

@@ -15,8 +15,8 @@ use Rattle.net.proofs.Upto.{count_up, upto_all, rising-from, so-far-four}
 use Rattle.places.specs.Leaves.{leaf_of, leaf_from}
 use Rattle.places.specs.Places.{leaves_in}
 use Rattle.places.proofs.Places.{leaves-length, places-length}
-use Rattle.bare_net.specs.declared.sides.Side.{Side}
-use Rattle.bare_net.specs.declared.sides.Side.TheVariants.{South, North, West, East}
+use Rattle.cell.specs.declared.border.Side.{Side}
+use Rattle.cell.specs.declared.border.Side.TheVariants.{South, North, West, East}
 use Rattle.bare_net.specs.declared.sides.Sides.{Sides}
 use Rattle.bare_net.specs.Sides.{side_at, index_of, from_corner, to_corner, resistance, leaf_in, corner_in, middle_in, node_so_far, half_edge, edge_at, cell_at}
 use Rattle.bare_net.specs.Edges.{part_at, parts_in, edges_in, cells_in}

@@ -4,8 +4,8 @@ use Rattle.std.specs.Prelude.{◌%◌, ◌==◌, nat_lt, nat_le, if◌then◌els
 use Rattle.net.specs.Net.{Edge, NetCell, ◌·◌, ◌÷◌, One, Half, across, upright}
 use Rattle.net.specs.Flat as Flat
 use Rattle.places.specs.Leaves.{leaf_of, leaf_at}
-use Rattle.bare_net.specs.declared.sides.Side.{Side}
-use Rattle.bare_net.specs.declared.sides.Side.TheVariants.{South, North, West, East}
+use Rattle.cell.specs.declared.border.Side.{Side}
+use Rattle.cell.specs.declared.border.Side.TheVariants.{South, North, West, East}
 use Rattle.bare_net.specs.declared.sides.Slot.{Slot}
 use Rattle.bare_net.specs.declared.sides.Sides.{Sides}
 

@@ -3,18 +3,10 @@
 ghost use Rattle.std.specs.Prelude.{◌≡◌, ◌+◌, ◌*◌, ◌-◌, ◌^◌, ◌<◌, ◌≤◌, length};
 ghost use Rattle.places.specs.Places.{corner_count};
 
+use cell::border::Side;
 use net_rows::{Corners, Edge, NetCell};
 use places::Leaves;
 use places::nodes::CORNERS_A_LEAF;
-
-/// A side of a leaf.
-#[derive(Clone, Copy)]
-pub enum Side {
-    South,
-    North,
-    West,
-    East,
-}
 
 /// A half of a leaf's side.
 #[derive(Clone, Copy)]
@@ -36,33 +28,8 @@ pub struct Sides<'a> {
     ghost a_place_each: { length middles.now ≡ corner_count leaves },
 }
 
-impl Side {
-    ghost use Rattle.bare_net.specs.Sides.{index_of, from_corner, to_corner};
-
-    fn index(self) -> usize
-        ensures value { result ≡ index_of self }
-        ensures low { result < 4 }
-    {
-        self as usize
-    }
-
-    // The corners at which it begins and ends, of SW, SE, NE and NW.
-    fn corners(self) -> (usize, usize)
-        ensures value { result ≡ (from_corner self, to_corner self) }
-        ensures from_low { result.0 < 4 }
-        ensures to_low { result.1 < 4 }
-    {
-        match self {
-            Side::South => (0, 1),
-            Side::North => (3, 2),
-            Side::West => (0, 3),
-            Side::East => (1, 2),
-        }
-    }
-}
-
 impl Slot {
-    ghost use Rattle.bare_net.specs.Sides.{slot_of};
+    ghost use Rattle.bare_net.specs.Sides.{slot_of, from_corner, to_corner};
 
     /// How many a leaf has.
     pub const A_LEAF: usize = 8;
@@ -82,12 +49,26 @@ impl Slot {
             second: j % 2 == 1,
         }
     }
+
+    // The corners at which its side begins and ends, of SW, SE, NE and NW.
+    fn corners(self) -> (usize, usize)
+        ensures value { result ≡ (from_corner self.side, to_corner self.side) }
+        ensures from_low { result.0 < 4 }
+        ensures to_low { result.1 < 4 }
+    {
+        match self.side {
+            Side::South => (0, 1),
+            Side::North => (3, 2),
+            Side::West => (0, 3),
+            Side::East => (1, 2),
+        }
+    }
 }
 
 impl Sides<'_> {
     ghost use Rattle.places.specs.Leaves.{leaf_at, leaf_of};
     ghost use Rattle.bare_net.specs.Sides.{leaf_in, corner_in, middle_in, node_so_far, repeats, resistance};
-    ghost use Rattle.bare_net.specs.Sides.{edge_at, cell_at};
+    ghost use Rattle.bare_net.specs.Sides.{index_of, edge_at, cell_at};
 
     pub fn polygon(&self, v: usize) -> usize
         requires { v < length self.now.leaves.entries.now }
@@ -105,13 +86,26 @@ impl Sides<'_> {
         self.numbers[CORNERS_A_LEAF * v + corner]
     }
 
+    // The place of a side's middle among the four of its leaf.
+    fn middle_place(side: Side) -> usize
+        ensures value { result ≡ index_of side }
+        ensures low { result < 4 }
+    {
+        match side {
+            Side::South => 0,
+            Side::North => 1,
+            Side::West => 2,
+            Side::East => 3,
+        }
+    }
+
     // The node in the middle of a side, where one so far stands there: where a leaf of a polygon no later than the
     // leaf's own has a corner there.
     fn middle(&self, v: usize, side: Side) -> Option<u64>
         requires { v < length self.now.leaves.entries.now }
         ensures { result ≡ node_so_far self.now v (middle_in self.now v side) }
     {
-        let first = self.middles[CORNERS_A_LEAF * v + side.index()] as usize;
+        let first = self.middles[CORNERS_A_LEAF * v + Self::middle_place(side)] as usize;
         if first < self.numbers.len() && self.polygon(first / 4) <= self.polygon(v) {
             Some(self.numbers[first])
         } else {
@@ -148,7 +142,7 @@ impl Sides<'_> {
         requires { slot.leaf < length self.now.leaves.entries.now }
         ensures { result ≡ ((edge_at self.now slot).from, (edge_at self.now slot).to) }
     {
-        let (from, to) = slot.side.corners();
+        let (from, to) = slot.corners();
         let start = self.corner(slot.leaf, from) as usize;
         let end = self.corner(slot.leaf, to) as usize;
         match self.middle(slot.leaf, slot.side) {

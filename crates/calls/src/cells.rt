@@ -1,6 +1,7 @@
 //! Cells by value, and coordinates.
+use cell::border::{Border, Side};
 use cell::ticks::{in_range, metres, offset, ticks};
-use cell::{Cell, Quadrant, shares_edge};
+use cell::{Cell, Quadrant};
 
 #[test]
 fn a_root_and_its_children(rt: HostRuntime) {
@@ -29,12 +30,19 @@ fn a_root_and_its_children(rt: HostRuntime) {
     );
 }
 
-// Across a corner there is no contact; along a piece of border there is.
+// Across a corner there is no border; along a piece of one there is, on the other side from the other cell.
 #[test]
-fn contact(rt: HostRuntime) {
+fn borders(rt: HostRuntime) {
     let a = Cell::root(0, 0, 4, 4, 0);
-    assert!(rt; !shares_edge(a, Cell::root(4, 4, 8, 8, 0)));
-    assert!(rt; shares_edge(a, Cell::root(4, 3, 8, 8, 0)));
+    assert_eq!(rt; a.border(Cell::root(4, 4, 8, 8, 0)), None);
+    let b = Cell::root(4, 3, 8, 8, 0);
+    let border = |side, length| Some(Border { side, length });
+    assert_eq!(rt; a.border(b), border(Side::East, 1));
+    assert_eq!(rt; b.border(a), border(Side::West, 1));
+    let c = Cell::root(0, 4, 8, 8, 0);
+    assert_eq!(rt; a.border(c), border(Side::North, 4));
+    assert_eq!(rt; c.border(a), border(Side::South, 4));
+    assert_eq!(rt; Side::West.number(), 3);
 }
 
 #[test]

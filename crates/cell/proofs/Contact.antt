@@ -1,8 +1,10 @@
 -- Contact: as facts; symmetric; a corner is none; and the lemma on quadrants: a box that shares an edge with another has a quadrant
 -- that does. The engines cite contact by these laws and never by its text. Assumes nothing.
-use Rattle.std.proofs.Common.{◌≡◌, refl, Bool, true, false, ◌&&◌, ◌||◌, ◌⊎◌, inl, inr, ⊎_elim, ℕ, ◌<◌, ◌≤◌, min, max, arith, ltb, eqb, ltb-true, ltb-false, lt-ltb, eqb-true, eq-eqb}
+use Rattle.std.proofs.Common.{◌≡◌, refl, sym, ap, ◌∙◌, Bool, true, false, ◌&&◌, ◌||◌, if◌then◌else◌, ◌==◌, ◌⊎◌, inl, inr, ⊎_elim, ℕ, ◌-◌, ◌<◌, ◌≤◌, min, max, Option, Some, arith, ltb, eqb, ltb-true, ltb-false, lt-ltb, eqb-true, eq-eqb}
+use Rattle.std.specs.Option.{is_some}
 use mathlib.Core.Bool.{false≢true}
-use Rattle.cell.specs.Boxes.{Box, Quad, sw, se, nw, ne, quadrant, mid, overlaps, shares_edge}
+use Rattle.cell.specs.Boxes.{Box, Quad, sw, se, nw, ne, quadrant, mid, border, shares_edge}
+use Rattle.cell.specs.Laws.{overlaps}
 
 pub or_cases : (x y : Bool) → (x || y) ≡ true → (x ≡ true) ⊎ (y ≡ true)
 or_cases true y e = inl refl
@@ -72,13 +74,53 @@ of-touch a b (west e h) = two (eq-eqb _ _ e) (lt-ltb _ _ h)
 of-touch a b (north e h) = three (eq-eqb _ _ e) (lt-ltb _ _ h)
 of-touch a b (south e h) = four (eq-eqb _ _ e) (lt-ltb _ _ h)
 
+-- ---- some border is sharing an edge by the rules
+
+positive : (n m : ℕ) → ltb 0 (m - n) ≡ ltb n m
+positive n m = by (ltb n m) refl
+  where
+    by : (t : Bool) → ltb n m ≡ t → ltb 0 (m - n) ≡ t
+    by true e = lt-ltb 0 (m - n) (omega (arith, ltb-true n m e))
+    by false e = let z : m - n ≡ 0 = omega (arith, ltb-false n m e) in rw z refl
+
+-- a side counts if its line is met and the ranges overlap
+counts : (p : Bool) (n m : ℕ) → ltb 0 (if p then m - n else 0) ≡ (p && ltb n m)
+counts true n m = positive n m
+counts false n m = refl
+
+-- a side that does not count leaves it to the next
+some-or : {A : Type 0} (x counting y : Bool) (c : A) (o : Option A) → x ≡ counting → is_some o ≡ y → is_some (if x then Some c else o) ≡ (counting || y)
+some-or true counting y c o h e = rw (sym h) refl
+some-or false counting y c o h e = rw (sym h) e
+
+regroup : (p q u x : Bool) → ((p && u) || ((q && u) || x)) ≡ (((p || q) && u) || x)
+regroup true q true x = refl
+regroup true true false x = refl
+regroup true false false x = refl
+regroup false q u x = refl
+
+or-false : (x : Bool) → (x || false) ≡ x
+or-false true = refl
+or-false false = refl
+
+pub some-border : (a b : Box)
+    → shares_edge a b
+    ≡ (((a.x1 == b.x0 || b.x1 == a.x0) && overlaps a.y0 a.y1 b.y0 b.y1)
+    || ((a.y1 == b.y0 || b.y1 == a.y0) && overlaps a.x0 a.x1 b.x0 b.x1))
+unfolding shares_edge border
+some-border a b =
+    some-or _ _ _ _ _ (counts (a.x1 == b.x0) _ _)
+    (some-or _ _ _ _ _ (counts (b.x1 == a.x0) _ _)
+    (some-or _ _ _ _ _ (counts (a.y1 == b.y0) _ _)
+    (some-or _ _ _ _ _ (counts (b.y1 == a.y0) _ _) refl)))
+    ∙ regroup (a.x1 == b.x0) (b.x1 == a.x0) _ _
+    ∙ ap (λ z. (((a.x1 == b.x0 || b.x1 == a.x0) && overlaps a.y0 a.y1 b.y0 b.y1) || z)) (regroup (a.y1 == b.y0) (b.y1 == a.y0) _ _ ∙ or-false _)
+
 pub shares→touch : (a b : Box) → shares_edge a b ≡ true → Touch a b
-unfolding shares_edge
-shares→touch a b e = touch-of a b (four-of _ _ _ _ _ _ e)
+shares→touch a b e = touch-of a b (four-of _ _ _ _ _ _ (sym (some-border a b) ∙ e))
 
 pub touch→shares : (a b : Box) → Touch a b → shares_edge a b ≡ true
-unfolding shares_edge
-touch→shares a b t = of_four _ _ _ _ _ _ (of-touch a b t)
+touch→shares a b t = some-border a b ∙ of_four _ _ _ _ _ _ (of-touch a b t)
 
 touch-sym : (a b : Box) → Touch a b → Touch b a
 touch-sym a b (east e h) = west e (omega arith)

@@ -1,9 +1,9 @@
 -- Laws of coordinates: what the code's steps ask, and that the offset and the way back undo one another. Assumes nothing.
 use Rattle.std.proofs.Common.{ℕ, suc, ◌+◌, ◌-◌, min, ◌<◌, ◌≤◌, ◌≡◌, refl, ap, sym, subst, Bool, true, false, ◌⊎◌, inl, inr, ⊎_elim, arith, ℤ, pos, negsuc, ◌+ℤ◌, ◌-ℤ◌, T, ltb, lt-ltb, le-ltb, ltb-true, ltb-false, leb-true, leb-false, w64, SFits}
 use lib.IntN.{sub_ℕ}
-use lib.Signed.{le_z}
+use lib.Signed.{le_z, lt_z}
 use Rattle.refusals.specs.Limits.{coordinate}
-use Rattle.cell.specs.Ticks.{off, on}
+use Rattle.cell.specs.Ticks.{in_range, off, on}
 
 pub below? : (a b : ℕ) → (a < b) ⊎ (b ≤ a)
 below? a b = by (ltb a b) refl
@@ -70,3 +70,11 @@ on-top n h = let e : min n (coordinate + coordinate) ≡ coordinate + coordinate
 
 pub on_fits : (n : ℕ) → SFits w64 (on n)
 on_fits n = on-cases (SFits w64) n (λ w. record { sfits = omega arith }) (λ w. record { sfits = omega arith })
+
+-- in range the offset keeps the order
+pub off-rises : (z w : ℤ) → in_range z ≡ true → in_range w ≡ true → lt_z z w ≡ true → off z < off w
+unfolding in_range off
+off-rises (pos n) (pos m) i j h = grind arith
+off-rises (pos n) (negsuc m) i j h = grind arith
+off-rises (negsuc n) (pos m) i j h = grind arith
+off-rises (negsuc n) (negsuc m) i j h = grind arith

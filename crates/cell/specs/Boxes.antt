@@ -1,5 +1,9 @@
--- Boxes, their quadrants and contact, in whole ticks.
-use Rattle.std.specs.Prelude.{ℕ, zero, suc, ◌+◌, ◌/◌, min, max, Bool, ◌&&◌, ◌||◌, ◌==◌, nat_lt}
+-- Boxes, their quadrants, and the borders that two of them share, in whole ticks.
+use Rattle.std.specs.Prelude.{ℕ, zero, suc, ◌+◌, ◌-◌, ◌/◌, min, max, Bool, ◌==◌, nat_lt, if◌then◌else◌}
+use Rattle.std.specs.Prelude.{List, [], ◌∷◌, Option, None, Some, is_some}
+use Rattle.cell.specs.declared.border.Border.{Border}
+use Rattle.cell.specs.declared.border.Side.{Side}
+use Rattle.cell.specs.declared.border.Side.TheVariants.{South, East, North, West}
 use Rattle.cell.specs.declared.Quadrant.{Quadrant}
 use Rattle.cell.specs.declared.Quadrant.TheVariants.{SouthWest, SouthEast, NorthWest, NorthEast}
 
@@ -47,13 +51,38 @@ quadrant b se = record { x0 = mid b.x0 b.x1; y0 = b.y0; x1 = b.x1; y1 = mid b.y0
 quadrant b nw = record { x0 = b.x0; y0 = mid b.y0 b.y1; x1 = mid b.x0 b.x1; y1 = b.y1 }
 quadrant b ne = record { x0 = mid b.x0 b.x1; y0 = mid b.y0 b.y1; x1 = b.x1; y1 = b.y1 }
 
--- the ranges a to b and c to d overlap by a positive length: what they have in common begins before it ends
-abbrev pub overlaps : ℕ → ℕ → ℕ → ℕ → Bool
-overlaps a b c d = nat_lt (max a c) (min b d)
+-- ---- borders
 
--- the rules: one's east side has the x of the other's west side and their y ranges overlap by a positive length, or
--- likewise with x and y exchanged
+abbrev pub side_number : Side → ℕ
+side_number South = 0
+side_number East = 1
+side_number North = 2
+side_number West = 3
+
+-- how long is what the ranges a to b and c to d have in common: it begins where the later of them begins, and ends
+-- where the earlier ends
+abbrev pub common : ℕ → ℕ → ℕ → ℕ → ℕ
+common a b c d = min b d - max a c
+
+-- how long the border of a and b is on a side of a: "East: a.x1 = b.x0; west: b.x1 = a.x0; length: the overlap of the y
+-- ranges. North: a.y1 = b.y0; south: b.y1 = a.y0; length: the overlap of the x ranges"
+abbrev pub length_on : Side → Box → Box → ℕ
+length_on South a b = if b.y1 == a.y0 then common a.x0 a.x1 b.x0 b.x1 else 0
+length_on East a b = if a.x1 == b.x0 then common a.y0 a.y1 b.y0 b.y1 else 0
+length_on North a b = if a.y1 == b.y0 then common a.x0 a.x1 b.x0 b.x1 else 0
+length_on West a b = if b.x1 == a.x0 then common a.y0 a.y1 b.y0 b.y1 else 0
+
+-- the first of some sides of a that counts: "a side counts where its length is positive"
+abbrev pub first_border : List Side → Box → Box → Option Border
+first_border [] a b = None
+first_border (s ∷ ss) a b =
+    if nat_lt 0 (length_on s a b) then Some (record { side = s; length = length_on s a b })
+    else first_border ss a b
+
+-- the border that a shares with b. Only boxes without an inside can have more than one side that counts
+unfoldable pub border : Box → Box → Option Border
+border a b = first_border (East ∷ West ∷ North ∷ South ∷ []) a b
+
+-- "shares an edge" is: any border
 unfoldable pub shares_edge : Box → Box → Bool
-shares_edge a b =
-    ((a.x1 == b.x0 || b.x1 == a.x0) && overlaps a.y0 a.y1 b.y0 b.y1)
-    || ((a.y1 == b.y0 || b.y1 == a.y0) && overlaps a.x0 a.x1 b.x0 b.x1)
+shares_edge a b = is_some (border a b)

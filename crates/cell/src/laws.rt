@@ -1,5 +1,29 @@
 //! What contact comes to.
+ghost use Rattle.cell.specs.Laws.{SomeBorder, OneSide, BorderOnAnySide, BorderHasLength, BorderTurned, AnswerTurned};
 ghost use Rattle.cell.specs.Laws.{ContactIsMutual, CornersDoNotTouch, SomeQuadrantTouches, OneContact};
+
+/// Two cells have a border exactly if they share an edge by the rules.
+pub fn some_border()
+    ensures { SomeBorder }
+{}
+
+/// Two rectangles with positive sides have a border of positive length on one side at most; it is the one answered,
+/// whatever the order in which the sides are asked.
+pub fn one_side()
+    ensures at_most { OneSide }
+    ensures any_order { BorderOnAnySide }
+{}
+
+/// A border is longer than a point.
+pub fn border_has_length()
+    ensures { BorderHasLength }
+{}
+
+/// Of the two exchanged the opposite side, and the same length; or the same refusal.
+pub fn border_turned()
+    ensures boxes { BorderTurned }
+    ensures answers { AnswerTurned }
+{}
 
 /// Contact is the same seen from either side.
 pub fn contact_is_mutual()

@@ -5,12 +5,15 @@
 
 ghost use Rattle.std.specs.Prelude.{◌≡◌, ◌==◌, ◌<◌};
 ghost use Rattle.refusals.specs.Limits.{widest_level};
-ghost use Rattle.cell.specs.Boxes.{num, overlaps, shares_edge};
+ghost use Rattle.cell.specs.Boxes.{num, common, border};
 ghost use Rattle.cell.specs.Cells.{box_of, no_cell, root_of, cut_to, centre, child_of};
 
+pub mod border;
 pub mod laws;
 pub mod rectangles;
 pub mod ticks;
+
+use border::{Border, Side};
 
 /// The four quadrants, in the order of the children's ids.
 #[derive(Clone, Copy, Debug, PartialEq, Eq)]
@@ -131,20 +134,34 @@ impl Cell {
             ..self.quadrant(q)
         }
     }
+
+    /// The border that the cell shares with another: on which of its own sides, and how long. A corner in common is
+    /// none. No more than one side comes in question unless a cell has no width or no height; then they are asked in
+    /// this order.
+    #[tactic(auto, unfolding(crate::specs::Boxes::border))]
+    pub fn border(self, other: Cell) -> Option<Border>
+        ensures { result ≡ border (box_of self) (box_of other) }
+    {
+        let height = common(self.y0, self.y1, other.y0, other.y1);
+        let width = common(self.x0, self.x1, other.x0, other.x1);
+        let (side, length) = if (self.x1 == other.x0) & (0 < height) {
+            (Side::East, height)
+        } else if (other.x1 == self.x0) & (0 < height) {
+            (Side::West, height)
+        } else if (self.y1 == other.y0) & (0 < width) {
+            (Side::North, width)
+        } else if (other.y1 == self.y0) & (0 < width) {
+            (Side::South, width)
+        } else {
+            return None;
+        };
+        Some(Border { side, length })
+    }
 }
 
-// The ranges a to b and c to d overlap by a positive length.
-fn overlap(a: u64, b: u64, c: u64, d: u64) -> bool
-    ensures { result ≡ overlaps a b c d }
+// How long is what the ranges a to b and c to d have in common.
+fn common(a: u64, b: u64, c: u64, d: u64) -> u64
+    ensures { result ≡ common a b c d }
 {
-    ((a < b) & (a < d)) & ((c < b) & (c < d))
-}
-
-/// Whether two cells have a piece of border in common that is longer than a point.
-pub fn shares_edge(a: Cell, b: Cell) -> bool
-    ensures { result ≡ shares_edge (box_of a) (box_of b) }
-{
-    let beside = (a.x1 == b.x0) | (b.x1 == a.x0);
-    let stacked = (a.y1 == b.y0) | (b.y1 == a.y0);
-    (beside & overlap(a.y0, a.y1, b.y0, b.y1)) | (stacked & overlap(a.x0, a.x1, b.x0, b.x1))
+    b.min(d).saturating_sub(a.max(c))
 }

@@ -1,10 +1,11 @@
-//! Contact of two rectangles: whether they share an edge, for a caller with signed coordinates.
+//! Contact of two rectangles: the border that they share, for a caller with signed coordinates.
 ghost use Rattle.std.specs.Prelude.{◌≡◌};
 ghost use Rattle.cell.specs.Cells.{root_of};
 ghost use Rattle.cell.specs.Ticks.{off};
 ghost use Rattle.cell.specs.Contact.{sound_rect, contact_said, contact_says};
 
 use crate::Cell;
+use crate::border::Border;
 use crate::ticks::{in_range, offset};
 use refusals::Refusal;
 
@@ -45,13 +46,14 @@ impl Rect {
     }
 }
 
-/// Whether two rectangles share an edge; refusal 3 for a coordinate out of range or a side that isn't positive.
+/// On which side of a the two rectangles share an edge, and how long it is; refusal 3 for a coordinate out of range or
+/// a side that isn't positive.
 #[tactic(auto, unfolding(crate::specs::Contact::contact_says))]
-pub fn between(a: Rect, b: Rect) -> Result<bool, Refusal>
+pub fn between(a: Rect, b: Rect) -> Result<Option<Border>, Refusal>
     ensures { contact_said result ≡ contact_says a b }
 {
     if !(a.is_sound() & b.is_sound()) {
         return Err(Refusal::OutOfRange(0));
     }
-    Ok(crate::shares_edge(a.as_cell(), b.as_cell()))
+    Ok(a.as_cell().border(b.as_cell()))
 }

@@ -8,7 +8,7 @@ ghost use Rattle.coarsest.specs.Passes.{due_cells};
 
 pub mod laws;
 
-use cell::{Cell, shares_edge};
+use cell::Cell;
 
 /// Which of the two evens a table out: `balance` goes from leaf to leaf and splits what is too coarse for it; `conform`
 /// splits the leaf itself where it is too coarse for another.
@@ -33,6 +33,7 @@ impl Engine {
 }
 
 /// Whether the leaf b has to be split for the leaf a: a is finer by more than k levels, and they share an edge.
+#[tactic(auto, unfolding(cell::specs::Boxes::shares_edge))]
 pub fn due(a: Cell, b: Cell, k: u64) -> bool
     ensures { result ≡ due_cells k (mesh_cell a) (mesh_cell b) }
 {
@@ -47,5 +48,5 @@ pub fn due(a: Cell, b: Cell, k: u64) -> bool
     if a.level - b.level <= k {
         return false;
     }
-    shares_edge(a, b)
+    a.border(b).is_some()
 }

@@ -38,28 +38,32 @@ use Rattle.laws.proofs.Fitting.{grid-fits}
 use Rattle.laws.proofs.Roots.{grid-at, Placed, root-placed}
 
 -- what stands past the last root
-abbrev no_root : Root
+abbrev pub no_root : Root
 no_root = record { x0 = 0; y0 = 0; x1 = 0; y1 = 0; poly = 0 }
 
 -- ---- roots that stand row by row, as build leaves those of a strip, are one grid
 
+-- two of them in the same column and row are the same
+pub run-once : (from n r s : ℕ) → from ≤ r → from ≤ s → (r - from) % n ≡ (s - from) % n → (r - from) / n ≡ (s - from) / n → r ≡ s
+run-once from n r s h k c d = grind (arith, div-add-mod' (r - from) n, div-add-mod' (s - from) n)
+
 -- a polygon's roots stand from the id `from` on: "row by row from the bottom, left to right", n to a row
-run-strip : (t : List Cell) (k from n : ℕ) (g : Grid) → ((r : ℕ) → RootOf t k r → (from ≤ r) × ((at t r).box ≡ grid_box g ((r - from) % n) ((r - from) / n))) → OneGrid t k
+unfoldable pub run-strip : (t : List Cell) (k from n : ℕ) (g : Grid) → ((r : ℕ) → RootOf t k r → (from ≤ r) × ((at t r).box ≡ grid_box g ((r - from) % n) ((r - from) / n))) → OneGrid t k
 run-strip t k from n g f =
     record {
       grid = g;
       column = λ r. (r - from) % n;
       row = λ r. (r - from) / n;
       placed = λ r a. (f r a).1;
-      once = λ r s a b c d. grind (arith, div-add-mod' (r - from) n, div-add-mod' (s - from) n, (f r a).0, (f s b).0);
+      once = λ r s a b. run-once from n r s (f r a).0 (f s b).0;
     }
 
 -- ---- a root's eight numbers, and its box
 
-abbrev box_from : Root → Box
+abbrev pub box_from : Root → Box
 box_from r = record { x0 = r.x0; y0 = r.y0; x1 = r.x1; y1 = r.y1 }
 
-record Fits (r : Root) : Type 0 where
+pub record Fits (r : Root) : Type 0 where
   x0 : r.x0 ≤ coordinate + coordinate
   y0 : r.y0 ≤ coordinate + coordinate
   x1 : r.x1 ≤ coordinate + coordinate
@@ -77,7 +81,7 @@ module _ (rs : List Root) (rest : List ℤ) (i : ℕ) (h : i < length rs) where
   abbrev root : Root
   root = get_or rs i no_root
 
-  polygon-of : (cell_at row i).poly ≡ root.poly
+  pub polygon-of : (cell_at row i).poly ≡ root.poly
   unfolding cell_at flat counted
   polygon-of = ap counted (numbers 7 (omega arith))
 
@@ -91,11 +95,11 @@ module _ (rs : List Root) (rest : List ℤ) (i : ℕ) (h : i < length rs) where
 abbrev own : Board → ℕ → Root
 own b r = get_or (roots_of b) r no_root
 
-record Found (b : Board) (size p r : ℕ) : Type 0 where
-  place : Placed b no_root (polygons b) p r
-  boxed-as : Fits (own b r) → (at (table (filled b size) (length (roots_of b))) r).box ≡ box_from (own b r)
+pub record Found (b : Board) (size p r : ℕ) : Type 0 where
+  pub place : Placed b no_root (polygons b) p r
+  pub boxed-as : Fits (own b r) → (at (table (filled b size) (length (roots_of b))) r).box ≡ box_from (own b r)
 
-found : (b : Board) (size p r : ℕ) → RootOf (table (filled b size) (length (roots_of b))) p r → Found b size p r
+pub found : (b : Board) (size p r : ℕ) → RootOf (table (filled b size) (length (roots_of b))) p r → Found b size p r
 unfolding filled
 found b size p r a =
     let rest = replicate (size - length (roots_of b) * 8) (pos 0) in
@@ -118,7 +122,7 @@ module _ (b : Board) (size : ℕ) (fit : Fit b) (p : ℕ) (below : p < polygons 
   abbrev g : Cut
   g = cut_of b.settings.cap (size_at b p) s
 
-  some : Cuts g
+  pub some : Cuts g
   some = cuts b.settings.cap (size_at b p) s (sizes b fit p)
 
   sound : Sound s
@@ -128,7 +132,7 @@ module _ (b : Board) (size : ℕ) (fit : Fit b) (p : ℕ) (below : p < polygons 
   unfolding all_even
   strip-even = and_left (even_strip (unit b) g s) (all_even (unit b) b.settings.cap (size_at b p) []) (subst (λ (ss : List Strip). all_even (unit b) b.settings.cap (size_at b p) ss ≡ true) single even)
 
-  strip-roots : roots_at b p ≡ grid_to p s g g.ny
+  pub strip-roots : roots_at b p ≡ grid_to p s g g.ny
   unfolding roots_in
   strip-roots = ap (roots_in p b.settings.cap (size_at b p)) single ∙ append-nil (grid_to p s g g.ny)
 
@@ -136,13 +140,13 @@ module _ (b : Board) (size : ℕ) (fit : Fit b) (p : ℕ) (below : p < polygons 
   from = length (roots_to b p)
 
   -- the root r of the polygon, by its place
-  root_is : (r : ℕ) → Placed b no_root (polygons b) p r → get_or (roots_of b) r no_root ≡ boxed p (cell_of (row_of s g ((r - from) / g.nx)) g.nx ((r - from) % g.nx))
+  pub root_is : (r : ℕ) → Placed b no_root (polygons b) p r → get_or (roots_of b) r no_root ≡ boxed p (cell_of (row_of s g ((r - from) / g.nx)) g.nx ((r - from) % g.nx))
   root_is r w =
       let l = ap length strip-roots ∙ length-grid p s g g.ny in
       let i = w.within in
       w.same ∙ ap (λ (rs : List Root). get_or rs (r - from) no_root) strip-roots ∙ grid-at p no_root s g g.ny (r - from) (omega arith)
 
-  root-fits : (r : ℕ) → Placed b no_root (polygons b) p r → Fits (get_or (roots_of b) r no_root)
+  pub root-fits : (r : ℕ) → Placed b no_root (polygons b) p r → Fits (get_or (roots_of b) r no_root)
   root-fits r w =
       let m = r - from in
       let l = ap length strip-roots ∙ length-grid p s g g.ny in

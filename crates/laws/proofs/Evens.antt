@@ -45,12 +45,12 @@ abbrev pub RootsKept : List Cell → List Cell → Type 0
 RootsKept t u = ((i : ℕ) → i < length t → Kept t u i) × SameRoots u t
 
 module _ (t u : List Cell) (kept : RootsKept t u) where
-  root-back : (k r : ℕ) → RootOf u k r → RootOf t k r
+  pub root-back : (k r : ℕ) → RootOf u k r → RootOf t k r
   root-back k r a =
       let b = is-root t r (at u r).box (sym (kept.1 r) ∙ root_is u r a.top) in
       record { top = b.0; polygon = sym (kept.0 r (root_in t r b.0)).polygon ∙ a.polygon }
 
-  box-same : (k r : ℕ) → RootOf u k r → (at u r).box ≡ (at t r).box
+  pub box-same : (k r : ℕ) → RootOf u k r → (at u r).box ≡ (at t r).box
   box-same k r a = (kept.0 r (root_in t r (root-back k r a).top)).box
 
   grid-kept : (k : ℕ) → OneGrid t k → OneGrid u k
@@ -70,7 +70,7 @@ module _ (t u : List Cell) (kept : RootsKept t u) where
   apart-kept ps k f j l n e h r s a b o = f j l n e h r s (root-back j r a) (root-back k s b) (subst₂ Touch (box-same j r a) (box-same k s b) o)
 
 -- so refinement keeps what is said of roots alone, and the clauses on roots, children and parents
-splits-keep : (P : List Cell → Type 0) → ((t u : List Cell) → RootsKept t u → P t → P u) → (M : ℕ) (t : List Cell) → P t → {u : List Cell} → Splits M t u → P u
+pub splits-keep : (P : List Cell → Type 0) → ((t u : List Cell) → RootsKept t u → P t → P u) → (M : ℕ) (t : List Cell) → P t → {u : List Cell} → Splits M t u → P u
 splits-keep P f M t s start = s
 splits-keep P f M t s (next {u = u} w c h leaf finer) = f u (split u c) (kept u c h, roots_kept u c h) (splits-keep P f M t s w)
 
@@ -86,7 +86,7 @@ splits-formed M t f (next {u = u} w c h leaf finer) = formed-split u c h leaf M 
 
 -- and so do balance and conform
 module _ (M : ℕ) (t : List Cell) (formed : Formed M t) where
-  balance-keeps : RootsKept t (balance M t)
+  pub balance-keeps : RootsKept t (balance M t)
   unfolding balance
   balance-keeps = ((evened-from Balancing 1 M t).cell, evened-roots Balancing 1 M t formed)
 

@@ -1,4 +1,4 @@
--- No node hangs in a balanced table, and sides are joined; what build leaves of rings in pitch; what the checks say of a made net; and what build says of a board that was read.
+-- No node hangs in a balanced table, and sides are joined; what build leaves of rings in pitch; borders add up to sides; what the checks say of a made net; and what build says of a board that was read.
 pub mod Axis
 pub mod Apart
 pub mod Placed
@@ -15,6 +15,12 @@ pub mod Strips
 pub mod Pitch
 pub mod BuiltGrids
 pub mod BuiltHangs
+pub mod BordersTotals
+pub mod BordersTiles
+pub mod BordersLeaves
+pub mod BordersFill
+pub mod BordersBuilt
+pub mod BordersAnswered
 pub mod SampleBoards
 pub mod Places
 pub mod Pieces

@@ -18,7 +18,7 @@ second-of l m d i h =
     let e : i ≡ length l + (i - length l) = omega arith in
     ap (λ (x : ℕ). get_or (l ++ m) x d) e ∙ get_or-append-add l m (i - length l) d
 
-div-mod-at : (n j i m : ℕ) → i < n → m ≡ j * n + i → (m / n ≡ j) × (m % n ≡ i)
+pub div-mod-at : (n j i m : ℕ) → i < n → m ≡ j * n + i → (m / n ≡ j) × (m % n ≡ i)
 div-mod-at n j i m h e =
     rw e (mul-add-div_right (omega arith) j i ∙ ap (λ (x : ℕ). j + x) (div-eq_of_lt h) ∙ omega arith, mul-add-mod_self_right j n i ∙ mod-eq_of_lt h)
 

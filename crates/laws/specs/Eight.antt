@@ -2,7 +2,7 @@
 -- two lists together. Rows, rings and rectangles are in the caller's ticks. P7's strips are as the code holds them,
 -- 2^36 more.
 use lib.Pointwise.{pointwise}
-use Rattle.std.specs.Prelude.{ℕ, ◌≡◌, ◌+◌, ◌*◌, ◌-◌, Bool, List, [], ◌∷◌, ◌++◌, map, ℤ, pos}
+use Rattle.std.specs.Prelude.{ℕ, ◌≡◌, ◌+◌, ◌*◌, ◌-◌, Bool, List, [], ◌∷◌, ◌++◌, map, ℤ, pos, neg_ℤ}
 use Rattle.std.specs.Prelude.{Float, replicate, not, filter, length}
 use Rattle.std.specs.List.{range_with_len, flat_map}
 use Rattle.std.specs.Ordering.{int_eq}
@@ -66,6 +66,10 @@ split_ids cells = filter (λ i. not (is_leaf cells i)) (range_with_len 0 (length
 abbrev pub rect : ℕ → ℕ → ℕ → ℕ → Rect
 rect a b c d = record { x0 = pos a; y0 = pos b; x1 = pos c; y1 = pos d }
 
+-- (-2,-4,9,0)
+abbrev pub below : Rect
+below = record { x0 = neg_ℤ (pos 2); y0 = neg_ℤ (pos 4); x1 = pos 9; y1 = pos 0 }
+
 abbrev pub point : ℕ → ℕ → List ℤ
 point x y = pos x ∷ pos y ∷ []
 
@@ -90,6 +94,9 @@ computed p2 =
     ∷ balance_says (p2 42) 10 9
     ∷ answer (contact_says (rect 0 0 4 4) (rect 4 4 8 8))
     ∷ answer (contact_says (rect 0 0 4 4) (rect 4 3 8 8))
+    ∷ answer (contact_says (rect 4 3 8 8) (rect 0 0 4 4))
+    ∷ answer (contact_says (rect 0 0 4 4) (rect 0 4 8 8))
+    ∷ answer (contact_says (rect 0 0 4 4) below)
     ∷ (held_at 256 4 8 ∷ held_at 256 4 9 ∷ held_at 1 4 8 ∷ [])
     ∷ corners (strips_of (point 0 0 ∷ point 8 0 ∷ point 8 4 ∷ point 4 4 ∷ point 4 8 ∷ point 0 8 ∷ []))
     ∷ (to_bits binary64 power ∷ [])
@@ -111,9 +118,13 @@ expected =
     ∷ (1 ∷ 0 ∷ [])
     -- P2's input with a stored number of leaves that is not its own: 7
     ∷ (7 ∷ 0 ∷ [])
-    -- P5 "(0,0,4,4) and (4,4,8,8) don't share an edge; with (4,3,8,8) they do."
-    ∷ (0 ∷ 0 ∷ [])
-    ∷ (0 ∷ 1 ∷ [])
+    -- P5 "(0,0,4,4) and (4,4,8,8) don't share an edge; with (4,3,8,8) they do." By side and length: none; east 1
+    ∷ (0 ∷ [])
+    ∷ (0 ∷ 1 ∷ 1 ∷ [])
+    -- and "the other way round: west 1. With (0,4,8,8): north 4. With (-2,-4,9,0): south 4."
+    ∷ (0 ∷ 3 ∷ 1 ∷ [])
+    ∷ (0 ∷ 2 ∷ 4 ∷ [])
+    ∷ (0 ∷ 0 ∷ 4 ∷ [])
     -- P6 "w 8, c 4: nx 2; w 9: 3; cap 1: 1."
     ∷ (2 ∷ 3 ∷ 1 ∷ [])
     -- P7 "strips (0,0,8,4), (0,4,4,8)."

@@ -1,4 +1,4 @@
--- Polygons of one strip, nodes that do not hang, the rows of a made net, boards that were read, and the boundary cases.
+-- Polygons of one strip, nodes that do not hang, borders along sides, the rows of a made net, boards that were read, and the boundary cases.
 pub mod Grids
 pub mod Nodes
 pub mod Fit
@@ -6,6 +6,7 @@ pub mod Joined
 pub mod Offsets
 pub mod Hanging
 pub mod Built
+pub mod Borders
 pub mod Samples
 pub mod Made
 pub mod MadeNets

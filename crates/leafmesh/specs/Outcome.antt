@@ -5,12 +5,18 @@ use Rattle.build.specs.declared.Settings as Cutting
 use Rattle.record.specs.declared.board.Settings as Recorded
 use Rattle.cell.specs.declared.rectangles.Rect.{Rect}
 use Rattle.leafmesh.specs.declared.Outcome.{Outcome}
+use Rattle.leafmesh.specs.declared.BorderOutcome.{BorderOutcome}
 use Rattle.leafmesh.specs.declared.TableOutcome.{TableOutcome}
 
 -- an Outcome has one value, 0 where the answer has none
 abbrev pub outcome_of : Said → Outcome
 outcome_of (accepted vs) = record { number = 0; place = 0; value = slice_index vs 0 }
 outcome_of (refused n p) = record { number = n; place = p; value = 0 }
+
+-- the side and the length of a border; none has neither
+abbrev pub border_outcome_of : Said → BorderOutcome
+border_outcome_of (accepted vs) = record { number = 0; place = 0; side = slice_index vs 0; length = slice_index vs 1 }
+border_outcome_of (refused n p) = record { number = n; place = p; side = 0; length = 0 }
 
 abbrev table_with : ℕ → ℕ → ℕ → List ℕ → TableOutcome
 table_with n p splits head =

@@ -4,19 +4,20 @@
 #![tactic(auto)]
 
 ghost use Rattle.std.specs.Prelude.{◌≡◌, ℕ, List, [], ◌∷◌, slice_index};
-ghost use Rattle.refusals.specs.Said.{accepted, refusal, said, bit};
-ghost use Rattle.cell.specs.Contact.{contact_says};
+ghost use Rattle.refusals.specs.Said.{accepted, refusal, said};
+ghost use Rattle.cell.specs.Contact.{contact_says, contact_said};
 ghost use Rattle.table.specs.Rows.{head_of, head_values, leaves_in, order_in};
 ghost use Rattle.table.specs.Leaves.{list_says, listed_row};
 ghost use Rattle.table.specs.Refine.{refined_said, refine_says, refined_row};
 ghost use Rattle.coarsest.specs.declared.Engine.TheVariants.{Balancing, Conforming};
 ghost use Rattle.even.specs.Even.{evening_said, even_says, even_row};
-ghost use Rattle.leafmesh.specs.Outcome.{outcome_of, head_outcome_of, evening_outcome_of, rect_of};
+ghost use Rattle.leafmesh.specs.Outcome.{outcome_of, border_outcome_of, head_outcome_of, evening_outcome_of, rect_of};
 
 pub mod boards;
 pub mod laws;
 pub mod nets;
 
+use cell::border::Border;
 use cell::rectangles::{self, Rect};
 use even::Evening;
 use refusals::Refusal;
@@ -49,14 +50,6 @@ impl Found for usize {
     }
 }
 
-impl Found for bool {
-    ghost values = { λ shared. bit shared ∷ [] };
-
-    fn value(self) -> u64 {
-        u64::from(self)
-    }
-}
-
 impl Found for () {
     ghost values = { λ _. [] };
 
@@ -81,6 +74,46 @@ impl<T: Found> From<Result<T, Refusal>> for Outcome {
                     number: code.number,
                     place: code.place as u64,
                     value: 0,
+                }
+            }
+        }
+    }
+}
+
+/// What contact answers: the side of the first rectangle that touches the second (0 to 3: south, east, north, west),
+/// and the length of the border in ticks. A length of 0 says that they have none.
+#[repr(C)]
+#[derive(Clone, Copy)]
+pub struct BorderOutcome {
+    pub number: u64,
+    pub place: u64,
+    pub side: u64,
+    pub length: u64,
+}
+
+impl From<Result<Option<Border>, Refusal>> for BorderOutcome {
+    ghost from_gives = { λ answer outcome. outcome ≡ border_outcome_of (contact_said answer) };
+
+    fn from(answer: Result<Option<Border>, Refusal>) -> BorderOutcome {
+        let none = BorderOutcome {
+            number: 0,
+            place: 0,
+            side: 0,
+            length: 0,
+        };
+        match answer {
+            Ok(None) => none,
+            Ok(Some(border)) => BorderOutcome {
+                side: border.side.number() as u64,
+                length: border.length,
+                ..none
+            },
+            Err(why) => {
+                let code = why.code();
+                BorderOutcome {
+                    number: code.number,
+                    place: code.place as u64,
+                    ..none
                 }
             }
         }
@@ -161,7 +194,7 @@ fn head_of(count: usize, leaves: usize, max_level: u64) -> Head
     }
 }
 
-/// Whether two rectangles share an edge: value 1 or 0.
+/// The border that two rectangles share, as the first of them sees it.
 #[unsafe(no_mangle)]
 pub extern "C" fn leafmesh_contact(
     ax0: i64,
@@ -172,8 +205,8 @@ pub extern "C" fn leafmesh_contact(
     by0: i64,
     bx1: i64,
     by1: i64,
-) -> Outcome
-    ensures { result ≡ outcome_of (contact_says (rect_of ax0 ay0 ax1 ay1) (rect_of bx0 by0 bx1 by1)) }
+) -> BorderOutcome
+    ensures { result ≡ border_outcome_of (contact_says (rect_of ax0 ay0 ax1 ay1) (rect_of bx0 by0 bx1 by1)) }
 {
     let a = Rect {
         x0: ax0,
@@ -187,7 +220,7 @@ pub extern "C" fn leafmesh_contact(
         x1: bx1,
         y1: by1,
     };
-    Outcome::from(rectangles::between(a, b))
+    BorderOutcome::from(rectangles::between(a, b))
 }
 
 /// How many leaves a table has, as its head says: the table itself is not looked at, and nothing is refused.

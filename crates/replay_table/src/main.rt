@@ -6,6 +6,7 @@
 
 use cases::stored::Stored;
 use cases::{Cases, print};
+use cell::border::Border;
 use cell::rectangles::Rect;
 use even::Evening;
 use refusals::Refusal;
@@ -30,8 +31,12 @@ const LEAVES_OF_ZEROS: u64 = 8;
 
 const LEAVES_OF_PART: u64 = 9;
 
-fn print_shared(out: &mut String, shared: bool) -> Result<(), AllocError> {
-    writeln!(out, " {}", u8::from(shared))
+// The side's number and the length, or nothing.
+fn print_border(out: &mut String, border: Option<Border>) -> Result<(), AllocError> {
+    if let Some(Border { side, length }) = border {
+        write!(out, " {} {}", side.number(), length)?;
+    }
+    writeln!(out)
 }
 
 fn print_evening(out: &mut String, evening: Evening) -> Result<(), AllocError> {
@@ -48,7 +53,7 @@ fn run_contact(cases: &mut Cases, out: &mut String) -> Result<(), AllocError> {
     let a = rectangle(cases);
     let b = rectangle(cases);
     write!(out, "contact")?;
-    print::answered(out, cell::rectangles::between(a, b), print_shared)
+    print::answered(out, cell::rectangles::between(a, b), print_border)
 }
 
 // What a call that lists leaves answered, and its list.

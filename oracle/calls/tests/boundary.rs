@@ -3,7 +3,7 @@
 mod common;
 
 use calls::build::cells_along;
-use calls::contact::contact;
+use calls::contact::{contact, Border, Side};
 use calls::even::{balance, conform, Evening};
 use calls::power::cell_power;
 use calls::strips::{strips, strips_by_the_words};
@@ -58,10 +58,24 @@ fn p4_13_slots_are_too_few_and_14_are_enough() {
     assert_eq!(balance(&mut exact.row, exact.head).map(|even| even.splits), Ok(1));
 }
 
+/// The corner and one tick of border, both ways round; then a rectangle on each side, and what isn't beside.
 #[test]
 fn p5_a_corner_is_no_contact() {
-    assert_eq!(contact([0, 0, 4, 4], [4, 4, 8, 8]), Ok(0));
-    assert_eq!(contact([0, 0, 4, 4], [4, 3, 8, 8]), Ok(1));
+    let a = [0, 0, 4, 4];
+    let on = |side: Side, length: u64| Ok(Some(Border { side, length }));
+    assert_eq!(contact(a, [4, 4, 8, 8]), Ok(None));
+    assert_eq!(contact([4, 4, 8, 8], a), Ok(None));
+    assert_eq!(contact(a, [4, 3, 8, 8]), on(Side::East, 1));
+    assert_eq!(contact([4, 3, 8, 8], a), on(Side::West, 1));
+
+    assert_eq!(contact(a, [0, 4, 8, 8]), on(Side::North, 4));
+    assert_eq!(contact(a, [-2, -4, 9, 0]), on(Side::South, 4));
+    assert_eq!(contact(a, [-3, 1, 0, 9]), on(Side::West, 3));
+    assert_eq!(contact(a, [4, 2, 8, 6]), on(Side::East, 2));
+    assert_eq!(contact(a, [1, 4, 2, 5]), on(Side::North, 1));
+    for apart in [[5, 0, 8, 4], [3, 0, 8, 4], [2, 2, 6, 6], [1, 1, 4, 3], a] {
+        assert_eq!(contact(a, apart), Ok(None), "{apart:?}");
+    }
 }
 
 /// How many roots the original makes of a square in x alone; it goes on where build refuses 5.

@@ -4,7 +4,7 @@ mod common;
 
 use calls::build::{build, Outlines, Settings};
 use calls::checks::{check_by_layer, check_network_conforming};
-use calls::contact::contact;
+use calls::contact::{contact, Border, Side};
 use calls::even::{balance, conform};
 use calls::net::{Cell, Edge, Net};
 use calls::network::{network, NetRoom};
@@ -28,7 +28,8 @@ fn contact_refuses_3() {
         assert_eq!(contact(bad, sound), refused(3, 0));
         assert_eq!(contact(sound, bad), refused(3, 0));
     }
-    assert_eq!(contact([-LIMIT, -LIMIT, 0, LIMIT], [0, -LIMIT, LIMIT, LIMIT]), Ok(1));
+    let halves = contact([-LIMIT, -LIMIT, 0, LIMIT], [0, -LIMIT, LIMIT, LIMIT]);
+    assert_eq!(halves, Ok(Some(Border { side: Side::East, length: 1 << 37 })));
 }
 
 #[test]

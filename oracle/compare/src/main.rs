@@ -37,7 +37,7 @@ struct Group {
 }
 
 const GROUPS: &[Group] = &[
-    Group { name: "contact", count: 1_000_000, compare: contact::compare, bench: None },
+    Group { name: "contact", count: 2_000_000, compare: contact::compare, bench: None },
     Group {
         name: "table",
         count: 120_000,

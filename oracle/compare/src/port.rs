@@ -4,11 +4,11 @@
 pub mod checks;
 pub mod network;
 
-use calls::contact::Rect;
+use calls::contact::{Border, Rect};
 use calls::even::Evening;
 use calls::table::Head;
 use calls::{Answer, Refusal};
-use leafmesh::ffi::{self, Outcome, TableOutcome};
+use leafmesh::ffi::{self, BorderOutcome, Outcome, TableOutcome};
 use leafmesh::{Cell, Edge, Net, Node};
 
 /// An answer as the port's library hands it back.
@@ -16,6 +16,16 @@ pub fn outcome_of(answer: Answer<u64>) -> Outcome {
     match answer {
         Ok(value) => Outcome { number: 0, place: 0, value },
         Err(Refusal { number, place }) => Outcome { number, place, value: 0 },
+    }
+}
+
+/// The same of contact.
+pub fn border_outcome_of(answer: Answer<Option<Border>>) -> BorderOutcome {
+    let none = BorderOutcome::default();
+    match answer {
+        Ok(None) => none,
+        Ok(Some(Border { side, length })) => BorderOutcome { side: side.number(), length, ..none },
+        Err(Refusal { number, place }) => BorderOutcome { number, place, ..none },
     }
 }
 
@@ -54,7 +64,7 @@ pub fn lent(net: &calls::net::Net) -> Net {
     }
 }
 
-pub fn contact(a: Rect, b: Rect) -> Outcome {
+pub fn contact(a: Rect, b: Rect) -> BorderOutcome {
     // SAFETY: numbers alone go in and come out.
     unsafe { ffi::leafmesh_contact(a[0], a[1], a[2], a[3], b[0], b[1], b[2], b[3]) }
 }

@@ -12,7 +12,7 @@ pub struct Report {
     refused: [u64; NUMBERS],
     /// Each refusal's number and place.
     places: BTreeSet<(u64, u64)>,
-    /// Accepted calls with a value above 0: contacts found, leaves listed, splits made.
+    /// Accepted calls with a value above 0: borders found, leaves listed, splits made.
     with_value: u64,
     differ: u64,
     smallest: Option<(u128, String)>,

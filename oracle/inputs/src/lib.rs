@@ -4,6 +4,7 @@ pub mod boards;
 pub mod chains;
 pub mod damage;
 pub mod large_meshes;
+pub mod limit_pairs;
 pub mod limit_plans;
 pub mod limit_records;
 pub mod limit_tables;

@@ -1,8 +1,8 @@
-//! Pairs of rectangles for contact: exhaustive small ones, near-touching ones, the limits, and
-//! beyond.
+//! Pairs of rectangles for contact: exhaustive small ones, near-touching ones, the limits and beyond, and neighbours of
+//! any size.
 
 use crate::random::Random;
-use calls::contact::Rect;
+use calls::contact::{contact, Border, Rect, Side};
 use calls::limits::COORDINATE;
 
 pub type Pair = (Rect, Rect);
@@ -137,4 +137,111 @@ fn with_a_side_not_positive(random: &mut Random) -> Pair {
     } else {
         (b, a)
     }
+}
+
+/// Two of any size, the second beside the first: along a whole side of one or of both, along one tick, along any
+/// length, or at a corner only. One pair in three is moved by a tick, which makes gaps and overlaps.
+pub fn random_neighbours(random: &mut Random) -> Pair {
+    // The second to the east of the first, and turned from there.
+    let line = random.within(1 - COORDINATE, COORDINATE - 1);
+    let low = line - any_length(random, line + COORDINATE);
+    let high = line + any_length(random, COORDINATE - line);
+    let (from, to) = any_span(random, -COORDINATE, COORDINATE);
+    let (begin, end) = beside(from, to, random);
+    let mut pair = ([low, from, line, to], [line, begin, high, end]);
+    if random.one_in(3) {
+        pair.1 = moved(pair.1, random.pick(&Side::ALL));
+    }
+    if random.one_in(2) {
+        pair = both(pair, mirrored);
+    }
+    (0..random.below(4)).fold(pair, |pair, _| both(pair, turned))
+}
+
+/// A range that has with this one as much in common as `random_neighbours` says.
+fn beside(from: i64, to: i64, random: &mut Random) -> (i64, i64) {
+    let room = COORDINATE - to;
+    let above = |random: &mut Random| if room > 0 { to + any_length(random, room) } else { to };
+    match random.below(6) {
+        0 => (from, to),
+        1 => any_span(random, from, to),
+        2 => (random.within(-COORDINATE, from), above(random)),
+        3 => (to - 1, above(random)),
+        4 if room > 0 => (to, above(random)),
+        _ => (random.within(from, to - 1), above(random)),
+    }
+}
+
+/// From 1 to `most`, of any number of digits, and now and then `most`.
+fn any_length(random: &mut Random, most: i64) -> i64 {
+    if random.one_in(8) {
+        return most;
+    }
+    let digits = random.below(38);
+    random.within(1, most.min(1 << digits))
+}
+
+/// A range between two coordinates.
+fn any_span(random: &mut Random, low: i64, high: i64) -> (i64, i64) {
+    let length = any_length(random, high - low);
+    let from = random.within(low, high - length);
+    (from, from + length)
+}
+
+fn both((a, b): Pair, change: impl Fn(Rect) -> Rect) -> Pair {
+    (change(a), change(b))
+}
+
+/// By a quarter, anticlockwise, about the origin.
+pub fn turned([x0, y0, x1, y1]: Rect) -> Rect {
+    [-y1, x0, -y0, x1]
+}
+
+/// South for north.
+fn mirrored([x0, y0, x1, y1]: Rect) -> Rect {
+    [x0, -y1, x1, -y0]
+}
+
+/// By a tick.
+fn moved([x0, y0, x1, y1]: Rect, towards: Side) -> Rect {
+    let (x, y) = match towards {
+        Side::South => (0, -1),
+        Side::East => (1, 0),
+        Side::North => (0, 1),
+        Side::West => (-1, 0),
+    };
+    [x0 + x, y0 + y, x1 + x, y1 + y]
+}
+
+/// Whether the border of the two is all of a side of the one or of the other.
+pub fn is_whole_side((a, b): Pair, Border { side, length }: Border) -> bool {
+    let side_of = |[x0, y0, x1, y1]: Rect| match side {
+        Side::South | Side::North => x1 - x0,
+        Side::East | Side::West => y1 - y0,
+    };
+    [a, b].map(side_of).contains(&(length as i64))
+}
+
+/// How two rectangles without a border miss one by a tick: there is a gap between them, they overlap, or they touch in
+/// a point.
+#[derive(Clone, Copy, Debug, PartialEq, Eq)]
+pub enum Miss {
+    Gap,
+    Overlap,
+    Corner,
+}
+
+/// None unless the two have no border and would have one if the second were moved by a tick.
+pub fn near_miss((a, b): Pair) -> Option<Miss> {
+    if contact(a, b) != Ok(None) {
+        return None;
+    }
+    Side::ALL.into_iter().find_map(|way| {
+        let Border { side, .. } = contact(a, moved(b, way)).ok()??;
+        Some(match way {
+            _ if way == side.opposite() => Miss::Gap,
+            _ if way == side => Miss::Overlap,
+            _ => Miss::Corner,
+        })
+    })
 }

@@ -1,6 +1,7 @@
 //! What the generators claim, and the original against the coarsest splitting on what they make.
 
 use calls::coarsest::{coarsest, Splitting};
+use calls::contact::contact;
 use calls::even::{even, Allowed};
 use calls::table::{leaf_count, to_grid, Head};
 use calls::well_formed::well_formed;
@@ -139,7 +140,7 @@ fn even_means_what_contact_says() {
             leaves.iter().any(|a| {
                 leaves.iter().any(|b| {
                     a.level > b.level + allowed
-                        && calls::contact::contact(a.rect(), b.rect()) == Ok(1)
+                        && matches!(contact(a.rect(), b.rect()), Ok(Some(_)))
                 })
             })
         };

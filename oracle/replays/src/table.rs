@@ -1,13 +1,14 @@
 //! Contact, and the calls on a table of at most 64 slots.
 
 use crate::replay::{class, head_numbers, Case, Replay};
-use calls::contact::contact;
+use calls::contact::{contact, Border};
 use calls::even::{even, Allowed, Evening};
 use calls::table::{leaf_count, leaf_order, leaves, refine, Head, Slot, WIDTH};
 use calls::well_formed::{childless, well_formed};
 use inputs::damage::damage;
+use inputs::limit_pairs::limit_pairs;
 use inputs::limit_tables::{limit_heads, limit_parts, limit_tables, limit_zero_rows, ZeroRow};
-use inputs::rectangles::{random_pair, Pair};
+use inputs::rectangles::{near_miss, random_neighbours, random_pair, Pair};
 use inputs::tables::{
     random_roomy_table, random_table, random_unbalanced_table, wrong_leaves, Table,
 };
@@ -34,6 +35,10 @@ const SENTINEL: u64 = 900;
 
 pub fn replay(count: u64, random: &mut Random) -> Replay {
     let mut replay = Replay::new("replay_table", count);
+    for (name, pair) in limit_pairs() {
+        replay.name(&name);
+        run_contact(pair, &mut replay);
+    }
     for (name, row) in limit_zero_rows() {
         replay.name(&name);
         run_zeros(row, &mut replay);
@@ -60,10 +65,7 @@ pub fn replay(count: u64, random: &mut Random) -> Replay {
             None => run_refine(&table, 1, &mut replay),
         }
     }
-    replay.name("a pair or table that shows one thing");
-    for pair in boundary_pairs() {
-        run_contact(pair, &mut replay);
-    }
+    replay.name("a table that shows one thing");
     for table in boundary_tables() {
         run_table(&table, random, &mut replay);
     }
@@ -81,14 +83,10 @@ pub fn replay(count: u64, random: &mut Random) -> Replay {
             run_table(&table, random, &mut replay);
         }
     }
+    for _ in 0..DRAWS * count {
+        run_contact(random_neighbours(random), &mut replay);
+    }
     replay
-}
-
-/// P5, and a corner that touches from each side.
-fn boundary_pairs() -> Vec<Pair> {
-    let a = [0, 0, 4, 4];
-    let others = [[4, 4, 8, 8], [4, 3, 8, 8], [-4, 4, 0, 8], [4, -4, 8, 0], [0, 4, 4, 5], a];
-    others.iter().map(|&b| (a, b)).collect()
 }
 
 /// P1 to P4, two squares over each other, roots behind split cells, a full table of 64 slots.
@@ -131,8 +129,23 @@ fn run_contact(pair: Pair, replay: &mut Replay) {
     let answer = contact(pair.0, pair.1);
     let mut case = Case::of_kind(CONTACT);
     case.numbers(pair.0.iter().chain(&pair.1).map(|&number| number as u64));
-    case.answer("contact", answer.map(|shared| vec![shared]));
-    replay.offer(class("contact", &answer, |&shared| shared), case);
+    let numbers = |Border { side, length }| vec![side.number(), length];
+    case.answer("contact", answer.map(|border| border.map_or(Vec::new(), numbers)));
+    replay.offer(class("contact", &answer, |&border| contact_class(pair, border)), case);
+}
+
+/// 0 to 3 where there is no border: a near miss of each kind, or none. 10 and more of the south side, 20 and more of the
+/// east side, and so on: a border of one tick, of more than 2^32, or of another length.
+fn contact_class(pair: Pair, border: Option<Border>) -> u64 {
+    let Some(Border { side, length }) = border else {
+        return near_miss(pair).map_or(0, |miss| 1 + miss as u64);
+    };
+    let kind = match length {
+        1 => 1,
+        _ if length > 1 << 32 => 2,
+        _ => 0,
+    };
+    10 * (1 + side.number()) + kind
 }
 
 fn lent(kind: u64, table: &Table) -> Case {

@@ -2,8 +2,9 @@
 //! round solved twice on the same cells, by bilinear elements and by the net's conductances, and both held
 //! against a fine uniform grid.
 //!
-//! `cargo run --release --example neck FOLDER` leaves pictures of the last round there, neck.svg (its mesh) and
-//! neck-power.svg (power density at 10 A), and neck.vtk for ParaView; without a folder it prints only.
+//! `cargo run --release --example neck FOLDER` leaves pictures of the last round there, neck.svg (its mesh),
+//! neck-power.svg (power density at 10 A) and neck-borders.svg (the same with the borders of its cells), and neck.vtk for
+//! ParaView; without a folder it prints only.
 
 mod pictures;
 mod uniform;

@@ -30,6 +30,7 @@ pub fn put(
     let folder = Path::new(folder);
     fs::write(folder.join("neck.svg"), levels.svg())?;
     fs::write(folder.join("neck-power.svg"), heat.svg())?;
+    fs::write(folder.join("neck-borders.svg"), heat.with_borders()?.svg())?;
     fs::write(folder.join("neck.vtk"), vtk::of_mesh(mesh, rows, &fields)?)?;
     Ok(())
 }

@@ -1,10 +1,13 @@
 //! A mesh as a picture.
 //!
-//! `draw --board FILE [--power] [--title WORDS] > picture.svg` meshes a board (its record or its text) of any size;
-//! with `--power` the cells are coloured by power over area, at 1 V from the bottom to the top of each component.
+//! `draw --board FILE [--power] [--borders] [--title WORDS] > picture.svg` meshes a board (its record or its text) of
+//! any size; with `--power` the cells are coloured by power over area, at 1 V from the bottom to the top of each
+//! component.
 //!
-//! `draw [--record FILE [--potentials FILE]] [--title WORDS] < leafnet's output > picture.svg` draws what leafnet
-//! printed; the record tells layers apart, a file of potentials has one number a node.
+//! `draw [--record FILE [--potentials FILE]] [--borders] [--title WORDS] < leafnet's output > picture.svg` draws what
+//! leafnet printed; the record tells layers apart, a file of potentials has one number a node.
+//!
+//! With `--borders` a line lies on every border that two cells share, the longer the wider, over the cells' colours.
 
 use leafmesh::drawing::{densities, Picture};
 use leafmesh::solving::{across_linked, System};
@@ -13,8 +16,8 @@ use leafmesh::{power, printed, Mesh, Net, NetRows};
 use std::env;
 use std::process::ExitCode;
 
-const USAGE: &str = "usage: draw --board FILE [--power] [--title WORDS] > picture.svg
-       draw [--record FILE [--potentials FILE]] [--title WORDS] < leafnet's output > picture.svg";
+const USAGE: &str = "usage: draw --board FILE [--power] [--borders] [--title WORDS] > picture.svg
+       draw [--record FILE [--potentials FILE]] [--borders] [--title WORDS] < leafnet's output > picture.svg";
 const POWER: &str = "power density in W/mm2";
 
 /// What the words ask for.
@@ -22,6 +25,7 @@ const POWER: &str = "power density in W/mm2";
 struct Asked {
     board: Option<String>,
     power: bool,
+    borders: bool,
     record: Option<String>,
     potentials: Option<String>,
     title: Option<String>,
@@ -33,12 +37,15 @@ fn main() -> ExitCode {
 
 fn run() -> Result<Vec<u8>, String> {
     let asked = asked(env::args().skip(1)).ok_or(USAGE)?;
-    let picture = match (&asked.board, &asked.record) {
+    let mut picture = match (&asked.board, &asked.record) {
         (Some(file), None) if asked.potentials.is_none() => of_board(file, &asked)?,
         (None, Some(_)) if !asked.power => of_text(&asked)?,
         (None, None) if !asked.power && asked.potentials.is_none() => of_text(&asked)?,
         _ => return Err(USAGE.to_string()),
     };
+    if asked.borders {
+        picture = picture.with_borders().map_err(|why| why.to_string())?;
+    }
     Ok(picture.svg().into_bytes())
 }
 
@@ -47,6 +54,7 @@ fn asked(mut words: impl Iterator<Item = String>) -> Option<Asked> {
     while let Some(word) = words.next() {
         match word.as_str() {
             "--power" => asked.power = true,
+            "--borders" => asked.borders = true,
             "--board" => asked.board = Some(words.next()?),
             "--record" => asked.record = Some(words.next()?),
             "--potentials" => asked.potentials = Some(words.next()?),
