@@ -1,4 +1,4 @@
--- Borders by side: what it takes to have one on a side; that boxes with an inside have one side at most; and that the two
+-- Borders by side: what it takes to have one on a side; that boxes with an area have one side at most; and that the two
 -- exchanged have the opposite one. Assumes nothing.
 use Rattle.std.proofs.Common.{ℕ, ◌≡◌, refl, sym, ap, subst, ◌∙◌, ◌<◌, min, max, Bool, true, false, ◌==◌, if◌then◌else◌, List, [], ◌∷◌, Option, None, Some, arith, ltb, ltb-true, lt-ltb, eqb, eqb-true}
 use Rattle.std.specs.Option.{is_some, unwrap_or}
@@ -6,8 +6,8 @@ use mathlib.Core.Bool.{false≢true}
 use Rattle.cell.specs.declared.border.Border.{Border}
 use Rattle.cell.specs.declared.border.Side.{Side}
 use Rattle.cell.specs.declared.border.Side.TheVariants.{South, East, North, West}
-use Rattle.cell.specs.Boxes.{Box, common, length_on, first_border, border}
-use Rattle.cell.specs.Laws.{HasInside, opposite, turned}
+use Rattle.cell.specs.Boxes.{Box, HasArea, common, length_on, first_border, border}
+use Rattle.cell.specs.Laws.{opposite, turned}
 
 -- a side on which there is a border: the two lie on one line, and their ranges overlap
 abbrev pub On : Side → Box → Box → Type 0
@@ -31,22 +31,22 @@ on-side North a b p = let h = line-met a.y1 b.y0 (common a.x0 a.x1 b.x0 b.x1) p 
 on-side West a b p = let h = line-met b.x1 a.x0 (common a.y0 a.y1 b.y0 b.y1) p in (h.0, omega (arith, h.1))
 
 -- at most one side
-pub one-side : (a b : Box) → HasInside a → HasInside b → (s t : Side) → On s a b → On t a b → s ≡ t
+pub one-side : (a b : Box) → HasArea a → HasArea b → (s t : Side) → On s a b → On t a b → s ≡ t
 one-side a b i j South South p q = refl
-one-side a b i j South East p q = absurd (omega (arith, p.0, p.1, q.0, q.1, i.high, j.high))
-one-side a b i j South North p q = absurd (omega (arith, p.0, p.1, q.0, q.1, i.high, j.high))
-one-side a b i j South West p q = absurd (omega (arith, p.0, p.1, q.0, q.1, i.high, j.high))
-one-side a b i j East South p q = absurd (omega (arith, p.0, p.1, q.0, q.1, i.wide, j.wide))
+one-side a b i j South East p q = absurd (omega (arith, p.0, p.1, q.0, q.1, i.1, j.1))
+one-side a b i j South North p q = absurd (omega (arith, p.0, p.1, q.0, q.1, i.1, j.1))
+one-side a b i j South West p q = absurd (omega (arith, p.0, p.1, q.0, q.1, i.1, j.1))
+one-side a b i j East South p q = absurd (omega (arith, p.0, p.1, q.0, q.1, i.0, j.0))
 one-side a b i j East East p q = refl
-one-side a b i j East North p q = absurd (omega (arith, p.0, p.1, q.0, q.1, i.wide, j.wide))
-one-side a b i j East West p q = absurd (omega (arith, p.0, p.1, q.0, q.1, i.wide, j.wide))
-one-side a b i j North South p q = absurd (omega (arith, p.0, p.1, q.0, q.1, i.high, j.high))
-one-side a b i j North East p q = absurd (omega (arith, p.0, p.1, q.0, q.1, i.high, j.high))
+one-side a b i j East North p q = absurd (omega (arith, p.0, p.1, q.0, q.1, i.0, j.0))
+one-side a b i j East West p q = absurd (omega (arith, p.0, p.1, q.0, q.1, i.0, j.0))
+one-side a b i j North South p q = absurd (omega (arith, p.0, p.1, q.0, q.1, i.1, j.1))
+one-side a b i j North East p q = absurd (omega (arith, p.0, p.1, q.0, q.1, i.1, j.1))
 one-side a b i j North North p q = refl
-one-side a b i j North West p q = absurd (omega (arith, p.0, p.1, q.0, q.1, i.high, j.high))
-one-side a b i j West South p q = absurd (omega (arith, p.0, p.1, q.0, q.1, i.wide, j.wide))
-one-side a b i j West East p q = absurd (omega (arith, p.0, p.1, q.0, q.1, i.wide, j.wide))
-one-side a b i j West North p q = absurd (omega (arith, p.0, p.1, q.0, q.1, i.wide, j.wide))
+one-side a b i j North West p q = absurd (omega (arith, p.0, p.1, q.0, q.1, i.1, j.1))
+one-side a b i j West South p q = absurd (omega (arith, p.0, p.1, q.0, q.1, i.0, j.0))
+one-side a b i j West East p q = absurd (omega (arith, p.0, p.1, q.0, q.1, i.0, j.0))
+one-side a b i j West North p q = absurd (omega (arith, p.0, p.1, q.0, q.1, i.0, j.0))
 one-side a b i j West West p q = refl
 
 -- ---- what `border` answers
@@ -72,7 +72,7 @@ in-turn West = later _ _ (first _)
 in-turn North = later _ _ (later _ _ (first _))
 in-turn South = later _ _ (later _ _ (later _ _ (first _)))
 
-pub on-any-side : (a b : Box) → HasInside a → HasInside b → (s : Side) → 0 < length_on s a b → border a b ≡ Some (record { side = s; length = length_on s a b })
+pub on-any-side : (a b : Box) → HasArea a → HasArea b → (s : Side) → 0 < length_on s a b → border a b ≡ Some (record { side = s; length = length_on s a b })
 unfolding border
 on-any-side a b i j s p =
     first-is a b s p (λ t q. one-side a b i j t s (on-side t a b q) (on-side s a b p)) _ (in-turn s)
@@ -103,7 +103,7 @@ length-turned East a b = rw (common-turned a.y0 a.y1 b.y0 b.y1) refl
 length-turned North a b = rw (common-turned a.x0 a.x1 b.x0 b.x1) refl
 length-turned West a b = rw (common-turned a.y0 a.y1 b.y0 b.y1) refl
 
-border-some : (a b : Box) → HasInside a → HasInside b → (c : Border) → border a b ≡ Some c
+border-some : (a b : Box) → HasArea a → HasArea b → (c : Border) → border a b ≡ Some c
     → border b a ≡ Some (record { side = opposite c.side; length = c.length })
 border-some a b i j c e =
     let h = has-length a b c e in
@@ -116,7 +116,7 @@ opposite-twice East = refl
 opposite-twice North = refl
 opposite-twice West = refl
 
-pub border-turned : (a b : Box) → HasInside a → HasInside b → border b a ≡ turned (border a b)
+pub border-turned : (a b : Box) → HasArea a → HasArea b → border b a ≡ turned (border a b)
 border-turned a b i j = by (border a b) (border b a) refl refl
   where
     by : (o u : Option Border) → border a b ≡ o → border b a ≡ u → u ≡ turned o

@@ -9,9 +9,9 @@ use Rattle.cell.specs.declared.border.Side.TheVariants.{South, East, North, West
 use Rattle.cell.specs.declared.rectangles.Rect.{Rect}
 use Rattle.std.specs.Int.Signed.{lt_z}
 use Rattle.cell.specs.Ticks.{in_range}
-use Rattle.cell.specs.Boxes.{side_number, border}
+use Rattle.cell.specs.Boxes.{HasArea, side_number, border}
 use Rattle.cell.specs.Contact.{sound_rect, moved, border_values, contact_said, contact_says}
-use Rattle.cell.specs.Laws.{HasInside, answer_turned}
+use Rattle.cell.specs.Laws.{answer_turned}
 use Rattle.cell.proofs.Borders.{border-turned}
 use Rattle.cell.proofs.Contact.{and_left, and_right}
 use Rattle.cell.proofs.Offsets.{off-rises}
@@ -52,23 +52,22 @@ unfolding contact_says
 due-said a b true e = rw e refl
 due-said a b false e = rw e refl
 
-has-inside : (a : Rect) → sound_rect a ≡ true → HasInside (moved a)
+has-area : (a : Rect) → sound_rect a ≡ true → HasArea (moved a)
 unfolding sound_rect
-has-inside a e =
+has-area a e =
     let e1 = and_left _ (lt_z a.y0 a.y1) e in
     let e2 = and_left _ (lt_z a.x0 a.x1) e1 in
     let e3 = and_left _ (in_range a.y1) e2 in
     let e4 = and_left _ (in_range a.x1) e3 in
     let high = and_right _ (lt_z a.y0 a.y1) e in
-    let wide = and_right _ (lt_z a.x0 a.x1) e1 in
-    record {
-      wide = off-rises a.x0 a.x1 (and_left _ (in_range a.y0) e4) (and_right _ (in_range a.x1) e3) wide;
-      high = off-rises a.y0 a.y1 (and_right _ (in_range a.y0) e4) (and_right _ (in_range a.y1) e2) high;
-    }
+    let wide = and_right _ (lt_z a.x0 a.x1) e1 in (
+      off-rises a.x0 a.x1 (and_left _ (in_range a.y0) e4) (and_right _ (in_range a.x1) e3) wide,
+      off-rises a.y0 a.y1 (and_right _ (in_range a.y0) e4) (and_right _ (in_range a.y1) e2) high,
+    )
 
 due-turned : (a b : Rect) (s : Bool) → (sound_rect a && sound_rect b) ≡ s → due b a s ≡ answer_turned (due a b s)
 due-turned a b true e =
-    ap Ok (border-turned (moved a) (moved b) (has-inside a (and_left _ _ e)) (has-inside b (and_right (sound_rect a) _ e)))
+    ap Ok (border-turned (moved a) (moved b) (has-area a (and_left _ _ e)) (has-area b (and_right (sound_rect a) _ e)))
 due-turned a b false e = refl
 
 and-turned : (s t : Bool) → (t && s) ≡ (s && t)

@@ -1,5 +1,5 @@
 -- Boxes, their quadrants, and the borders that two of them share, in whole ticks.
-use Rattle.std.specs.Prelude.{ℕ, zero, suc, ◌+◌, ◌-◌, ◌/◌, min, max, Bool, ◌==◌, nat_lt, if◌then◌else◌}
+use Rattle.std.specs.Prelude.{ℕ, zero, suc, ◌+◌, ◌-◌, ◌/◌, ◌<◌, min, max, Bool, ◌==◌, nat_lt, if◌then◌else◌}
 use Rattle.std.specs.Prelude.{List, [], ◌∷◌, Option, None, Some, is_some}
 use Rattle.cell.specs.declared.border.Border.{Border}
 use Rattle.cell.specs.declared.border.Side.{Side}
@@ -12,6 +12,10 @@ pub record Box : Type 0 where
   pub y0 : ℕ
   pub x1 : ℕ
   pub y1 : ℕ
+
+-- both sides are positive
+abbrev pub HasArea : Box → Type 0
+HasArea b = (b.x0 < b.x1) × (b.y0 < b.y1)
 
 -- the four quadrants, in the order of the children's ids
 abbrev pub Quad : Type 0
@@ -79,7 +83,7 @@ first_border (s ∷ ss) a b =
     if nat_lt 0 (length_on s a b) then Some (record { side = s; length = length_on s a b })
     else first_border ss a b
 
--- the border that a shares with b. Only boxes without an inside can have more than one side that counts
+-- the border that a shares with b. Only boxes without an area can have more than one side that counts
 unfoldable pub border : Box → Box → Option Border
 border a b = first_border (East ∷ West ∷ North ∷ South ∷ []) a b
 

@@ -7,7 +7,7 @@ use Rattle.cell.specs.declared.border.Side.{Side}
 use Rattle.cell.specs.declared.border.Side.TheVariants.{South, East, North, West}
 use Rattle.cell.specs.declared.rectangles.Rect.{Rect}
 use Rattle.cell.specs.Contact.{contact_said, contact_says}
-use Rattle.cell.specs.Boxes.{Box, Quad, quadrant, length_on, border, shares_edge}
+use Rattle.cell.specs.Boxes.{Box, HasArea, Quad, quadrant, length_on, border, shares_edge}
 
 -- the ranges a to b and c to d overlap by a positive length: what they have in common begins before it ends
 abbrev pub overlaps : ℕ → ℕ → ℕ → ℕ → Bool
@@ -15,7 +15,7 @@ overlaps a b c d = nat_lt (max a c) (min b d)
 
 -- some border is what the rules say of sharing an edge: "the east side of one has the x of the west side of the other
 -- and their y ranges overlap by a positive length, or likewise with x and y exchanged"; of all boxes, those without an
--- inside too
+-- area too
 abbrev pub SomeBorder : Type 0
 SomeBorder =
     (a b : Box)
@@ -23,21 +23,16 @@ SomeBorder =
     ≡ (((a.x1 == b.x0 || b.x1 == a.x0) && overlaps a.y0 a.y1 b.y0 b.y1)
     || ((a.y1 == b.y0 || b.y1 == a.y0) && overlaps a.x0 a.x1 b.x0 b.x1))
 
--- both sides are positive
-pub record HasInside (b : Box) : Type 0 where
-  pub wide : b.x0 < b.x1
-  pub high : b.y0 < b.y1
-
--- at most one side of a box with an inside has a border of positive length with another
+-- at most one side of a box with an area has a border of positive length with another
 abbrev pub OneSide : Type 0
 OneSide =
-    (a b : Box) → HasInside a → HasInside b
+    (a b : Box) → HasArea a → HasArea b
     → (s t : Side) → 0 < length_on s a b → 0 < length_on t a b → s ≡ t
 
 -- so the border is the one on whichever side has one, whatever the order in which the sides are asked
 abbrev pub BorderOnAnySide : Type 0
 BorderOnAnySide =
-    (a b : Box) → HasInside a → HasInside b
+    (a b : Box) → HasArea a → HasArea b
     → (s : Side) → 0 < length_on s a b → border a b ≡ Some (record { side = s; length = length_on s a b })
 
 -- a border is as long as its side says, and longer than a point; of all boxes
@@ -56,7 +51,7 @@ turned None = None
 turned (Some b) = Some (record { side = opposite b.side; length = b.length })
 
 abbrev pub BorderTurned : Type 0
-BorderTurned = (a b : Box) → HasInside a → HasInside b → border b a ≡ turned (border a b)
+BorderTurned = (a b : Box) → HasArea a → HasArea b → border b a ≡ turned (border a b)
 
 -- what `between` answers of the two exchanged
 abbrev pub answer_turned : Result (Option Border) Refusal → Result (Option Border) Refusal

@@ -9,7 +9,7 @@ use Rattle.std.proofs.lemmas.List.Elements.{filter_passes}
 use Rattle.std.proofs.lemmas.List.Sums.{AllPass-from_list_all}
 use Rattle.std.proofs.lemmas.Option.{slice_get-get_or}
 use Rattle.std.proofs.Math.ListN.{get_or-map}
-use Rattle.cell.specs.Boxes.{Box, mid}
+use Rattle.cell.specs.Boxes.{Box, mid, HasArea}
 use Rattle.table.specs.declared.Head.{Head}
 use Rattle.table.specs.Mesh.{Cell, at, past, is_none, is_leaf}
 use Rattle.refusals.specs.Said.{accepted}
@@ -27,7 +27,6 @@ use Rattle.checks.specs.Laws.{middle_leaf_fault, middle_layer_fault}
 use Rattle.checks.specs.Checks.{leaf_fault, fault_by, net_fault, own_class, layer_fault, conforming_says, layers_says}
 use Rattle.net.specs.Net.{Poly, Net, MeshNode, Edge, Piece, same_node, same_pair, join, node_at, sw_of, se_of, ne_of, nw_of, leaves_of, pieces, weighed, bare, weigh, network}
 use Rattle.net.specs.Hang.{so_far, Halved, HalvedSides}
-use Rattle.net.specs.Laws.{HasArea}
 use Rattle.net.proofs.Positions.{has-yes}
 use Rattle.net.proofs.All.{all_one, all-by, in-more, All}
 use Rattle.net.proofs.Hang.{no-half-hangs}

@@ -3,13 +3,12 @@
 use mathlib.Core.Logic.{by_cases}
 use Rattle.std.proofs.Common.{◌≡◌, refl, sym, subst, ◌⊎◌, inl, inr, ⊎_elim, List, ℕ, ◌+◌, ◌*◌, ◌<◌, ◌≤◌, arith}
 use native.Mathlib.Decide.{ℕ_discrete}
-use Rattle.cell.specs.Boxes.{Box}
+use Rattle.cell.specs.Boxes.{Box, HasArea}
 use Rattle.cell.proofs.Contact.{Touch, east, west, north, south, touch→shares, shares-sym}
 use Rattle.table.specs.Mesh.{Cell, at}
 use Rattle.table.specs.Formed.{Formed}
 use Rattle.coarsest.proofs.Find.{Named, named}
 use Rattle.coarsest.proofs.Least.{level-most}
-use Rattle.net.specs.Laws.{HasArea}
 use Rattle.laws.specs.Grids.{RootOf, LeafOf, OneGrid, Even, Balanced, Conformed}
 use Rattle.laws.specs.Nodes.{End, lower, upper, EndOrMiddle, end, middle, Corner, OnSides}
 use Rattle.laws.specs.Fit.{Meet, Overlap, RootsFit}

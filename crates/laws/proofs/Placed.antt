@@ -1,7 +1,7 @@
 -- Every cell is a step of its own root's grid: one of equal cells from the root's corner, with the sides of the cell's level. Assumes nothing.
 use Rattle.std.proofs.Common.{◌≡◌, sym, ap, subst, ◌∙◌, List, [], ◌∷◌, ℕ, suc, ◌+◌, ◌*◌, ◌-◌, ◌^◌, ◌<◌, ◌≤◌, arith, mul-zero, mul-pos, length, pow_pos, None, Some}
 use native.Mathlib.Nat.{sub-zero}
-use Rattle.cell.specs.Boxes.{Box, Quad, sw, se, nw, ne, quadrant, mid}
+use Rattle.cell.specs.Boxes.{Box, Quad, sw, se, nw, ne, quadrant, mid, HasArea}
 use Rattle.table.specs.Mesh.{Cell, at}
 use Rattle.table.specs.Formed.{Formed}
 use Rattle.coarsest.specs.Names.{Route, place, find}
@@ -9,7 +9,6 @@ use Rattle.table.proofs.Meshes.{root_in}
 use Rattle.coarsest.proofs.Find.{tells, find-rooted}
 use Rattle.coarsest.proofs.Least.{level-most}
 use Rattle.coarsest.proofs.Sides.{Span, cell-sides}
-use Rattle.net.specs.Laws.{HasArea}
 use Rattle.laws.proofs.Axis.{Spot, cut, unit, unit-half}
 
 span_less : (n a b : ℕ) → Span n a b → a < b

@@ -6,6 +6,7 @@ use Rattle.std.proofs.lemmas.List.Elements.{All-map}
 use lib.IntN.{sub_ℕ}
 use Rattle.refusals.specs.Limits.{coordinate}
 use Rattle.cell.specs.Ticks.{on}
+use Rattle.cell.specs.Boxes.{HasArea}
 use Rattle.table.specs.declared.Head.{Head}
 use Rattle.table.specs.Rows.{IsTable, cells_in}
 use Rattle.table.proofs.Stores.{on-range}
@@ -18,7 +19,6 @@ use Rattle.net.specs.Net.{Poly, MeshNode, Edge, NetCell, nth, nowhere, pieces, w
 use Rattle.links.specs.Made as Made
 use Rattle.links.specs.Made.{linked_network}
 use Rattle.links.proofs.Ends.{linked-ends}
-use Rattle.net.specs.Laws.{HasArea}
 use Rattle.net.proofs.All.{All, all-at, all-map-by}
 use Rattle.net.proofs.Faces.{Within}
 use Rattle.net.proofs.Every.{ends, cells}

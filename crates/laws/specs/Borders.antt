@@ -1,11 +1,12 @@
 -- The borders along a leaf's side add up to the side: the laws that src/borders.rt promises. Definitions only.
-use Rattle.std.specs.Prelude.{ℕ, ◌+◌, ◌*◌, ◌-◌, ◌<◌, ◌≡◌, ◌==◌, ◌&&◌, if◌then◌else◌, is_none, List, Option, None, Some}
+use Rattle.std.specs.Prelude.{ℕ, ◌+◌, ◌*◌, ◌-◌, ◌<◌, ◌≡◌, ◌==◌, ◌&&◌, if◌then◌else◌, is_none}
+use Rattle.std.specs.Prelude.{List, length, Option, None, Some}
 use Rattle.std.specs.List.{sum_by}
 use Rattle.cell.specs.declared.border.Border.{Border}
 use Rattle.cell.specs.declared.border.Side.{Side}
 use Rattle.cell.specs.declared.border.Side.TheVariants.{South, East, North, West}
-use Rattle.cell.specs.Boxes.{Box, side_number, length_on, border}
-use Rattle.cell.specs.Laws.{HasInside}
+use Rattle.cell.specs.Boxes.{Box, HasArea, side_number, length_on, border}
+use Rattle.cell.specs.Laws.{turned}
 use Rattle.table.specs.Mesh.{Cell, at}
 use Rattle.table.specs.Formed.{Formed}
 use Rattle.coarsest.specs.Passes.{balance}
@@ -70,7 +71,19 @@ answered_on s (Some b) = if side_number b.side == side_number s then b.length el
 -- that is the length which is added up
 abbrev pub BordersAreAnswered : Type 0
 BordersAreAnswered =
-    (a b : Box) → HasInside a → HasInside b → (s : Side) → answered_on s (border a b) ≡ length_on s a b
+    (a b : Box) → HasArea a → HasArea b → (s : Side) → answered_on s (border a b) ≡ length_on s a b
+
+-- of two cells of a table at most one side has a border
+abbrev pub CellsHaveOneSide : Type 0
+CellsHaveOneSide =
+    (max_level : ℕ) (t : List Cell) (i j : ℕ) → Formed max_level t → i < length t → j < length t
+    → (s u : Side) → 0 < length_on s (at t i).box (at t j).box → 0 < length_on u (at t i).box (at t j).box → s ≡ u
+
+-- and the other one has it on the opposite side, as long
+abbrev pub CellsTurned : Type 0
+CellsTurned =
+    (max_level : ℕ) (t : List Cell) (i j : ℕ) → Formed max_level t → i < length t → j < length t
+    → border (at t j).box (at t i).box ≡ turned (border (at t i).box (at t j).box)
 
 -- ---- a polygon of one strip
 

@@ -10,7 +10,7 @@ use Rattle.std.proofs.lemmas.Float.{T_from_true}
 use Rattle.std.proofs.lemmas.List.{length-map, map-append}
 use Rattle.std.proofs.lemmas.List.FromFn.{length-range_with_len}
 use Rattle.std.proofs.lemmas.List.Sums.{AllPass-from_list_all}
-use Rattle.cell.specs.Boxes.{Box}
+use Rattle.cell.specs.Boxes.{Box, HasArea}
 use Rattle.table.specs.Mesh.{Cell}
 use Rattle.floats.specs.Fractions.{float, in_sheet, sheet_low, sheet_high}
 use Rattle.floats.proofs.Ranges.{In, in-positive, num-in, div-in}
@@ -19,7 +19,7 @@ use Rattle.net_rows.specs.declared.rows.Node.{Node}
 use Rattle.net_rows.specs.Nodes.{in_ticks}
 use Rattle.net_rows.specs.Nets.{nth_node}
 use Rattle.net.specs.Net.{Poly, Piece, MeshNode, NetCell, Edge, One, ◌÷◌, face, distance, is_side, pieces, nodes_from, edges_from, patches_from, weighed, bare, weigh, network, Cornered}
-use Rattle.net.specs.Laws.{HasArea, IsWithin, widest, IsPositive}
+use Rattle.net.specs.Laws.{IsWithin, widest, IsPositive}
 use Rattle.net.proofs.All.{All, all_append, all-by, all-each, all-each-by, all_map, all-at, all_both}
 use Rattle.net.proofs.Leaves.{all-of, leaves-pieces, polys-pieces, BoxWithin, nodes-within}
 use Rattle.net.proofs.Sound.{patches-cornered}

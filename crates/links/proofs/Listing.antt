@@ -2,13 +2,13 @@
 use Rattle.std.proofs.lemmas.Bool.Decides.{nat_tests}
 use Rattle.std.proofs.Common.{◌≡◌, sym, ap, subst, ◌∙◌, true, false, List, ℕ, ◌+◌, ◌≤◌, ◌<◌, arith, length, get_or, get_or-set_same, get_or-set_other, ⊎_elim}
 use mathlib.Core.Bool.{false≢true}
-use Rattle.cell.specs.Boxes.{Box}
+use Rattle.cell.specs.Boxes.{Box, HasArea}
 use Rattle.cell.proofs.Offsets.{below?}
 use Rattle.table.specs.Mesh.{Cell, at}
 use Rattle.table.proofs.All.{top?, never, and_left}
 use Rattle.net_rows.specs.declared.rows.Polygons.{Polygons}
 use Rattle.net.specs.Net.{MeshNode, has, same_node}
-use Rattle.net.specs.Laws.{HasArea, IsWithin, widest}
+use Rattle.net.specs.Laws.{IsWithin, widest}
 use Rattle.links.specs.declared.count.Near.{Near}
 use Rattle.links.specs.declared.count.Window.{Window}
 use Rattle.links.specs.Windows.{IsInside, misses}

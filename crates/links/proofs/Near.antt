@@ -5,7 +5,7 @@ use lib.IntN.{sub_ℕ}
 use lib.Signed.{le_z}
 use Rattle.std.specs.Int.{abs_diff}
 use Rattle.refusals.specs.Limits.{coordinate}
-use Rattle.cell.specs.Boxes.{Box}
+use Rattle.cell.specs.Boxes.{Box, HasArea}
 use Rattle.cell.specs.Ticks.{off, on}
 use Rattle.cell.proofs.Offsets.{below?, on-is}
 use Rattle.table.specs.Mesh.{Cell, at}
@@ -14,7 +14,7 @@ use Rattle.net_rows.specs.Nodes.{in_ticks}
 use Rattle.net_rows.specs.declared.rows.Polygons.{Polygons}
 use Rattle.net.specs.Net.{MeshNode, Poly, has, same_node, sw_of, se_of, ne_of, nw_of}
 use Rattle.places.specs.Leaves.{poly_at}
-use Rattle.net.specs.Laws.{HasArea, IsWithin, widest}
+use Rattle.net.specs.Laws.{IsWithin, widest}
 use Rattle.links.specs.declared.rows.Footprint.{Footprint}
 use Rattle.links.specs.declared.count.Window.{Window}
 use Rattle.links.specs.Made.{covers}

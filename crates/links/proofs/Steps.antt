@@ -5,13 +5,12 @@ use Rattle.std.specs.List.{count_by, flat_map, IsDistinct, AllByRecursion}
 use Rattle.std.proofs.lemmas.Grind.{flat_map-append}
 use Rattle.std.proofs.lemmas.List.Elements.{filter-append}
 use Rattle.std.proofs.lemmas.List.Sums.{sum_by-cons}
-use Rattle.cell.specs.Boxes.{Box}
+use Rattle.cell.specs.Boxes.{Box, HasArea}
 use Rattle.table.specs.Mesh.{Cell, at, is_leaf}
 use Rattle.table.proofs.Ids.{ids_to, ids-yes, ids-no}
 use Rattle.net_rows.specs.Nodes.{in_ticks}
 use Rattle.net_rows.specs.declared.rows.Polygons.{Polygons}
 use Rattle.net.specs.Net.{Poly, MeshNode, has, weld, same_node, corners_at}
-use Rattle.net.specs.Laws.{HasArea}
 use Rattle.net.proofs.Positions.{test}
 use Rattle.net.proofs.Sound.{node-self, node-is}
 use Rattle.places.specs.Leaves.{poly_at}

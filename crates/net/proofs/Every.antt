@@ -4,7 +4,7 @@ use lib.ListN.{length-map}
 use Rattle.table.specs.Mesh.{Cell, leaf_count}
 use Rattle.net.specs.Net.{Poly, Edge, Piece, pieces, nodes_from, edges_from, patches_from, nowhere, Cornered, Ends, weighed, bare, weigh, network}
 use Rattle.net.specs.Hang.{so_far, HalvedSides}
-use Rattle.net.specs.Laws.{AllLeaves, HasArea, IsWithin, widest, IsPositive, NodesAreDistinct, EdgesJoinNodes, CellsAreRectangles, NoHalfHangs, EdgesConduct, NoConductanceIsNegative}
+use Rattle.net.specs.Laws.{AllLeaves, IsWithin, widest, IsPositive, NodesAreDistinct, EdgesJoinNodes, CellsAreRectangles, NoHalfHangs, EdgesConduct, NoConductanceIsNegative}
 use Rattle.net.proofs.All.{All, all-map-by, all-by, all-at}
 use Rattle.net.proofs.Sound.{edges-ends, patches-cornered, nodes-count, edges-count, patches-count, leaves-count}
 use Rattle.net.proofs.Faces.{Within}
@@ -14,7 +14,7 @@ use Rattle.net.proofs.Distinct.{no-duplicates}
 use Rattle.net.proofs.Hang.{no-half-hangs}
 use Rattle.floats.specs.Fractions.{in_sheet, nonneg}
 use lib.Ieee.Positive.{positive}
-use Rattle.cell.specs.Boxes.{Box}
+use Rattle.cell.specs.Boxes.{Box, HasArea}
 use Rattle.std.specs.List.{slice_index_or}
 use Rattle.std.proofs.lemmas.List.{get_or_default}
 

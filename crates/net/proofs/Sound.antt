@@ -6,11 +6,10 @@ use Rattle.std.proofs.Common.{◌≡◌, refl, sym, ap, ◌∙◌, subst, Bool, 
 use Rattle.std.specs.Prelude.{flat_map, sum_by}
 use Rattle.std.proofs.lemmas.List.Sums.{sum_by-cons}
 use lib.ListN.{length-map, get_or-append}
-use Rattle.cell.specs.Boxes.{Box}
+use Rattle.cell.specs.Boxes.{Box, HasArea}
 use Rattle.table.specs.Mesh.{Cell, is_none, leaf_count}
 use Rattle.table.proofs.Counting.{leaf_count-cons}
 use Rattle.net.specs.Net.{weld, Poly, MeshNode, Edge, Piece, same_node, same_pair, sw_of, se_of, ne_of, nw_of, corners_at, corners_of, nodes_from, number, nth, nowhere, patch_at, side_of, sides_at, edges_of, edges_from, patches_from, leaves_of, pieces, Cornered, Ends}
-use Rattle.net.specs.Laws.{HasArea}
 use Rattle.net.proofs.Positions.{has-at, position-hit}
 use Rattle.net.proofs.Leaves.{leaves_of-cons}
 use Rattle.net.proofs.Pieces.{all_corners, nodes-weld}

@@ -2,7 +2,7 @@
 use Rattle.std.specs.Prelude.{ℕ, ◌+◌, ◌*◌, ◌^◌, ◌<◌, ◌≤◌, ◌≡◌, ◌≢◌, List, ◌∷◌, ◌++◌, length, All, AllPairs, IsTrue, None, Float}
 use Rattle.std.specs.Float.{◌<ᶠ◌, float_zero, float_is_finite}
 use Rattle.refusals.specs.Limits.{coordinate}
-use Rattle.cell.specs.Boxes.{Box}
+use Rattle.cell.specs.Boxes.{Box, HasArea}
 use Rattle.table.specs.Mesh.{Cell, leaf_count}
 use Rattle.floats.specs.Fractions.{in_sheet, nonneg}
 use Rattle.net.specs.Net.{Poly, Piece, pieces, network, Cornered, Ends}
@@ -13,9 +13,6 @@ use Rattle.net.specs.Hang.{so_far, HalvedSides}
 -- of the rectangles of a table's leaves
 abbrev pub AllLeaves : (Box → Type 0) → List Cell → Type 0
 AllLeaves P t = All (λ c. c.kids ≡ None → P c.box) t
-
-abbrev pub HasArea : Box → Type 0
-HasArea r = (r.x0 < r.x1) × (r.y0 < r.y1)
 
 -- positive sides, and coordinates of at most the given number
 pub record IsWithin (most : ℕ) (r : Box) : Type 0 where

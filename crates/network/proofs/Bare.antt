@@ -4,7 +4,7 @@ use Rattle.std.specs.Prelude.{All}
 use lib.ListN.{length-map}
 use Rattle.refusals.specs.Limits.{max_slots}
 use Rattle.refusals.specs.Said.{accepted}
-use Rattle.cell.specs.Boxes.{Box}
+use Rattle.cell.specs.Boxes.{Box, HasArea}
 use Rattle.table.specs.declared.Head.{Head}
 use Rattle.table.specs.Mesh.{Cell, at, is_none, leaf_count}
 use Rattle.table.specs.Rows.{IsTable, cells_in, leaves_in}
@@ -19,7 +19,7 @@ use Rattle.net_rows.specs.declared.rows.NetCell.{NetCell}
 use Rattle.net_rows.specs.Facts.{AreKnown, IsSoundNode}
 use Rattle.net.specs.Net as Net
 use Rattle.net.specs.Net.{Poly, Piece, MeshNode, pieces, bare, weigh, weighed, Ends, Cornered}
-use Rattle.net.specs.Laws.{HasArea, IsWithin, widest}
+use Rattle.net.specs.Laws.{IsWithin, widest}
 use Rattle.net.proofs.All as Each
 use Rattle.net.proofs.Faces.{Within}
 use Rattle.net.proofs.Leaves.{all-of, leaves-pieces, BoxWithin, nodes-within}
