@@ -18,7 +18,7 @@ pub struct Lent<'a> {
 // SAFETY, of every call below: each pointer comes with the length of the slice that it was taken from;
 // the slices outlive the call, and those that are written are borrowed mutably, so none overlaps another.
 
-impl Lent<'_> {
+impl<'a> Lent<'a> {
     /// Whether row and head are a table.
     pub fn judge(self) -> Result<(), Refusal> {
         match self.leaves(&mut []) {
@@ -78,9 +78,15 @@ impl Lent<'_> {
         borders(&leaves)
     }
 
+    /// The eight numbers of a cell; panics where the row has no such slot.
+    pub fn slot(self, id: usize) -> &'a [i64] {
+        &self.row[SLOT * id..SLOT * (id + 1)]
+    }
+
     /// Where a cell lies.
-    fn rect(self, id: usize) -> Rect {
-        [X0, Y0, X1, Y1].map(|column| self.row[SLOT * id + column])
+    pub fn rect(self, id: usize) -> Rect {
+        let slot = self.slot(id);
+        [X0, Y0, X1, Y1].map(|column| slot[column])
     }
 
     pub fn edge_rows(self, outlines: Outlines, links: Links) -> Result<usize, Refusal> {

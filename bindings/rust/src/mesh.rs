@@ -1,6 +1,6 @@
 //! A board's mesh and net with rooms of their own: the calls of [`Table`], one after another.
 
-use crate::columns::{FIRST_CHILD, LEVEL, POLYGON, X0, Y1};
+use crate::columns::{FIRST_CHILD, LEVEL, POLYGON};
 use crate::lent::Lent;
 use crate::sides::has_side;
 use crate::unmeshed::{refused, Idle, Loose, TooLong, Unmeshed};
@@ -292,13 +292,12 @@ impl Mesh {
     ///
     /// Where the table has no such slot.
     pub fn slot(&self, id: usize) -> &[i64] {
-        &self.table[SLOT * id..SLOT * (id + 1)]
+        self.lent().slot(id)
     }
 
     /// Where a cell lies, in ticks.
     pub fn rect(&self, id: usize) -> Rect {
-        let slot = &self.slot(id)[X0..=Y1];
-        [slot[0], slot[1], slot[2], slot[3]]
+        self.lent().rect(id)
     }
 
     /// The level of a cell: 0 of a base cell.

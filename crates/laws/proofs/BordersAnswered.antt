@@ -3,31 +3,26 @@ use mathlib.Core.Bool.{false≢true}
 use mathlib.Core.Logic.{by_cases}
 use native.Mathlib.Decide.{dec_lt}
 use borrow.Author.Tests.{eqb-false}
-use Rattle.std.proofs.Common.{◌≡◌, refl, sym, ap, ◌∙◌, Bool, true, false, cond, Option, None, Some, ℕ, zero, suc, ◌<◌, arith, eqb, eqb-true}
-use Rattle.std.specs.Option.{is_some}
+use Rattle.std.proofs.Common.{◌≡◌, refl, sym, ap, ◌∙◌, Bool, true, false, cond, Option, None, Some, [], ◌∷◌, ℕ, ◌<◌, arith, eqb, eqb-true}
+use Rattle.std.specs.Option.{is_some, unwrap_or}
 use Rattle.cell.specs.declared.border.Border.{Border}
 use Rattle.cell.specs.declared.border.Side.{Side}
 use Rattle.cell.specs.declared.border.Side.TheVariants.{South, East, North, West}
 use Rattle.cell.specs.Boxes.{side_number, length_on, border}
+use Rattle.cell.proofs.OneContact.{told-border}
 use Rattle.cell.proofs.Borders.{on-side, one-side, on-any-side, has-length}
 use Rattle.laws.specs.Borders.{answered_on, BordersAreAnswered}
 
--- sides of one number are the same
-numbered : ℕ → Side
-numbered zero = South
-numbered (suc zero) = East
-numbered (suc (suc zero)) = North
-numbered (suc (suc (suc n))) = West
-
-number-back : (s : Side) → numbered (side_number s) ≡ s
-unfolding numbered
-number-back South = refl
-number-back East = refl
-number-back North = refl
-number-back West = refl
+-- sides of one number are the same: a border is told back from its values
+told : (s : Side) → told-border (side_number s ∷ 1 ∷ []) ≡ Some (record { side = s; length = 1 })
+told South = refl
+told East = refl
+told North = refl
+told West = refl
 
 side-same : (s t : Side) → side_number s ≡ side_number t → s ≡ t
-side-same s t e = sym (number-back s) ∙ ap numbered e ∙ number-back t
+side-same s t e =
+    ap (λ (o : Option Border). (unwrap_or {T = Border} o (record { side = t; length = 1 })).side) (sym (told s) ∙ ap (λ n. told-border (n ∷ 1 ∷ [])) e ∙ told t)
 
 none-there : (n : ℕ) → (0 < n → ⊥) → 0 ≡ n
 none-there n h = by_cases (dec_lt 0 n) (λ p. absurd (h p)) (λ p. omega arith)
