@@ -46,14 +46,16 @@ extern "C" {
 #endif
 
 /* The version of this header and its library; CHANGELOG.md says what changed. */
-#define LEAFMESH_VERSION "0.7.0"
+#define LEAFMESH_VERSION "0.8.0"
 #define LEAFMESH_VERSION_MAJOR 0
-#define LEAFMESH_VERSION_MINOR 7
+#define LEAFMESH_VERSION_MINOR 8
 #define LEAFMESH_VERSION_PATCH 0
 
 /* Ranges. */
 #define LEAFMESH_COORDINATE 68719476736LL /* coordinates lie from minus this to this: 2^36 ticks */
 #define LEAFMESH_MAX_LEVEL 12
+#define LEAFMESH_MEANS_DEFAULT 255 /* for the level of a board record: the default */
+#define LEAFMESH_DEFAULT_LEVEL 4   /* which is this; build knows no default */
 #define LEAFMESH_CAP 256             /* the most base cells that a strip has each way */
 #define LEAFMESH_CELL 68719476736ULL /* largest target cell, and largest cell of a layer: 2^36 ticks */
 #define LEAFMESH_LAYER_ENTRIES 64
@@ -445,8 +447,8 @@ leafmesh_check_outcome leafmesh_check_by_layer(const int64_t *table, size_t tabl
                                                size_t work_length);
 
 /* A board record into rows. bytes_length counts bytes, layers_length layers, polygons_length and sheets_length
- * polygons, points_length points, splits_length cell ids. docs/FORMATS.md has the record's fields. Refuses 1, 2,
- * 3, 6. */
+ * polygons, points_length points, splits_length cell ids. docs/FORMATS.md has the record's fields. A level of
+ * LEAFMESH_MEANS_DEFAULT is answered as LEAFMESH_DEFAULT_LEVEL. Refuses 1, 2, 3, 6. */
 leafmesh_read_outcome leafmesh_read(const uint8_t *bytes, size_t bytes_length, leafmesh_layer *layers,
                                     size_t layers_length, leafmesh_polygon *polygons, size_t polygons_length,
                                     double *sheets, size_t sheets_length, leafmesh_point *points,

@@ -104,7 +104,7 @@ pub const SLOT: usize = 8;
 
 pub mod limits;
 
-pub use limits::{COORDINATE, MAX_LEVEL, SLOTS};
+pub use limits::{COORDINATE, DEFAULT_LEVEL, MAX_LEVEL, MEANS_DEFAULT, SLOTS};
 
 /// The places of numbers in a slot of a table, and of the corners in a cell of a net.
 pub mod columns {
@@ -257,7 +257,7 @@ pub fn power(net: NetRows, potentials: &[f64], answers: &mut [f64]) -> Result<()
 /// A board as a record holds it.
 #[derive(Clone, Debug, Default, PartialEq)]
 pub struct Board {
-    /// 255 in a record is read as the default, 3.
+    /// [`MEANS_DEFAULT`], 255, stands for the default, 4: a board that was read has that.
     pub max_level: u64,
     /// As in [`Settings`].
     pub cap: u64,
@@ -276,10 +276,14 @@ pub struct Board {
 }
 
 impl Board {
-    /// What [`Table::build`] takes.
+    /// What [`Table::build`] takes: the level that is meant. Build itself knows no default.
     pub fn settings(&self) -> Settings {
+        let max_level = match self.max_level {
+            MEANS_DEFAULT => DEFAULT_LEVEL,
+            level => level,
+        };
         Settings {
-            max_level: self.max_level,
+            max_level,
             cap: self.cap,
             target: self.target,
         }

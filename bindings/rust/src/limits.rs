@@ -6,6 +6,12 @@ pub const COORDINATE: i64 = 1 << 36;
 /// The deepest level that a table may have.
 pub const MAX_LEVEL: u64 = 12;
 
+/// The deepest level of a board that doesn't name its own: in a record 255 means it, and in a text no `level` does.
+pub const DEFAULT_LEVEL: u64 = 4;
+
+/// What stands for the default level, in a record, a text and a [`Board`](crate::Board).
+pub const MEANS_DEFAULT: u64 = 255;
+
 /// The most base cells that a strip has each way.
 pub const CAP: u64 = 256;
 

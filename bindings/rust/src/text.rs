@@ -3,7 +3,7 @@
 //! ```
 //! let board = leafmesh::text::parse("
 //! ## what follows a hash sign is left out
-//! level 2            # the deepest level; 255 means the default, 3
+//! level 2            # the deepest level; without this line it is 4
 //! cap 256            # the most base cells a strip has each way
 //! target 8           # the size wanted of a base cell, in ticks
 //! layer 1 16         # layer 1 has base cells of 16 ticks
@@ -53,21 +53,17 @@
 //! ```
 
 use crate::limits::{
-    CAP, CELL, HALF, LAYER_ENTRIES, POLYGONS, RESISTANCE_HIGH, RESISTANCE_LOW, RING_POINTS,
-    SHEET_HIGH, SHEET_LOW, SPLITS,
+    CAP, CELL, HALF, LAYER_ENTRIES, MEANS_DEFAULT, POLYGONS, RESISTANCE_HIGH, RESISTANCE_LOW,
+    RING_POINTS, SHEET_HIGH, SHEET_LOW, SPLITS,
 };
 use crate::{
     read, record_length, write, Board, Channel, Contact, Footprint, Link, Links, OwnedLinks, Pitch,
-    Point, Reason, Terminal, Unmeshed, Via, COORDINATE, MAX_LEVEL,
+    Point, Reason, Refusal, Terminal, Unmeshed, Via, COORDINATE, MAX_LEVEL,
 };
 use std::error::Error;
 use std::fmt::{self, Write};
 use std::ops::RangeInclusive;
 use std::str::FromStr;
-
-/// 255 in a text or a record means the default level.
-const MEANS_DEFAULT: u64 = 255;
-const DEFAULT_LEVEL: u64 = 3;
 
 /// A line that is no part of a board, or says what a board can't have.
 #[derive(Clone, Debug, PartialEq, Eq)]
@@ -270,10 +266,7 @@ impl Whole {
                 "pitch stands before layers, polygons and links".to_string(),
             ));
         }
-        let level = match self.board.max_level {
-            MEANS_DEFAULT => DEFAULT_LEVEL,
-            level => level,
-        };
+        let level = self.board.settings().max_level;
         let pitch = Pitch::new(millimetres, level).map_err(|why| Some(why.to_string()))?;
         (self.board.target, self.lines.target) = (pitch.target(), line);
         self.lines.pitch = Some(pitch);
@@ -429,9 +422,11 @@ impl Lines {
                     Reason::Slanted | Reason::UnevenCell => self.polygons.get(refusal.place),
                     _ => None,
                 };
-                line.map_or(refusal.to_string(), |line| {
-                    format!("line {line}: {refusal}")
-                })
+                let words = refused(board, refusal, self.level == 0);
+                match line {
+                    Some(line) => format!("line {line}: {words}"),
+                    None => words,
+                }
             }
             Unmeshed::TooLong(long) => {
                 let before = board.polygons.iter().take(long.polygon);
@@ -461,6 +456,19 @@ impl Lines {
             Some(pitch) => format!("({} mm, {} mm)", pitch.millimetres(x), pitch.millimetres(y)),
             None => format!("({x}, {y})"),
         }
+    }
+}
+
+/// Why a board is refused; of a base cell's side, what it has to be a multiple of, and which level asks it.
+pub(crate) fn refused(board: &Board, refusal: &Refusal, by_default: bool) -> String {
+    let level = board.settings().max_level;
+    let whose = if by_default { ", the default" } else { "" };
+    match refusal.reason {
+        Reason::UnevenCell => {
+            let ticks = 2_u64 << level.min(MAX_LEVEL);
+            format!("{refusal}, here {ticks} (level {level}{whose})")
+        }
+        _ => refusal.to_string(),
     }
 }
 
@@ -541,10 +549,7 @@ fn at_most(lines: &[usize], name: &str, most: usize) -> Result<(), Unclear> {
 
 /// Whether a record read back says what the text does; the first line that it says otherwise.
 fn compare(board: &Board, again: &Board, lines: &Lines) -> Result<(), Unclear> {
-    let level = match board.max_level {
-        MEANS_DEFAULT => DEFAULT_LEVEL,
-        level => level,
-    };
+    let level = board.settings().max_level;
     same(&[level], &[again.max_level], &[lines.level])?;
     same(&[board.cap], &[again.cap], &[lines.cap])?;
     same(&[board.target], &[again.target], &[lines.target])?;

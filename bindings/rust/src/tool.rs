@@ -97,9 +97,10 @@ impl Given {
     }
 
     pub fn blame(&self, why: &Unmeshed) -> String {
-        match &self.lines {
-            Some(lines) => lines.blame(&self.board, why),
-            None => why.to_string(),
+        match (&self.lines, why) {
+            (Some(lines), _) => lines.blame(&self.board, why),
+            (None, Unmeshed::Refused(refusal)) => text::refused(&self.board, refusal, false),
+            (None, _) => why.to_string(),
         }
     }
 }

@@ -27,6 +27,8 @@ fn the_headers_constants_are_the_crates() {
     for (name, number) in [
         ("COORDINATE", limits::COORDINATE as usize),
         ("MAX_LEVEL", limits::MAX_LEVEL as usize),
+        ("MEANS_DEFAULT", limits::MEANS_DEFAULT as usize),
+        ("DEFAULT_LEVEL", limits::DEFAULT_LEVEL as usize),
         ("CAP", limits::CAP as usize),
         ("CELL", limits::CELL as usize),
         ("HALF", limits::HALF as usize),

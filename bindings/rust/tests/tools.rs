@@ -435,8 +435,38 @@ fn slanted_and_uneven_polygons_are_told_by_their_line() {
     );
     assert_eq!(
         said,
-        "line 3: refused 5 0: a base cell's side is no multiple of 2^(max_level+1) ticks\n"
+        "line 3: refused 5 0: a base cell's side is no multiple of 2^(max_level+1) ticks, here 32 (level 4)\n"
     );
+}
+
+/// A text without a level, and a record of 255, are of level 4: multiples of 32 ticks. What is refused says so.
+#[test]
+fn a_board_without_a_level_is_of_the_default_level() {
+    let square = |side: u32| {
+        format!("target {side}\npolygon 1 0 1\n0 0\n{side} 0\n{side} {side}\n0 {side}\n")
+    };
+    let uneven = "refused 5 0: a base cell's side is no multiple of 2^(max_level+1) ticks, here 32";
+    let mut cell = String::from("cells 1 leaves 1 nodes 4 edges 4 splits 0\n");
+    cell += "leaf 0 0 0 0 0 32 32\n";
+    for side in [16, 48] {
+        let text = square(side);
+        let said = refused(BOARD, &["net"], text.as_bytes());
+        assert_eq!(said, format!("line 2: {uneven} (level 4, the default)\n"));
+        let record = made(BOARD, &["pack"], text.as_bytes());
+        assert_eq!(record[5], 255);
+        let said = refused(BOARD, &["net"], &record);
+        assert_eq!(said, format!("{uneven} (level 4)\n"));
+        // As it was taken before.
+        made(BOARD, &["net"], format!("level 3\n{text}").as_bytes());
+    }
+    let text = square(32);
+    let record = made(BOARD, &["pack"], text.as_bytes());
+    for board in [text.as_bytes(), &record] {
+        let net = made(BOARD, &["net"], board);
+        assert!(net.starts_with(cell.as_bytes()));
+    }
+    let unpacked = made(BOARD, &["unpack"], &record);
+    assert!(unpacked.starts_with(b"level 4\n"));
 }
 
 /// Two squares over each other, in millimetres; lines from 13 on are links.

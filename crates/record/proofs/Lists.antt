@@ -3,6 +3,7 @@ use Rattle.std.proofs.Common.{◌≡◌, ℕ, ◌+◌, ◌≤◌, Bool, true, fa
 use Rattle.std.proofs.lemmas.List.{drop-drop}
 use Rattle.std.specs.Prelude.{IsOkAnd}
 use Rattle.std.specs.Int.{w8, w16, w32, w64}
+use Rattle.refusals.specs.Limits.{default_level}
 use Rattle.refusals.specs.declared.Refusal.{Refusal}
 use Rattle.refusals.specs.declared.Refusal.TheVariants.{WrongLength, OutOfRange}
 use Rattle.fields.specs.Cursor.{Cursor, start, past, require, number}
@@ -12,7 +13,7 @@ use Rattle.record.specs.declared.board.Counts.{Counts}
 use Rattle.record.specs.declared.board.Limits.{Limits}
 use Rattle.record.specs.declared.board.Version.{Version}
 use Rattle.record.specs.declared.board.Version.TheVariants.{One}
-use Rattle.record.specs.Board.{Board, Settings, version_of, limits_of, as_default, default_level, level, settings, layer_list, polygon_list, split_list, body, board}
+use Rattle.record.specs.Board.{Board, Settings, version_of, limits_of, means_default, level, settings, layer_list, polygon_list, split_list, body, board}
 use Rattle.record.specs.Rows.{Rows}
 use Rattle.record.specs.declared.board.Read.{Read}
 use Rattle.record.specs.Reading.{counts_of, summary_of, checked, has_room, reading}
@@ -26,8 +27,8 @@ past_past j k c = rw (drop-drop k j c.rest, add_assoc c.at j k) refl
 
 level_end : (most : ℕ) (c : Cursor) {x : ℕ × Cursor} → (level most).reading c ≡ Ok x → x.1 ≡ past 1 c
 level_end most c {x} e =
-    let b = bind_ok (number w8 c) (λ n. cond (eqb n.0 as_default) (Ok (default_level, n.1)) (require (leb n.0 most) (OutOfRange c.at) (Ok n))) e in
-    chosen b.0 (eqb b.0.0 as_default) b.2 ∙ (number_from w8 c {n = b.0.0} {new = b.0.1} b.1).1
+    let b = bind_ok (number w8 c) (λ n. cond (eqb n.0 means_default) (Ok (default_level, n.1)) (require (leb n.0 most) (OutOfRange c.at) (Ok n))) e in
+    chosen b.0 (eqb b.0.0 means_default) b.2 ∙ (number_from w8 c {n = b.0.0} {new = b.0.1} b.1).1
   where
     chosen : (n : ℕ × Cursor) (b : Bool) → cond b (Ok (default_level, n.1)) (require (leb n.0 most) (OutOfRange c.at) (Ok n)) ≡ Ok x → x.1 ≡ n.1
     chosen n true h = let made : ℕ × Cursor = (default_level, n.1) in ap (λ (y : ℕ × Cursor). y.1) (sym (ok_is {x = made} h))

@@ -3,7 +3,7 @@ use Rattle.std.proofs.Common.{◌≡◌, ℕ, ◌+◌, ◌*◌, ◌-◌, ◌^◌
 use Rattle.std.specs.List.{flat_map}
 use Rattle.std.specs.Int.{w8, w16, w32, w64, to_be_bytes, bytes_high_first}
 use Rattle.std.proofs.lemmas.Bool.{ltb-true}
-use Rattle.refusals.specs.Limits.{max_layers, max_polygons, max_points, coordinate as farthest}
+use Rattle.refusals.specs.Limits.{max_layers, max_polygons, max_points, coordinate as farthest, default_level}
 use Rattle.refusals.specs.declared.Refusal.TheVariants.{WrongLength, OutOfRange}
 use Rattle.cell.specs.Ticks.{in_range}
 use Rattle.fields.specs.Cursor.{Cursor, start, require, number}
@@ -12,7 +12,7 @@ use Rattle.fields.proofs.Laws.{bind_ok, require_ok, ok_is, each, IsBytes, IsLawf
 use Rattle.record.specs.declared.board.Version.{Version}
 use Rattle.record.specs.declared.board.Version.TheVariants.{One}
 use Rattle.record.specs.declared.board.Limits.{Limits}
-use Rattle.record.specs.Board.{Polygon, Board, version_of, limits_of, as_default, default_level, level, settings, is_above, layer, entry, layer_list, coordinate, point, sheet_low, sheet_high, polygon, polygon_list, split_list, body, board, record_of, is_in_range}
+use Rattle.record.specs.Board.{Polygon, Board, version_of, limits_of, means_default, level, settings, is_above, layer, entry, layer_list, coordinate, point, sheet_low, sheet_high, polygon, polygon_list, split_list, body, board, record_of, is_in_range}
 use Rattle.record.specs.Puts.{entry_bytes, polygon_bytes, settings_bytes}
 use Rattle.fields.proofs.Stores.{bytes-length}
 use Rattle.record.proofs.Turns.{each-length, entry-long, polygon-long, splits-long}
@@ -21,7 +21,7 @@ use Rattle.record.proofs.Records.{board_lists, spelled, settings-long}
 -- what a version allows fits its fields
 record IsRoomy (l : Limits) : Type 0 where
   least : default_level ≤ l.max_level
-  level : l.max_level < as_default
+  level : l.max_level < means_default
   layers : l.layers < 2 ^ 16
   polygons : l.polygons < 2 ^ 16
   points : l.ring_points < 2 ^ 16
@@ -31,7 +31,7 @@ roomy One = record { least = omega arith; level = omega arith; layers = omega ar
 
 -- ---- each field
 
-module _ (most : ℕ) (least : default_level ≤ most) (small : most < as_default) where
+module _ (most : ℕ) (least : default_level ≤ most) (small : most < means_default) where
   chosen : (at : ℕ) (n : ℕ × Cursor) (b : Bool) {x : ℕ × Cursor} → cond b (Ok (default_level, n.1)) (require (leb n.0 most) (OutOfRange at) (Ok n)) ≡ Ok x → IsBytes n.1.rest
       → (leb x.0 most ≡ true) × IsBytes x.1.rest
   chosen at n true h fits =
@@ -45,12 +45,12 @@ module _ (most : ℕ) (least : default_level ≤ most) (small : most < as_defaul
   level_lawful = record {
     again = λ n at rest fits.
         let le : n ≤ most = leb-true n most fits in
-        let other : eqb n as_default ≡ false = ne_eqb n as_default (λ e. omega arith) in
+        let other : eqb n means_default ≡ false = ne_eqb n means_default (λ e. omega arith) in
         rw (number_again w8 wide8 n at rest (omega arith), other, fits) refl;
     found = λ old {x} {new} fits e.
-        let b = bind_ok (number w8 old) (λ n. cond (eqb n.0 as_default) (Ok (default_level, n.1)) (require (leb n.0 most) (OutOfRange old.at) (Ok n))) e in
+        let b = bind_ok (number w8 old) (λ n. cond (eqb n.0 means_default) (Ok (default_level, n.1)) (require (leb n.0 most) (OutOfRange old.at) (Ok n))) e in
         let t = number_found w8 wide8 old {n = b.0.0} {new = b.0.1} fits b.1 in
-        chosen old.at b.0 (eqb b.0.0 as_default) b.2 t.1;
+        chosen old.at b.0 (eqb b.0.0 means_default) b.2 t.1;
   }
 
 in_range_fits : (z : ℤ) → in_range z ≡ true → SFits w64 z

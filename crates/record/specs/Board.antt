@@ -5,7 +5,7 @@ use Rattle.std.specs.Option.{option_map_or}
 use Rattle.std.specs.Int.{w8, w16, w32, w64, to_be_bytes}
 use Rattle.refusals.specs.declared.Refusal.{Refusal}
 use Rattle.refusals.specs.declared.Refusal.TheVariants.{WrongVersion, WrongLength, OutOfRange}
-use Rattle.refusals.specs.Limits.{widest_level, max_cap, max_cell, max_layers, max_polygons, max_points}
+use Rattle.refusals.specs.Limits.{widest_level, max_cap, max_cell, max_layers, max_polygons, max_points, default_level}
 use Rattle.cell.specs.Ticks.{in_range}
 use Rattle.fields.specs.Cursor.{start, ◌>>=◌, require, number}
 use Rattle.fields.specs.Codec.{Codec, any, tested, ranged, signed, pair, named, chained, counted}
@@ -50,20 +50,17 @@ limits_of One =
       ring_points = max_points;
     }
 
--- ---- "max_level (8 bits; 255 here means the default, 3); cap (16); target (64)"
+-- ---- "max_level (8 bits; 255 here means the default, 4); cap (16); target (64)"
 
-abbrev pub as_default : ℕ
-as_default = 255
-
-abbrev pub default_level : ℕ
-default_level = 3
+abbrev pub means_default : ℕ
+means_default = 255
 
 abbrev pub level : ℕ → Codec ℕ
 level most = record {
   spelling = to_be_bytes w8;
   fits = λ n. nat_le n most;
   reading = λ c. number w8 c >>= λ n.
-      if n.0 == as_default then Ok (default_level, n.1) else require (nat_le n.0 most) (OutOfRange c.at) (Ok n);
+      if n.0 == means_default then Ok (default_level, n.1) else require (nat_le n.0 most) (OutOfRange c.at) (Ok n);
 }
 
 abbrev pub settings : Limits → Codec Settings

@@ -1,5 +1,5 @@
 -- What the record's definitions come to: the laws that src/laws.rt promises. Definitions only.
-use Rattle.std.specs.Prelude.{◌≡◌, ℕ, ◌<◌, ◌≤◌, List, [], ◌∷◌, length, take, slice_index_or, IsTrue, Result, Ok}
+use Rattle.std.specs.Prelude.{◌≡◌, ℕ, ◌<◌, ◌≤◌, List, [], ◌∷◌, ◌++◌, length, take, slice_index_or, IsTrue, Result, Ok}
 use Rattle.refusals.specs.declared.Refusal.{Refusal}
 use Rattle.refusals.specs.Said.{Said, accepted}
 use Rattle.record.specs.declared.board.Read.{Read}
@@ -27,6 +27,11 @@ abbrev pub ReadsInRange : Type 0
 ReadsInRange =
     (bytes : List ℕ) (b : Board)
     → ((i : ℕ) → slice_index_or bytes i 0 < 256) → board bytes ≡ Ok b → IsTrue (is_in_range b)
+
+-- byte 5 has max_level, behind the version and the length: a record that has 255 there is read as the one that has 4,
+-- to the same board or to the same refusal
+abbrev pub DefaultIsFour : Type 0
+DefaultIsFour = (front behind : List ℕ) → length front ≡ 5 → board (front ++ 255 ∷ behind) ≡ board (front ++ 4 ∷ behind)
 
 -- whatever is to be said, two answers that are permitted are one
 abbrev pub OneRead : Type 0

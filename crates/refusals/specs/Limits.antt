@@ -1,7 +1,7 @@
 -- The rules' table of ranges, for the contracts: the constants of src/limits.rt, which has each number once.
 use Rattle.std.specs.Prelude.{ℕ, nat_abs}
 use Rattle.refusals.specs.declared.limits.TheConstants.{COORDINATE, MAX_LEVEL, CAP, CELL, LAYERS, POLYGONS, RING_POINTS}
-use Rattle.refusals.specs.declared.limits.TheConstants.{SLOTS}
+use Rattle.refusals.specs.declared.limits.TheConstants.{SLOTS, DEFAULT_LEVEL}
 
 -- a coordinate lies from -coordinate to coordinate
 abbrev pub coordinate : ℕ
@@ -28,3 +28,7 @@ max_points = RING_POINTS
 
 abbrev pub max_slots : ℕ
 max_slots = SLOTS
+
+-- what 255 for max_level means in a board record
+abbrev pub default_level : ℕ
+default_level = DEFAULT_LEVEL

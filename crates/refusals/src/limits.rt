@@ -36,4 +36,4 @@ pub const SHEET_HIGH: f64 = 1099511627776.0;
 pub const POTENTIAL: f64 = 1048576.0;
 
 /// What 255 for max_level means in a board record.
-pub const DEFAULT_LEVEL: u64 = 3;
+pub const DEFAULT_LEVEL: u64 = 4;

@@ -9,9 +9,9 @@ use crate::outcome::{require, Answer};
 use crate::sheets::Sheets;
 use crate::strips::TickPoint;
 
-/// 255 in a record means this level.
-pub const DEFAULT_LEVEL: u64 = 3;
-const MEANS_DEFAULT: u64 = 255;
+/// 255 in a record means this level: not the 3 of the original's settings, which is given the level that is meant.
+pub const DEFAULT_LEVEL: u64 = 4;
+pub const MEANS_DEFAULT: u64 = 255;
 const VERSION: u64 = 1;
 const LENGTH_AT: usize = 1;
 const LENGTH_BYTES: usize = 4;

@@ -34,6 +34,21 @@ fn splits_are_made_and_balanced() {
     assert!(text.ends_with('\n'));
 }
 
+/// Its level is 4, so a base cell's sides are multiples of 32.
+#[test]
+fn level_255_asks_for_more_than_level_3() {
+    let one = |max_level: u64, side: i64| {
+        let mut board = board(max_level, side);
+        board.push_polygon(1, 0, 1.0, &square(0, 0, side));
+        printed(&board).lines().next().map(String::from).expect("a line")
+    };
+    let accepted = "cells 1 leaves 1 nodes 4 edges 4 splits 0";
+    assert_eq!(one(255, 16), "refused 5 0");
+    assert_eq!(one(255, 32), accepted);
+    assert_eq!(one(255, 48), "refused 5 0");
+    assert_eq!([one(3, 16), one(3, 48)], [accepted; 2]);
+}
+
 #[test]
 fn every_step_can_refuse() {
     let with = |change: fn(&mut Board)| {

@@ -37,10 +37,10 @@ fn a_written_board_reads_back() {
 }
 
 #[test]
-fn level_255_means_3() {
+fn level_255_means_4() {
     let mut record = write_record(&worked_board());
     record[5] = 255;
-    assert_eq!(read(&record).map(|board| board.max_level), Ok(3));
+    assert_eq!(read(&record).map(|board| board.max_level), Ok(4));
     for level in 13..255 {
         record[5] = level;
         assert_eq!(read(&record), refused(3, 5));

@@ -3,6 +3,9 @@
 use crate::port::outcome_of;
 use crate::report::Report;
 use calls::leafnet::{mesh, printed};
+use calls::record::MEANS_DEFAULT;
+use calls::Refusal;
+use inputs::default_levels::{default_levels, default_rectangles};
 use inputs::whole_boards::{boundary_records, random_whole_record};
 use inputs::Random;
 use std::env;
@@ -13,19 +16,37 @@ use std::process::{Command, Output, Stdio};
 /// Seen from this crate. `LEAFMESH_PROGRAM` names another file.
 const DEFAULT_PROGRAM: &str = "../../crates/leafnet/out/leafnet";
 
+/// Where a record has its level.
+const LEVEL_AT: usize = 5;
+/// The refusal of a base cell whose sides are no multiples.
+const UNEVEN_CELL: u64 = 5;
+
 /// What was run, and how many of the accepted boards have hanging nodes or were split by balance.
 struct Tally {
     report: Report,
     accepted: u64,
     hanging: u64,
     balanced: u64,
+    by_default: ByDefault,
+}
+
+/// Of the records with 255 for their level: how many were run, accepted, and refused for a base cell.
+#[derive(Default)]
+struct ByDefault {
+    run: u64,
+    accepted: u64,
+    uneven: u64,
 }
 
 /// Records that show one thing each, then `count` random ones.
 pub fn compare(count: u64, seed: u64) -> bool {
     let mut random = Random::new(seed);
-    let mut tally = Tally { report: Report::new("leafnet"), accepted: 0, hanging: 0, balanced: 0 };
+    let report = Report::new("leafnet");
+    let by_default = ByDefault::default();
+    let mut tally = Tally { report, accepted: 0, hanging: 0, balanced: 0, by_default };
     boundary_records().iter().for_each(|record| tally.run(record));
+    default_levels().iter().for_each(|(_, record)| tally.run(record));
+    default_rectangles().iter().for_each(|record| tally.run(record));
     for _ in 0..count {
         tally.run(&random_whole_record(&mut random));
     }
@@ -73,6 +94,9 @@ impl Tally {
             self.hanging += u64::from(meshed.net.has_hanging_nodes());
             self.balanced += u64::from(meshed.splits > 0);
         }
+        if input.get(LEVEL_AT) == Some(&(MEANS_DEFAULT as u8)) {
+            self.by_default.count(answer.as_ref().err());
+        }
         // What is counted as a value is whether there are cells.
         let value = answer.map(|meshed| meshed.net.cells.len() as u64);
         self.report.ran(outcome_of(value), same, || {
@@ -91,7 +115,20 @@ impl Tally {
             self.hanging as f64 * 100.0 / self.accepted.max(1) as f64,
             self.balanced
         );
+        let ByDefault { run, accepted, uneven } = self.by_default;
+        println!(
+            "leafnet: {run} boards of the default level, {accepted} of them accepted, {uneven} \
+             refused for a base cell's side"
+        );
         self.report.print()
+    }
+}
+
+impl ByDefault {
+    fn count(&mut self, refusal: Option<&Refusal>) {
+        self.run += 1;
+        self.accepted += u64::from(refusal.is_none());
+        self.uneven += u64::from(refusal.is_some_and(|refusal| refusal.number == UNEVEN_CELL));
     }
 }
 

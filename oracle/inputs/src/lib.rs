@@ -3,6 +3,7 @@
 pub mod boards;
 pub mod chains;
 pub mod damage;
+pub mod default_levels;
 pub mod large_meshes;
 pub mod limit_pairs;
 pub mod limit_plans;

@@ -1,5 +1,6 @@
 //! Records for `leafnet` at each limit and one past it, each by its name.
 
+use crate::default_levels::default_levels;
 use crate::long_rings::pad;
 use crate::plan_faults::bad_sheets;
 use crate::random::Random;
@@ -21,6 +22,7 @@ type Named = (String, Vec<u8>);
 pub fn limit_records() -> Vec<Named> {
     let mut list = settings();
     list.extend(levels());
+    list.extend(default_levels());
     list.extend(layer_lists());
     list.extend(polygons());
     list.extend(coordinates());
@@ -59,11 +61,6 @@ fn levels() -> Vec<Named> {
         list.push(named(format!("level {level}, half a side"), board(level, side / 2)));
     }
     list.push(named("level 254", board(254, 16)));
-    list.push(named("level 255 is level 3", board(255, 16)));
-    list.push(named("level 255, half a side", board(255, 8)));
-    let down = |splits: &[u32]| Board { splits: splits.to_vec(), ..board(255, 32) };
-    list.push(named("level 255, three splits down", down(&[0, 1, 5])));
-    list.push(named("level 255, four splits down", down(&[0, 1, 5, 9])));
     list
 }
 

@@ -5,7 +5,7 @@ use crate::random::Random;
 use calls::limits::{
     CAP, CELL, COORDINATE, LAYER_ENTRIES, POLYGONS, RING_POINTS, R_SHEET, WIDEST_LEVEL,
 };
-use calls::record::{write_record, Board};
+use calls::record::{write_record, Board, MEANS_DEFAULT};
 use calls::strips::TickPoint;
 
 /// Where the length stands, which says how many bytes follow it.
@@ -270,7 +270,7 @@ fn joined(parts: &[&Vec<Field>]) -> Vec<u8> {
 pub fn random_record(random: &mut Random) -> Vec<u8> {
     let mut board = random_board_in_range(random);
     if random.one_in(10) {
-        board.max_level = 255;
+        board.max_level = MEANS_DEFAULT;
     }
     let mut record = write_record(&board);
     for _ in 0..random.below(3) {

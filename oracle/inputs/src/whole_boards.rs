@@ -13,7 +13,7 @@ use calls::coarsest::coarsest;
 use calls::even::Allowed;
 use calls::leafnet::{LONGEST_INPUT, SLOTS};
 use calls::limits::{CAP, CELL, WIDEST_LEVEL};
-use calls::record::{write_record, Board};
+use calls::record::{write_record, Board, DEFAULT_LEVEL, MEANS_DEFAULT};
 
 /// Splits that a record may name before the program's row is too short.
 const SPLITS: usize = 256;
@@ -27,6 +27,9 @@ pub fn random_whole_record(random: &mut Random) -> Vec<u8> {
         0..=2 => put_board_fault(&mut board, random),
         3 => return random_record(random),
         _ => {}
+    }
+    if board.max_level == DEFAULT_LEVEL && random.one_in(2) {
+        board.max_level = MEANS_DEFAULT;
     }
     let mut record = write_record(&board);
     if what == 4 {
@@ -51,7 +54,7 @@ pub fn random_split_board(random: &mut Random) -> Board {
 
 /// A few rectangles of one to three cells a side that touch, overlap or lie apart.
 fn small_board(random: &mut Random) -> Board {
-    let max_level = random.pick(&[0, 1, 2, 2, 3, 3, 4, 6, 9, WIDEST_LEVEL]);
+    let max_level = random.pick(&[0, 1, 2, 2, 3, 3, 4, 4, 6, 9, WIDEST_LEVEL]);
     let unit = 1i64 << (max_level + 1);
     let cell = unit << random.below(8);
     let mut board = Board { max_level, cap: CAP, target: cell, ..Board::default() };
@@ -243,7 +246,7 @@ pub fn longest_board() -> Board {
 
 /// Records that show one thing each, and all that comes of cutting the worked board's.
 pub fn boundary_records() -> Vec<Vec<u8>> {
-    let bare = Board { max_level: 255, cap: 1, target: 1, ..Board::default() };
+    let bare = Board { max_level: MEANS_DEFAULT, cap: 1, target: 1, ..Board::default() };
     let longest = longest_board();
     let mut too_long = longest.clone();
     too_long.splits.push(0);

@@ -2,14 +2,15 @@
 //! the program can print.
 
 use calls::build::build;
-use calls::leafnet::{leafnet, mesh, LONGEST_INPUT, ROOM, SLOTS};
+use calls::leafnet::{leafnet, mesh, printed, LONGEST_INPUT, ROOM, SLOTS};
 use calls::record::{read_record, write_record};
 use calls::table::{refine, WIDTH};
+use inputs::default_levels::default_rectangles;
 use inputs::whole_boards::{boundary_records, longest_board, random_whole_record, worked_board};
 use inputs::Random;
 use std::collections::BTreeSet;
 
-const RECORDS: usize = 2_000;
+const RECORDS: usize = 10_000;
 
 /// 7 can't come: the program's rooms have a table's shape, and build makes well-formed tables.
 const CAN_COME: [usize; 9] = [1, 2, 3, 4, 5, 6, 8, 9, 10];
@@ -32,6 +33,41 @@ fn most_random_records_are_meshed_and_all_refusals_met() {
     assert!(hanging * 2 > accepted && split * 4 > accepted, "{hanging} {split}");
     assert!(CAN_COME.iter().all(|&number| refused[number] > 0), "{refused:?}");
     assert_eq!(refused[7], 0);
+}
+
+/// Of what `default_rectangles` has and of random records: with 255 what they are with 4. With 3, which
+/// 255 meant once, base cells of half the side are taken, too, and no split is as deep; where both are
+/// taken the mesh is the same.
+#[test]
+fn level_255_is_answered_as_level_4() {
+    let mut random = Random::new(4);
+    let mut records = default_rectangles();
+    records.extend((0..RECORDS).map(|_| random_whole_record(&mut random)));
+    let (mut same, mut uneven, mut deeper) = (0, 0, 0);
+    for mut record in records.into_iter().filter(|record| record.get(5) == Some(&255)) {
+        let mut at = |level| {
+            record[5] = level;
+            mesh(&record)
+        };
+        let [answer, four, three] = [255, 4, 3].map(&mut at);
+        assert_eq!(printed(&answer), printed(&four));
+        match (&answer, &three) {
+            (Ok(_), Ok(_)) => {
+                assert_eq!(printed(&answer), printed(&three));
+                same += 1;
+            }
+            (Err(refusal), Ok(_)) => {
+                assert_eq!(refusal.number, 5);
+                uneven += 1;
+            }
+            (Ok(_), Err(refusal)) => {
+                assert_eq!(refusal.number, 10);
+                deeper += 1;
+            }
+            (Err(_), Err(_)) => {}
+        }
+    }
+    assert!(same > 100 && uneven > 100 && deeper > 20, "{same} {uneven} {deeper}");
 }
 
 #[test]
