@@ -82,7 +82,7 @@ for record in ../boards/*.record; do
     "$root/crates/leafnet/out/leafnet" <"$record" >"$folder/leafnet.txt"
     "$bin/board" net <"$record" >"$folder/board.txt"
     case $record in
-    */deep.record | */shunt.record)
+    */deep.record | */fine_neck.record | */shunt.record)
         # Past 64 slots: the status is 0, and the text says it.
         echo 'refused 6 0' | diff - "$folder/leafnet.txt"
         ;;

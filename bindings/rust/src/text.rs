@@ -422,7 +422,7 @@ impl Lines {
                     Reason::Slanted | Reason::UnevenCell => self.polygons.get(refusal.place),
                     _ => None,
                 };
-                let words = refused(board, refusal, self.level == 0);
+                let words = why_refused(board, refusal, self.level == 0);
                 match line {
                     Some(line) => format!("line {line}: {words}"),
                     None => words,
@@ -460,7 +460,7 @@ impl Lines {
 }
 
 /// Why a board is refused; of a base cell's side, what it has to be a multiple of, and which level asks it.
-pub(crate) fn refused(board: &Board, refusal: &Refusal, by_default: bool) -> String {
+pub(crate) fn why_refused(board: &Board, refusal: &Refusal, by_default: bool) -> String {
     let level = board.settings().max_level;
     let whose = if by_default { ", the default" } else { "" };
     match refusal.reason {

@@ -99,7 +99,7 @@ impl Given {
     pub fn blame(&self, why: &Unmeshed) -> String {
         match (&self.lines, why) {
             (Some(lines), _) => lines.blame(&self.board, why),
-            (None, Unmeshed::Refused(refusal)) => text::refused(&self.board, refusal, false),
+            (None, Unmeshed::Refused(refusal)) => text::why_refused(&self.board, refusal, false),
             (None, _) => why.to_string(),
         }
     }

@@ -52,13 +52,14 @@ fn a_board_without_a_level_has_the_default_one() {
     assert_eq!(again.max_level, DEFAULT_LEVEL);
     for board in [board, again] {
         let mut mesh = Mesh::of_board(&board).expect("a mesh");
-        // The root, the first of its quarters, and so on: the cells come by four.
-        let down = |level: u64| if level == 0 { 0 } else { 4 * level as usize - 3 };
-        for level in 0..DEFAULT_LEVEL {
-            assert_eq!(mesh.level(down(level)), level);
-            mesh.refine(down(level)).expect("a split");
+        // The root, the first of its quarters, and so on.
+        let down = [0, 1, 5, 9, 13];
+        for id in &down[..DEFAULT_LEVEL as usize] {
+            mesh.refine(*id).expect("a split");
         }
-        let why = mesh.refine(down(DEFAULT_LEVEL)).expect_err("the finest level");
+        let finest = down[DEFAULT_LEVEL as usize];
+        assert_eq!(mesh.level(finest), DEFAULT_LEVEL);
+        let why = mesh.refine(finest).expect_err("a split too many");
         assert_eq!(why.reason, Reason::FinestLevel);
     }
 }

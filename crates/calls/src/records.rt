@@ -30,6 +30,19 @@ fn judged(rt: HostRuntime) {
 }
 
 #[test]
+fn a_level_by_default(rt: HostRuntime) {
+    let mut record = SQUARE;
+    record[5] = 255;
+    let settings = Settings {
+        level: 4,
+        ..FOUND.settings
+    };
+    assert_eq!(rt; check(&record), Ok(Read { settings, ..FOUND }));
+    record[5] = 254;
+    assert_eq!(rt; check(&record), Err(Refusal::OutOfRange(5)));
+}
+
+#[test]
 fn read_and_written(rt: HostRuntime) {
     let mut polygons = [[9; 3]; 2];
     let mut sheets = [9.0; 1];

@@ -7,7 +7,7 @@ use calls::record::{write_record, Board, DEFAULT_LEVEL, MEANS_DEFAULT};
 type Named = (String, Vec<u8>);
 
 /// What 255 meant once, what it means, one more; and 255.
-pub const LEVELS: [u64; 4] = [DEFAULT_LEVEL - 1, DEFAULT_LEVEL, DEFAULT_LEVEL + 1, MEANS_DEFAULT];
+const LEVELS: [u64; 4] = [DEFAULT_LEVEL - 1, DEFAULT_LEVEL, DEFAULT_LEVEL + 1, MEANS_DEFAULT];
 /// Of a base cell: what level 3 allows, what level 4 does, and what level 3 does and level 4 doesn't.
 const CELLS: [i64; 3] = [16, 32, 48];
 const SIDES: [i64; 5] = [16, 32, 48, 64, 96];
