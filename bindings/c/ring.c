@@ -88,6 +88,17 @@ int main(int argc, char **argv)
     if (!is_accepted("read", back.number, back.place)) {
         return 1;
     }
+    /* Of the default level header and library say the same. */
+    record[5] = LEAFMESH_MEANS_DEFAULT;
+    const leafmesh_read_outcome meant =
+        leafmesh_read(record, written.value, cells, 1, polygon, 1, sheet, 1, ring, POINTS, NULL, 0);
+    if (!is_accepted("read", meant.number, meant.place)) {
+        return 1;
+    }
+    if (meant.level != LEAFMESH_DEFAULT_LEVEL) {
+        fprintf(stderr, "the library's default level is %u\n", (unsigned)meant.level);
+        return 1;
+    }
     uint16_t layers[1];
     uint32_t components[1];
     uint64_t counts[1];
