@@ -1,6 +1,7 @@
 //! Records with 255 for their level, beside those with the levels next to what it means: rectangles
 //! whose base cells one level allows and the next one doesn't.
 
+use crate::limit_plans::rectangle;
 use calls::limits::CAP;
 use calls::record::{write_record, Board, DEFAULT_LEVEL, MEANS_DEFAULT};
 
@@ -57,8 +58,7 @@ fn in_cells(max_level: u64, target: i64, sides: [i64; 2], depth: usize) -> Vec<u
 /// A rectangle with such settings. It is the sides of its cells that have to fit, not its places.
 fn board(mut board: Board, [width, height]: [i64; 2], depth: usize) -> Vec<u8> {
     let [x, y] = [-7, 5];
-    let ring = [[x, y], [x + width, y], [x + width, y + height], [x, y + height]];
-    board.push_polygon(1, 0, 1.0, &ring);
+    board.push_polygon(1, 0, 1.0, &rectangle(x, y, x + width, y + height));
     board.splits = DOWN[..depth].to_vec();
     write_record(&board)
 }

@@ -43,7 +43,7 @@ fn plan() -> Plan {
     Plan { max_level: 1, cap: 256, target: SIDE as u64, ..Plan::default() }
 }
 
-fn rectangle(x0: i64, y0: i64, x1: i64, y1: i64) -> Vec<TickPoint> {
+pub(crate) fn rectangle(x0: i64, y0: i64, x1: i64, y1: i64) -> Vec<TickPoint> {
     vec![[x0, y0], [x1, y0], [x1, y1], [x0, y1]]
 }
 
