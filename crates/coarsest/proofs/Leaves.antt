@@ -10,7 +10,7 @@ whole-unsplit : (t : List Cell) (r : ℕ) (p : Route) (i : ℕ) → find t r p �
 unfolding splitting
 whole-unsplit t r p i f k = rw (f, k) refl
 
-stands-same : (S T : Splitting) (r : ℕ) (p : Route) → ((q : Route) → S r q ≡ T r q) → Stands S r p → Stands T r p
+pub stands-same : (S T : Splitting) (r : ℕ) (p : Route) → ((q : Route) → S r q ≡ T r q) → Stands S r p → Stands T r p
 stands-same S T r [] e s = tt
 stands-same S T r (q ∷ p) e s = sym (e p) ∙ s
 

@@ -18,3 +18,4 @@ pub mod Room
 pub mod Sides
 pub mod Settled
 pub mod Leaves
+pub mod InTurn

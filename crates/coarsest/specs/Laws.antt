@@ -1,12 +1,14 @@
 -- The laws of the passes, for both engines and every allowed difference k of levels. crates/coarsest/src/laws.rt
 -- promises each.
-use Rattle.std.specs.Prelude.{ℕ, ◌+◌, ◌*◌, ◌<◌, ◌≡◌, ◌↔◌, ◌||◌, false, List, length}
+use Rattle.std.specs.Prelude.{ℕ, ◌+◌, ◌*◌, ◌<◌, ◌≡◌, ◌↔◌, ◌||◌, ◌⊎◌, true, false, List}
+use Rattle.std.specs.Prelude.{length, Contains}
 use Rattle.cell.specs.Boxes.{Box}
 use Rattle.table.specs.Mesh.{Cell, leaf_count}
 use Rattle.table.specs.Formed.{Formed}
 use Rattle.coarsest.specs.declared.Engine.{Engine}
 use Rattle.coarsest.specs.Passes.{is_due, pass, evened}
 use Rattle.coarsest.specs.Names.{Route, Splitting, ◌⊆◌, Coarsest, HasLeaf, Needs, roots_of, splitting}
+use Rattle.coarsest.specs.InTurn.{Name, EachInTurn, SameLeaves, split_in_turn}
 
 -- the passes end in the coarsest splitting that keeps the table's splits
 abbrev pub CoarsestIsReached : Type 0
@@ -57,6 +59,24 @@ PartsEndTheSame =
     → splitting t ⊆ splitting u
     → ((r : ℕ) (p : Route) → splitting w r p ≡ (splitting (evened e k M t) r p || splitting u r p))
     → (r : ℕ) (p : Route) → splitting (evened e k M u) r p ≡ splitting (evened e k M w) r p
+
+-- a list split in turn, each split possible or passed over, makes a well-formed table of the same roots, which splits what
+-- was split and the listed cells, and no more
+abbrev pub ListIsSplit : Type 0
+ListIsSplit =
+    (M : ℕ) (t : List Cell) (names : List Name) → Formed M t → EachInTurn M t names
+    → Formed M (split_in_turn t names) × SameRoots (split_in_turn t names) t
+    × ((r : ℕ) (p : Route)
+    → (splitting (split_in_turn t names) r p ≡ true)
+    ↔ ((splitting t r p ≡ true) ⊎ Contains names (record { root = r; route = p })))
+
+-- to even a table out, to split a list more and to even it out again ends in the same leaves as to split the list first
+-- and to even it out once. A split that is possible at first or passed over is so the second time, too
+abbrev pub LaterSplitsEndTheSame : Type 0
+LaterSplitsEndTheSame =
+    (e : Engine) (k M : ℕ) (t : List Cell) (names : List Name) → Formed M t → EachInTurn M t names
+    → EachInTurn M (evened e k M t) names
+    × SameLeaves (evened e k M (split_in_turn (evened e k M t) names)) (evened e k M (split_in_turn t names))
 
 -- the coarsest splitting has as many cells as the passes end in, and no other number of them
 abbrev pub NeedsTheCellsReached : Type 0

@@ -2,4 +2,5 @@
 pub mod Passes
 pub mod Sweep
 pub mod Names
+pub mod InTurn
 pub mod Laws

@@ -1,7 +1,7 @@
 //! The laws of the passes: each function ensures one of them, for every table, and does nothing.
 ghost use Rattle.coarsest.specs.Laws.{CoarsestIsReached, CoarsestIsOne, PassesEnd, StaysFormed, KeepsRoots};
 ghost use Rattle.coarsest.specs.Laws.{SplittingTellsLeaves, MoreSplitsEndFiner, PartsEndTheSame, NeedsTheCellsReached};
-ghost use Rattle.coarsest.specs.Laws.{EveningAddsThree, PassSettles};
+ghost use Rattle.coarsest.specs.Laws.{EveningAddsThree, PassSettles, ListIsSplit, LaterSplitsEndTheSame};
 
 /// What the passes end in is the coarsest splitting that they may end in.
 pub fn coarsest_is_reached()
@@ -41,6 +41,16 @@ pub fn more_splits_end_finer()
 /// A table may be evened out before it is split further: the end is the same.
 pub fn parts_end_the_same()
     ensures { PartsEndTheSame }
+{}
+
+/// What a list of cells split in turn makes of a table: the listed cells are split beside those that were, and no other.
+pub fn list_is_split()
+    ensures { ListIsSplit }
+{}
+
+/// Marks that come later end in the same leaves as marks that were there at first.
+pub fn later_splits_end_the_same()
+    ensures { LaterSplitsEndTheSame }
 {}
 
 /// How many cells the coarsest splitting has: as many as the passes end in, and no other number.
