@@ -41,10 +41,10 @@ named-at : (t : List Cell) (n : Name) (i : ℕ) → find t n.root n.route ≡ So
 unfolding split_named
 named-at t n i f = rw f refl
 
-whole-split : (t : List Cell) (n : Name) (i : ℕ) → find t n.root n.route ≡ Some i → (at t i).kids ≡ None → split_named t n ≡ split t i
+pub whole-split : (t : List Cell) (n : Name) (i : ℕ) → find t n.root n.route ≡ Some i → (at t i).kids ≡ None → split_named t n ≡ split t i
 whole-split t n i f k = named-at t n i f ∙ ap (λ (o : Option ℕ). split_if (is_none o) t i) k
 
-passed-kept : (t : List Cell) (n : Name) → PassedOver t n → split_named t n ≡ t
+pub passed-kept : (t : List Cell) (n : Name) → PassedOver t n → split_named t n ≡ t
 passed-kept t n s =
     let d = at_split t n.root n.route s in
     named-at t n d.id d.found ∙ ap (λ (o : Option ℕ). split_if (is_none o) t d.id) d.kids

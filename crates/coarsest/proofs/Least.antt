@@ -20,7 +20,7 @@ pub record Due (k : ℕ) (t : List Cell) (f c : ℕ) : Type 0 where
   pub apart : (at t c).level + k < (at t f).level
   pub shares : shares_edge (at t f).box (at t c).box ≡ true
 
-is-none : (o : Option ℕ) → is_none o ≡ true → o ≡ None
+pub is-none : (o : Option ℕ) → is_none o ≡ true → o ≡ None
 is-none None e = refl
 is-none (Some f) e = let z : ◌≡◌ {A = ℕ} 0 1 = cc in absurd (omega arith)
 

@@ -9,3 +9,4 @@ pub mod Passing
 pub mod Watching
 pub mod Ending
 pub mod One
+pub mod Later

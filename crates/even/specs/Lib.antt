@@ -4,4 +4,5 @@ pub mod Undo
 pub mod Makes
 pub mod Watch
 pub mod Even
+pub mod Later
 pub mod Laws

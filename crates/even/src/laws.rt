@@ -1,5 +1,6 @@
 //! The laws of balance and conform: each function ensures one of them, and does nothing.
 ghost use Rattle.even.specs.Laws.{BalanceEvens, ConformEvens, OneEvening};
+ghost use Rattle.even.specs.Later.{MoreSplitsFinerMesh, LaterSplitsSameMesh};
 
 /// What balance makes of any well-formed table.
 pub fn balance_evens()
@@ -14,4 +15,14 @@ pub fn conform_evens()
 /// The contracts of `balance` and `conform` permit one answer each.
 pub fn one_evening()
     ensures { OneEvening }
+{}
+
+/// More marks, finer mesh: of two calls that were accepted.
+pub fn more_splits_finer_mesh()
+    ensures { MoreSplitsFinerMesh }
+{}
+
+/// Marks that come later: evening, splitting more and evening again leaves what splitting all and evening once does.
+pub fn later_splits_same_mesh()
+    ensures { LaterSplitsSameMesh }
 {}

@@ -1,0 +1,268 @@
+-- Several calls, one after the other, by what their contracts say of each: the same splitting whether marks come at once or later. Assumes nothing.
+use Rattle.std.proofs.Common.{◌≡◌, refl, sym, ap, ap₂, ◌∙◌, subst, Bool, true, false, cond, ◌⊎◌, ⊎_elim, inl, inr, List, [], ◌∷◌, ℕ, ◌+◌, ◌*◌, arith, ◌/◌, leb, ltb, length, ℤ, Contains, subst₂, Some, le_antisymm}
+use mathlib.Core.Path.{fun_ext}
+use Rattle.refusals.specs.Said.{accepted, refusal, is_accepted}
+use Rattle.refusals.specs.declared.Refusal.TheVariants.{BadTable, NoSuchCell, AlreadySplit, FinestLevel, NoRoom}
+use Rattle.table.specs.declared.Head.{Head}
+use Rattle.table.specs.Mesh.{Cell, at, is_leaf, table}
+use Rattle.table.specs.Formed.{Formed, well_formed}
+use Rattle.table.specs.Rows.{IsTable, cells_in, head_values, head_of, after_split}
+use Rattle.table.specs.Refine.{refine_says, split_row}
+use Rattle.table.proofs.Cells.{length-table}
+use Rattle.table.proofs.Refining.{accepted-facts, refine-values, refined-cells}
+use Rattle.table.proofs.Wellformed.{formed-facts}
+use Rattle.coarsest.specs.declared.Engine.{Engine}
+use Rattle.coarsest.specs.Passes.{difference}
+use Rattle.coarsest.specs.Names.{Roots, Splitting, Coarsest, Evens, Route, HasCells, find, roots_of, splitting}
+use Rattle.coarsest.specs.InTurn.{Name, Possible, EachInTurn, split_named, split_in_turn}
+use Rattle.coarsest.specs.InTurn.{PassedOver as PassesOver}
+use Rattle.coarsest.specs.Laws.{SameRoots}
+use Rattle.coarsest.proofs.Least.{is-none}
+use Rattle.coarsest.proofs.InTurn.{whole-split, passed-kept, Adds, list-adds, leaves-same}
+use Rattle.coarsest.proofs.Forced.{coarsest-grows, coarsest-parts}
+use Rattle.coarsest.proofs.Count.{cells-fewer}
+use Rattle.coarsest.proofs.Numbered.{formed-cells}
+use Rattle.even.specs.Even.{even_says, even_cells, even_head, even_splits}
+use Rattle.even.specs.Later.{Lent, cells_of, Evened, Refined, PassedOver, RefinedInTurn, SameMesh, MoreSplitsFinerMesh}
+
+-- cells and leaves grow together: four cells, three leaves
+abbrev Grows : Head → Head → Type 0
+Grows g h = 4 * h.leaves + 3 * g.count ≡ 4 * g.leaves + 3 * h.count
+
+-- ---- an evening that was accepted
+
+record Accepted (row : List ℤ) (head h : Head) : Type 0 where
+  formed : IsTable row head
+  max_level : h.max_level ≡ head.max_level
+
+accepted-even : (e : Engine) (row : List ℤ) (head h : Head) (splits : ℕ) → even_says e row head ≡ accepted (splits ∷ head_values h) → Accepted row head h
+unfolding even_says
+accepted-even e row head h splits says = by (well_formed row head) (leb (length (even_cells e row head)) (length row / 8)) refl says
+  where
+    by : (a b : Bool) → well_formed row head ≡ a
+        → cond a (cond b (accepted (even_splits e row head ∷ head_values (even_head e row head))) (refusal NoRoom)) (refusal BadTable)
+        ≡ accepted (splits ∷ head_values h)
+        → Accepted row head h
+    by true true a says = record { formed = a; max_level = cc }
+    by true false a says = let z : ◌≡◌ {A = ℕ} 0 1 = cc in absurd (omega arith)
+    by false b a says = let z : ◌≡◌ {A = ℕ} 0 1 = cc in absurd (omega arith)
+
+record Evening (e : Engine) (before after : Lent) : Type 0 where
+  formed : Formed before.head.max_level (cells_of before)
+  max_level : after.head.max_level ≡ before.head.max_level
+  evens : Evens (difference e) before.head.max_level (cells_of before) (cells_of after)
+  grows : Grows before.head after.head
+
+evening : (e : Engine) (before after : Lent) → Evened e before after → Evening e before after
+evening e before after w =
+    let a = accepted-even e before.row before.head after.head w.splits w.room_enough in
+    let d = w.coarsest.done w.splits after.head.count after.head.leaves
+    (w.room_enough ∙ ap (λ (m : ℕ). accepted (w.splits ∷ after.head.count ∷ after.head.leaves ∷ m ∷ [])) a.max_level) in
+    let cells = d.1 in
+    let leaves = d.2 in
+    record {
+      formed = (formed-facts before.row before.head a.formed).cells;
+      max_level = a.max_level;
+      evens = d.0;
+      grows = omega arith;
+    }
+
+-- ---- a list split in turn by refine
+
+record InTurn (names : List Name) (before after : Lent) : Type 0 where
+  each : EachInTurn before.head.max_level (cells_of before) names
+  cells : cells_of after ≡ split_in_turn (cells_of before) names
+  max_level : after.head.max_level ≡ before.head.max_level
+  grows : Grows before.head after.head
+
+record OneInTurn (n : Name) (before after : Lent) : Type 0 where
+  possible : Possible before.head.max_level (cells_of before) n ⊎ PassesOver (cells_of before) n
+  cells : cells_of after ≡ split_named (cells_of before) n
+  max_level : after.head.max_level ≡ before.head.max_level
+  grows : Grows before.head after.head
+
+head-same : (g h : Head) → g.count ≡ h.count → g.leaves ≡ h.leaves → g.max_level ≡ h.max_level → g ≡ h
+head-same g h c l m = ap₂ (λ (x y : ℕ). head_of x y g.max_level) c l ∙ ap (head_of h.count h.leaves) m
+
+values-same : (g h : Head) → accepted (head_values g) ≡ accepted (head_values h) → g ≡ h
+values-same g h e = head-same g h (cc) (cc) (cc)
+
+refined-one : (n : Name) (before after : Lent) → Refined n before after → OneInTurn n before after
+refined-one n before after w =
+    let ok : is_accepted (refine_says before.row before.head w.id) ≡ true = ap is_accepted w.possible in
+    let f = accepted-facts before.row before.head w.id ok in
+    let h : after.head ≡ after_split before.head = values-same _ _ (sym w.possible ∙ refine-values before.row before.head w.id ok) in
+    let whole = is-none _ f.leaf in
+    let row : after.row ≡ split_row before.row before.head.count w.id = w.row_after ∙ ap (λ (b : Bool). cond b (split_row before.row before.head.count w.id) before.row) ok in
+    record {
+      possible = inl (record { id = w.id; named = w.named; whole = whole; finer = f.finer });
+      cells = ap₂ table row (ap (λ (x : Head). x.count) h) ∙ refined-cells before.row before.head w.id f ∙ sym (whole-split (cells_of before) n w.id w.named whole);
+      max_level = ap (λ (x : Head). x.max_level) h;
+      grows = rw h (omega arith);
+    }
+
+passed-split : (row : List ℤ) (head : Head) (id : ℕ) → refine_says row head id ≡ refusal (AlreadySplit id) → is_leaf (cells_in row head) id ≡ false
+passed-split row head id says =
+    by (well_formed row head) (ltb id head.count) (is_leaf (cells_in row head) id) (ltb (at (cells_in row head) id).level head.max_level)
+    (leb (head.count + 4) (length row / 8)) refl says
+  where
+    by : (a b c d f : Bool) → is_leaf (cells_in row head) id ≡ c
+        → cond a (cond b (cond c (cond d (cond f (accepted (head_values (after_split head))) (refusal NoRoom)) (refusal (FinestLevel id)))
+        (refusal (AlreadySplit id))) (refusal (NoSuchCell id))) (refusal BadTable) ≡ refusal (AlreadySplit id)
+        → is_leaf (cells_in row head) id ≡ false
+    by true true false d f c says = c
+    by true true true true true c says = let z : ◌≡◌ {A = ℕ} 0 1 = cc in absurd (omega arith)
+    by true true true true false c says = let z : ◌≡◌ {A = ℕ} 6 9 = cc in absurd (omega arith)
+    by true true true false f c says = let z : ◌≡◌ {A = ℕ} 10 9 = cc in absurd (omega arith)
+    by true false c' d f c says = let z : ◌≡◌ {A = ℕ} 8 9 = cc in absurd (omega arith)
+    by false b c' d f c says = let z : ◌≡◌ {A = ℕ} 7 9 = cc in absurd (omega arith)
+
+found-split : (t : List Cell) (n : Name) (id : ℕ) → find t n.root n.route ≡ Some id → is_leaf t id ≡ false → PassesOver t n
+unfolding splitting
+found-split t n id f s = rw (f, s) refl
+
+passed-one : (n : Name) (before after : Lent) → PassedOver n before after → OneInTurn n before after
+passed-one n before after w =
+    let over = found-split (cells_of before) n w.id w.named (passed-split before.row before.head w.id w.passed_over) in
+    let same = w.unchanged in
+    record {
+      possible = inr over;
+      cells = ap cells_of same ∙ sym (passed-kept (cells_of before) n over);
+      max_level = ap (λ (t : Lent). t.head.max_level) same;
+      grows = rw same (omega arith);
+    }
+
+in-turn : (names : List Name) (before after : Lent) → RefinedInTurn names before after → InTurn names before after
+unfolding split_in_turn
+in-turn [] before after same =
+    record { each = tt; cells = ap cells_of same; max_level = ap (λ (t : Lent). t.head.max_level) same; grows = rw same (omega arith) }
+in-turn (n ∷ ns) before after w =
+    let next = w.0 in
+    let one = ⊎_elim (refined-one n before next) (passed-one n before next) w.1 in
+    let rest = in-turn ns next after w.2 in
+    let g = one.grows in
+    let h = rest.grows in
+    record {
+      each = (one.possible, subst₂ (λ (m : ℕ) (t : List Cell). EachInTurn m t ns) one.max_level one.cells rest.each);
+      cells = rest.cells ∙ ap (λ (t : List Cell). split_in_turn t ns) one.cells;
+      max_level = rest.max_level ∙ one.max_level;
+      grows = omega arith;
+    }
+
+-- ---- more marks, finer mesh
+
+coarsest-at : (k M m : ℕ) (R Q : Roots) (T C : Splitting) → M ≡ m → ((r : ℕ) → R r ≡ Q r) → Coarsest k M R T C → Coarsest k m Q T C
+coarsest-at k M m R Q T C e roots c = subst₂ (λ (x : ℕ) (y : Roots). Coarsest k x y T C) e (fun_ext roots) c
+
+pub finer-mesh : MoreSplitsFinerMesh
+finer-mesh e few more few' more' roots level splits w v =
+    let a = evening e few few' w in
+    let b = evening e more more' v in
+    coarsest-grows (difference e) more.head.max_level (roots_of (cells_of more)) (splitting (cells_of few)) (splitting (cells_of more))
+    (splitting (cells_of few')) (splitting (cells_of more'))
+    (coarsest-at (difference e) few.head.max_level more.head.max_level (roots_of (cells_of few)) (roots_of (cells_of more)) (splitting (cells_of few))
+    (splitting (cells_of few')) level roots a.evens.coarsest)
+    b.evens.coarsest splits
+
+-- ---- marks that come later
+
+-- two tables of the same roots and the same splitting have as many cells
+as-many : (M : ℕ) (t u : List Cell) → Formed M t → Formed M u → SameRoots t u → ((r : ℕ) (p : Route) → splitting t r p ≡ splitting u r p) → length t ≡ length u
+as-many M t u ft fu roots same =
+    let a : HasCells (roots_of u) (splitting t) (length t) = subst (λ (R : Roots). HasCells R (splitting t) (length t)) (fun_ext roots) (formed-cells M t ft) in
+    let b = formed-cells M u fu in
+    le_antisymm
+    (cells-fewer (roots_of u) (splitting t) (splitting u) (length t) (length u) (λ r p e. sym (same r p) ∙ e) a b)
+    (cells-fewer (roots_of u) (splitting u) (splitting t) (length u) (length t) (λ r p e. same r p ∙ e) b a)
+
+module _ (e : Engine) (names : List Name) (start evened later parts first once : Lent)
+    (w1 : Evened e start evened) (w2 : RefinedInTurn names evened later) (w3 : Evened e later parts)
+    (w4 : RefinedInTurn names start first) (w5 : Evened e first once) where
+  abbrev k : ℕ
+  k = difference e
+
+  abbrev M : ℕ
+  M = start.head.max_level
+
+  abbrev L : ℕ → Route → Type 0
+  L r p = Contains names (record { root = r; route = p })
+
+  evening1 : Evening e start evened
+  evening1 = evening e start evened w1
+
+  turn2 : InTurn names evened later
+  turn2 = in-turn names evened later w2
+
+  evening3 : Evening e later parts
+  evening3 = evening e later parts w3
+
+  turn4 : InTurn names start first
+  turn4 = in-turn names start first w4
+
+  evening5 : Evening e first once
+  evening5 = evening e first once w5
+
+  level-later : later.head.max_level ≡ M
+  level-later = turn2.max_level ∙ evening1.max_level
+
+  -- what the two lists of splits make of the two tables
+  adds-later : Adds M (cells_of evened) (cells_of later) L
+  adds-later =
+      rw turn2.cells
+      (list-adds M names (cells_of evened) evening1.evens.formed (subst (λ (m : ℕ). EachInTurn m (cells_of evened) names) evening1.max_level turn2.each))
+
+  adds-first : Adds M (cells_of start) (cells_of first) L
+  adds-first = rw turn4.cells (list-adds M names (cells_of start) evening1.formed turn4.each)
+
+  -- the roots of every table on the way are those of the second, split first
+  roots-start : SameRoots (cells_of start) (cells_of first)
+  roots-start r = sym (adds-first.roots r)
+
+  roots-later : SameRoots (cells_of later) (cells_of first)
+  roots-later r = adds-later.roots r ∙ evening1.evens.roots r ∙ roots-start r
+
+  roots-ends : SameRoots (cells_of parts) (cells_of once)
+  roots-ends r = evening3.evens.roots r ∙ roots-later r ∙ sym (evening5.evens.roots r)
+
+  same-splits : (r : ℕ) (p : Route) → splitting (cells_of once) r p ≡ splitting (cells_of parts) r p
+  same-splits =
+      coarsest-parts k M (roots_of (cells_of first)) (splitting (cells_of start)) (splitting (cells_of first)) (splitting (cells_of evened))
+      (splitting (cells_of later)) (splitting (cells_of once)) (splitting (cells_of parts))
+      (coarsest-at k M M _ _ _ _ refl roots-start evening1.evens.coarsest)
+      (coarsest-at k first.head.max_level M _ _ _ _ turn4.max_level (λ r. refl) evening5.evens.coarsest)
+      (coarsest-at k later.head.max_level M _ _ _ _ level-later roots-later evening3.evens.coarsest)
+      adds-first.keeps
+      (λ r p s. ⊎_elim (λ o. adds-later.keeps r p (evening1.evens.coarsest.keeps r p o)) (adds-later.adds r p) (adds-first.back r p s))
+      (λ S f g r p s. ⊎_elim (f r p) (λ i. g r p (adds-first.adds r p i)) (adds-later.back r p s))
+
+  level-once : once.head.max_level ≡ M
+  level-once = evening5.max_level ∙ turn4.max_level
+
+  level-parts : parts.head.max_level ≡ M
+  level-parts = evening3.max_level ∙ level-later
+
+  same-count : parts.head.count ≡ once.head.count
+  same-count =
+      sym (length-table parts.row parts.head.count)
+      ∙ as-many M (cells_of parts) (cells_of once)
+      (subst (λ (m : ℕ). Formed m (cells_of parts)) level-later evening3.evens.formed)
+      (subst (λ (m : ℕ). Formed m (cells_of once)) turn4.max_level evening5.evens.formed)
+      roots-ends (λ r p. sym (same-splits r p))
+      ∙ length-table once.row once.head.count
+
+  same-leaves : parts.head.leaves ≡ once.head.leaves
+  same-leaves =
+      let a = evening1.grows in
+      let b = turn2.grows in
+      let c = evening3.grows in
+      let d = turn4.grows in
+      let f = evening5.grows in
+      let n = same-count in
+      omega arith
+
+  pub ends-same : SameMesh parts once
+  ends-same =
+      record {
+        leaves = leaves-same (cells_of parts) (cells_of once) roots-ends (λ r p. sym (same-splits r p));
+        head = head-same parts.head once.head same-count same-leaves (level-parts ∙ sym level-once);
+      }
