@@ -23,6 +23,7 @@ use Rattle.coarsest.proofs.Forced.{coarsest-grows, coarsest-parts}
 use Rattle.coarsest.proofs.Count.{cells-fewer}
 use Rattle.coarsest.proofs.Numbered.{formed-cells}
 use Rattle.even.specs.Even.{even_says, even_cells, even_head, even_splits}
+use Rattle.even.proofs.Held.{definitions-agree}
 use Rattle.even.specs.Later.{Lent, cells_of, Evened, Refined, PassedOver, RefinedInTurn, SameMesh, MoreSplitsFinerMesh}
 
 -- cells and leaves grow together: four cells, three leaves
@@ -56,16 +57,19 @@ record Evening (e : Engine) (before after : Lent) : Type 0 where
 evening : (e : Engine) (before after : Lent) → Evened e before after → Evening e before after
 evening e before after w =
     let a = accepted-even e before.row before.head after.head w.splits w.room_enough in
-    let d = w.coarsest.done w.splits after.head.count after.head.leaves
-    (w.room_enough ∙ ap (λ (m : ℕ). accepted (w.splits ∷ after.head.count ∷ after.head.leaves ∷ m ∷ [])) a.max_level) in
+    let says = w.room_enough ∙ ap (λ (m : ℕ). accepted (w.splits ∷ after.head.count ∷ after.head.leaves ∷ m ∷ [])) a.max_level in
+    let d = (definitions-agree e before.head before.row).done w.splits after.head.count after.head.leaves says in
     let cells = d.1 in
     let leaves = d.2 in
     record {
       formed = (formed-facts before.row before.head a.formed).cells;
       max_level = a.max_level;
-      evens = d.0;
+      evens = rw w.row_after d.0;
       grows = omega arith;
     }
+
+pub evening-formed : (e : Engine) (before after : Lent) → Evened e before after → Formed before.head.max_level (cells_of before)
+evening-formed e before after w = (evening e before after w).formed
 
 -- ---- a list split in turn by refine
 
@@ -149,6 +153,13 @@ in-turn (n ∷ ns) before after w =
       grows = omega arith;
     }
 
+-- what the list makes of the table
+pub turn-adds : (names : List Name) (before after : Lent) → Formed before.head.max_level (cells_of before) → RefinedInTurn names before after
+    → Adds before.head.max_level (cells_of before) (cells_of after) (λ r p. Contains names (record { root = r; route = p }))
+turn-adds names before after formed w =
+    let t = in-turn names before after w in
+    rw t.cells (list-adds before.head.max_level names (cells_of before) formed t.each)
+
 -- ---- more marks, finer mesh
 
 coarsest-at : (k M m : ℕ) (R Q : Roots) (T C : Splitting) → M ≡ m → ((r : ℕ) → R r ≡ Q r) → Coarsest k M R T C → Coarsest k m Q T C
@@ -205,14 +216,14 @@ module _ (e : Engine) (names : List Name) (start evened later parts first once :
   level-later : later.head.max_level ≡ M
   level-later = turn2.max_level ∙ evening1.max_level
 
-  -- what the two lists of splits make of the two tables
+  -- what the list makes of the two tables
   adds-later : Adds M (cells_of evened) (cells_of later) L
   adds-later =
-      rw turn2.cells
-      (list-adds M names (cells_of evened) evening1.evens.formed (subst (λ (m : ℕ). EachInTurn m (cells_of evened) names) evening1.max_level turn2.each))
+      subst (λ (m : ℕ). Adds m (cells_of evened) (cells_of later) L) evening1.max_level
+      (turn-adds names evened later (subst (λ (m : ℕ). Formed m (cells_of evened)) (sym evening1.max_level) evening1.evens.formed) w2)
 
   adds-first : Adds M (cells_of start) (cells_of first) L
-  adds-first = rw turn4.cells (list-adds M names (cells_of start) evening1.formed turn4.each)
+  adds-first = turn-adds names start first evening1.formed w4
 
   -- the roots of every table on the way are those of the second, split first
   roots-start : SameRoots (cells_of start) (cells_of first)

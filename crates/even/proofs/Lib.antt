@@ -10,3 +10,5 @@ pub mod Watching
 pub mod Ending
 pub mod One
 pub mod Later
+pub mod LaterBoard
+pub mod Held

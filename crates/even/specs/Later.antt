@@ -10,7 +10,7 @@ use Rattle.coarsest.specs.declared.Engine.{Engine}
 use Rattle.coarsest.specs.Names.{◌⊆◌, find, splitting}
 use Rattle.coarsest.specs.InTurn.{Name, SameLeaves}
 use Rattle.coarsest.specs.Laws.{SameRoots}
-use Rattle.even.specs.Even.{even_says, even_row, EndsCoarsest}
+use Rattle.even.specs.Even.{even_says, even_row}
 
 -- a row and its head, as a caller lends them
 pub record Lent : Type 0 where
@@ -26,7 +26,6 @@ pub record Evened (e : Engine) (before after : Lent) : Type 0 where
   pub splits : ℕ
   pub room_enough : even_says e before.row before.head ≡ accepted (splits ∷ head_values after.head)
   pub row_after : after.row ≡ even_row e before.row before.head
-  pub coarsest : EndsCoarsest e before.head before.row after.row (even_says e before.row before.head)
 
 -- refine was called for the cell of a name, and split it: what its contract says of an accepted call
 pub record Refined (name : Name) (before after : Lent) : Type 0 where

@@ -5,4 +5,5 @@ pub mod Makes
 pub mod Watch
 pub mod Even
 pub mod Later
+pub mod LaterBoard
 pub mod Laws
