@@ -21,7 +21,7 @@ use Rattle.coarsest.proofs.Leaves.{stands-same}
 use Rattle.coarsest.proofs.Evened.{evened-formed, evened-roots, evened-coarsest}
 use Rattle.coarsest.proofs.Ends.{evened-parts}
 
-abbrev name_of : ℕ → Route → Name
+abbrev pub name_of : ℕ → Route → Name
 name_of r p = record { root = r; route = p }
 
 -- the table u, of t's roots, splits what t does and what L has
@@ -80,7 +80,7 @@ module _ (M : ℕ) (t : List Cell) (formed : Formed M t) (n : Name) where
         back = λ r q e. inl e;
       })
 
-  one-adds : Possible M t n ⊎ PassedOver t n → Adds M t (split_named t n) (Is n)
+  pub one-adds : Possible M t n ⊎ PassedOver t n → Adds M t (split_named t n) (Is n)
   one-adds = ⊎_elim possible-adds passed-adds
 
 -- ---- a list
@@ -194,7 +194,7 @@ list-split M t names formed each =
     (a.formed, a.roots, λ r p. (a.back r p, ⊎_elim (a.keeps r p) (a.adds r p)))
 
 module _ (e : Engine) (k M : ℕ) (t : List Cell) (names : List Name) (formed : Formed M t) (each : EachInTurn M t names) where
-  later-each : EachInTurn M (evened e k M t) names
+  pub later-each : EachInTurn M (evened e k M t) names
   later-each =
       list-stays M names t (evened e k M t)
       (record {

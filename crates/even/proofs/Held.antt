@@ -1,11 +1,10 @@
 -- What the definition of the row by the passes holds: a table, of the cells that the passes end in. So the definition by the passes and the one by names say
 -- the same of every row. Assumes nothing.
-use Rattle.std.proofs.Common.{◌≡◌, refl, sym, ap, ap₂, subst, ◌∙◌, Bool, true, false, None, List, ℕ, ◌+◌, ◌<◌, ◌≤◌, ◌/◌, arith, leb, leb-true, leb-false, true≢false, length, ℤ, is_none}
-use Rattle.refusals.specs.Said.{accepted, refused}
+use Rattle.std.proofs.Common.{◌≡◌, refl, sym, ap, ap₂, subst, subst₂, ◌∙◌, Bool, true, false, None, List, ℕ, ◌<◌, ◌≤◌, ◌/◌, arith, leb, leb-true, leb-false, true≢false, length, ℤ, is_none}
 use Rattle.table.specs.declared.Head.{Head}
 use Rattle.table.specs.Mesh.{Cell, at, split, leaf_count, table}
-use Rattle.table.specs.Formed.{Formed, WellFormed, well_formed}
-use Rattle.table.specs.Rows.{IsTable, cells_in, after_split}
+use Rattle.table.specs.Formed.{Formed, well_formed}
+use Rattle.table.specs.Rows.{IsTable, cells_in, head_of, after_split}
 use Rattle.table.specs.Refine.{split_row}
 use Rattle.table.proofs.Cells.{length-table}
 use Rattle.table.proofs.Meshes.{length-split}
@@ -21,6 +20,9 @@ use Rattle.even.specs.Rows.{row_of}
 use Rattle.even.specs.Even.{even_cells, even_head, even_says, even_row, EndsCoarsest}
 use Rattle.even.proofs.Rowing.{row_is}
 use Rattle.even.proofs.Ending.{ends-done, ends-full, ends-bad}
+
+pub head-same : (g h : Head) → g.count ≡ h.count → g.leaves ≡ h.leaves → g.max_level ≡ h.max_level → g ≡ h
+head-same g h c l m = ap₂ (λ (x y : ℕ). head_of x y g.max_level) c l ∙ ap (head_of h.count h.leaves) m
 
 module _ (row : List ℤ) (head : Head) (is-table : IsTable row head) where
   -- a row as long holds these cells
@@ -83,6 +85,17 @@ module _ (row : List ℤ) (head : Head) (is-table : IsTable row head) where
     pub cells-held : table (row_of (even_cells e row head) (length row)) (length (even_cells e row head)) ≡ even_cells e row head
     cells-held =
         ap₂ table row-held (ap length (sym ends-held.cells) ∙ length-table ends-held.row_now ends-held.head_now.count) ∙ ends-held.cells
+
+    pub table-held : IsTable (row_of (even_cells e row head) (length row)) (even_head e row head)
+    table-held =
+        let w = formed-facts ends-held.row_now ends-held.head_now ends-held.formed in
+        let count : ends-held.head_now.count ≡ length (even_cells e row head) =
+        sym (length-table ends-held.row_now ends-held.head_now.count) ∙ ap length ends-held.cells in
+        subst₂ IsTable (sym row-held) (head-same ends-held.head_now (even_head e row head) count (w.leaves ∙ ap leaf_count ends-held.cells) ends-held.max_level)
+        ends-held.formed
+
+    pub long-held : length (row_of (even_cells e row head) (length row)) ≡ length row
+    long-held = ap length row-held ∙ ends-held.as_long
 
 -- both definitions of an evening, of every row
 pub definitions-agree : (e : Engine) (head : Head) (row : List ℤ) → EndsCoarsest e head row (even_row e row head) (even_says e row head)

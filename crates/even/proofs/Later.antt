@@ -1,19 +1,19 @@
 -- Several calls, one after the other, by what their contracts say of each: the same splitting whether marks come at once or later. Assumes nothing.
-use Rattle.std.proofs.Common.{◌≡◌, refl, sym, ap, ap₂, ◌∙◌, subst, Bool, true, false, cond, ◌⊎◌, ⊎_elim, inl, inr, List, [], ◌∷◌, ℕ, ◌+◌, ◌*◌, arith, ◌/◌, leb, ltb, length, ℤ, Contains, subst₂, Some, le_antisymm}
+use Rattle.std.proofs.Common.{◌≡◌, refl, sym, ap, ap₂, ◌∙◌, subst, Bool, true, false, cond, ◌⊎◌, ⊎_elim, inl, inr, List, [], ◌∷◌, ℕ, ◌+◌, ◌*◌, arith, ◌/◌, leb, leb-true, ltb, ◌≤◌, length, ℤ, Contains, subst₂, Some, le_antisymm}
 use mathlib.Core.Path.{fun_ext}
 use Rattle.refusals.specs.Said.{accepted, refusal, is_accepted}
 use Rattle.refusals.specs.declared.Refusal.TheVariants.{BadTable, NoSuchCell, AlreadySplit, FinestLevel, NoRoom}
 use Rattle.table.specs.declared.Head.{Head}
 use Rattle.table.specs.Mesh.{Cell, at, is_leaf, table}
 use Rattle.table.specs.Formed.{Formed, well_formed}
-use Rattle.table.specs.Rows.{IsTable, cells_in, head_values, head_of, after_split}
+use Rattle.table.specs.Rows.{IsTable, cells_in, head_values, after_split}
 use Rattle.table.specs.Refine.{refine_says, split_row}
 use Rattle.table.proofs.Cells.{length-table}
 use Rattle.table.proofs.Refining.{accepted-facts, refine-values, refined-cells}
 use Rattle.table.proofs.Wellformed.{formed-facts}
 use Rattle.coarsest.specs.declared.Engine.{Engine}
 use Rattle.coarsest.specs.Passes.{difference}
-use Rattle.coarsest.specs.Names.{Roots, Splitting, Coarsest, Evens, Route, HasCells, find, roots_of, splitting}
+use Rattle.coarsest.specs.Names.{◌⊆◌, Roots, Splitting, Coarsest, Evens, Route, HasCells, find, roots_of, splitting}
 use Rattle.coarsest.specs.InTurn.{Name, Possible, EachInTurn, split_named, split_in_turn}
 use Rattle.coarsest.specs.InTurn.{PassedOver as PassesOver}
 use Rattle.coarsest.specs.Laws.{SameRoots}
@@ -23,30 +23,31 @@ use Rattle.coarsest.proofs.Forced.{coarsest-grows, coarsest-parts}
 use Rattle.coarsest.proofs.Count.{cells-fewer}
 use Rattle.coarsest.proofs.Numbered.{formed-cells}
 use Rattle.even.specs.Even.{even_says, even_cells, even_head, even_splits}
-use Rattle.even.proofs.Held.{definitions-agree}
+use Rattle.even.proofs.Held.{head-same, definitions-agree}
 use Rattle.even.specs.Later.{Lent, cells_of, Evened, Refined, PassedOver, RefinedInTurn, SameMesh, MoreSplitsFinerMesh}
 
 -- cells and leaves grow together: four cells, three leaves
-abbrev Grows : Head → Head → Type 0
+abbrev pub Grows : Head → Head → Type 0
 Grows g h = 4 * h.leaves + 3 * g.count ≡ 4 * g.leaves + 3 * h.count
 
 -- ---- an evening that was accepted
 
-record Accepted (row : List ℤ) (head h : Head) : Type 0 where
-  formed : IsTable row head
-  max_level : h.max_level ≡ head.max_level
+pub record Accepted (e : Engine) (row : List ℤ) (head h : Head) : Type 0 where
+  pub formed : IsTable row head
+  pub fits : length (even_cells e row head) ≤ length row / 8
+  pub max_level : h.max_level ≡ head.max_level
 
-accepted-even : (e : Engine) (row : List ℤ) (head h : Head) (splits : ℕ) → even_says e row head ≡ accepted (splits ∷ head_values h) → Accepted row head h
+pub accepted-even : (e : Engine) (row : List ℤ) (head h : Head) (splits : ℕ) → even_says e row head ≡ accepted (splits ∷ head_values h) → Accepted e row head h
 unfolding even_says
-accepted-even e row head h splits says = by (well_formed row head) (leb (length (even_cells e row head)) (length row / 8)) refl says
+accepted-even e row head h splits says = by (well_formed row head) (leb (length (even_cells e row head)) (length row / 8)) refl refl says
   where
-    by : (a b : Bool) → well_formed row head ≡ a
+    by : (a b : Bool) → well_formed row head ≡ a → leb (length (even_cells e row head)) (length row / 8) ≡ b
         → cond a (cond b (accepted (even_splits e row head ∷ head_values (even_head e row head))) (refusal NoRoom)) (refusal BadTable)
         ≡ accepted (splits ∷ head_values h)
-        → Accepted row head h
-    by true true a says = record { formed = a; max_level = cc }
-    by true false a says = let z : ◌≡◌ {A = ℕ} 0 1 = cc in absurd (omega arith)
-    by false b a says = let z : ◌≡◌ {A = ℕ} 0 1 = cc in absurd (omega arith)
+        → Accepted e row head h
+    by true true a b says = record { formed = a; fits = leb-true _ _ b; max_level = cc }
+    by true false a b says = let z : ◌≡◌ {A = ℕ} 0 1 = cc in absurd (omega arith)
+    by false b a b' says = let z : ◌≡◌ {A = ℕ} 0 1 = cc in absurd (omega arith)
 
 record Evening (e : Engine) (before after : Lent) : Type 0 where
   formed : Formed before.head.max_level (cells_of before)
@@ -73,20 +74,17 @@ evening-formed e before after w = (evening e before after w).formed
 
 -- ---- a list split in turn by refine
 
-record InTurn (names : List Name) (before after : Lent) : Type 0 where
-  each : EachInTurn before.head.max_level (cells_of before) names
-  cells : cells_of after ≡ split_in_turn (cells_of before) names
-  max_level : after.head.max_level ≡ before.head.max_level
-  grows : Grows before.head after.head
+pub record InTurn (names : List Name) (before after : Lent) : Type 0 where
+  pub each : EachInTurn before.head.max_level (cells_of before) names
+  pub cells : cells_of after ≡ split_in_turn (cells_of before) names
+  pub max_level : after.head.max_level ≡ before.head.max_level
+  pub grows : Grows before.head after.head
 
 record OneInTurn (n : Name) (before after : Lent) : Type 0 where
   possible : Possible before.head.max_level (cells_of before) n ⊎ PassesOver (cells_of before) n
   cells : cells_of after ≡ split_named (cells_of before) n
   max_level : after.head.max_level ≡ before.head.max_level
   grows : Grows before.head after.head
-
-head-same : (g h : Head) → g.count ≡ h.count → g.leaves ≡ h.leaves → g.max_level ≡ h.max_level → g ≡ h
-head-same g h c l m = ap₂ (λ (x y : ℕ). head_of x y g.max_level) c l ∙ ap (head_of h.count h.leaves) m
 
 values-same : (g h : Head) → accepted (head_values g) ≡ accepted (head_values h) → g ≡ h
 values-same g h e = head-same g h (cc) (cc) (cc)
@@ -105,21 +103,25 @@ refined-one n before after w =
       grows = rw h (omega arith);
     }
 
-passed-split : (row : List ℤ) (head : Head) (id : ℕ) → refine_says row head id ≡ refusal (AlreadySplit id) → is_leaf (cells_in row head) id ≡ false
-passed-split row head id says =
+pub record Passed (row : List ℤ) (head : Head) (id : ℕ) : Type 0 where
+  pub formed : IsTable row head
+  pub split : is_leaf (cells_in row head) id ≡ false
+
+pub passed-facts : (row : List ℤ) (head : Head) (id : ℕ) → refine_says row head id ≡ refusal (AlreadySplit id) → Passed row head id
+passed-facts row head id says =
     by (well_formed row head) (ltb id head.count) (is_leaf (cells_in row head) id) (ltb (at (cells_in row head) id).level head.max_level)
-    (leb (head.count + 4) (length row / 8)) refl says
+    (leb (head.count + 4) (length row / 8)) refl refl says
   where
-    by : (a b c d f : Bool) → is_leaf (cells_in row head) id ≡ c
+    by : (a b c d f : Bool) → well_formed row head ≡ a → is_leaf (cells_in row head) id ≡ c
         → cond a (cond b (cond c (cond d (cond f (accepted (head_values (after_split head))) (refusal NoRoom)) (refusal (FinestLevel id)))
         (refusal (AlreadySplit id))) (refusal (NoSuchCell id))) (refusal BadTable) ≡ refusal (AlreadySplit id)
-        → is_leaf (cells_in row head) id ≡ false
-    by true true false d f c says = c
-    by true true true true true c says = let z : ◌≡◌ {A = ℕ} 0 1 = cc in absurd (omega arith)
-    by true true true true false c says = let z : ◌≡◌ {A = ℕ} 6 9 = cc in absurd (omega arith)
-    by true true true false f c says = let z : ◌≡◌ {A = ℕ} 10 9 = cc in absurd (omega arith)
-    by true false c' d f c says = let z : ◌≡◌ {A = ℕ} 8 9 = cc in absurd (omega arith)
-    by false b c' d f c says = let z : ◌≡◌ {A = ℕ} 7 9 = cc in absurd (omega arith)
+        → Passed row head id
+    by true true false d f a c says = record { formed = a; split = c }
+    by true true true true true a c says = let z : ◌≡◌ {A = ℕ} 0 1 = cc in absurd (omega arith)
+    by true true true true false a c says = let z : ◌≡◌ {A = ℕ} 6 9 = cc in absurd (omega arith)
+    by true true true false f a c says = let z : ◌≡◌ {A = ℕ} 10 9 = cc in absurd (omega arith)
+    by true false c' d f a c says = let z : ◌≡◌ {A = ℕ} 8 9 = cc in absurd (omega arith)
+    by false b c' d f a c says = let z : ◌≡◌ {A = ℕ} 7 9 = cc in absurd (omega arith)
 
 found-split : (t : List Cell) (n : Name) (id : ℕ) → find t n.root n.route ≡ Some id → is_leaf t id ≡ false → PassesOver t n
 unfolding splitting
@@ -127,7 +129,7 @@ found-split t n id f s = rw (f, s) refl
 
 passed-one : (n : Name) (before after : Lent) → PassedOver n before after → OneInTurn n before after
 passed-one n before after w =
-    let over = found-split (cells_of before) n w.id w.named (passed-split before.row before.head w.id w.passed_over) in
+    let over = found-split (cells_of before) n w.id w.named (passed-facts before.row before.head w.id w.passed_over).split in
     let same = w.unchanged in
     record {
       possible = inr over;
@@ -136,7 +138,7 @@ passed-one n before after w =
       grows = rw same (omega arith);
     }
 
-in-turn : (names : List Name) (before after : Lent) → RefinedInTurn names before after → InTurn names before after
+pub in-turn : (names : List Name) (before after : Lent) → RefinedInTurn names before after → InTurn names before after
 unfolding split_in_turn
 in-turn [] before after same =
     record { each = tt; cells = ap cells_of same; max_level = ap (λ (t : Lent). t.head.max_level) same; grows = rw same (omega arith) }
@@ -177,14 +179,17 @@ finer-mesh e few more few' more' roots level splits w v =
 
 -- ---- marks that come later
 
--- two tables of the same roots and the same splitting have as many cells
-as-many : (M : ℕ) (t u : List Cell) → Formed M t → Formed M u → SameRoots t u → ((r : ℕ) (p : Route) → splitting t r p ≡ splitting u r p) → length t ≡ length u
+-- of two tables of the same roots the one that splits no less has no fewer cells; of the same splitting, as many
+pub as-many-more : (M : ℕ) (t u : List Cell) → Formed M t → Formed M u → SameRoots t u → splitting t ⊆ splitting u → length t ≤ length u
+as-many-more M t u ft fu roots more =
+    cells-fewer (roots_of u) (splitting t) (splitting u) (length t) (length u) more
+    (subst (λ (R : Roots). HasCells R (splitting t) (length t)) (fun_ext roots) (formed-cells M t ft)) (formed-cells M u fu)
+
+pub as-many : (M : ℕ) (t u : List Cell) → Formed M t → Formed M u → SameRoots t u → ((r : ℕ) (p : Route) → splitting t r p ≡ splitting u r p) → length t ≡ length u
 as-many M t u ft fu roots same =
-    let a : HasCells (roots_of u) (splitting t) (length t) = subst (λ (R : Roots). HasCells R (splitting t) (length t)) (fun_ext roots) (formed-cells M t ft) in
-    let b = formed-cells M u fu in
     le_antisymm
-    (cells-fewer (roots_of u) (splitting t) (splitting u) (length t) (length u) (λ r p e. sym (same r p) ∙ e) a b)
-    (cells-fewer (roots_of u) (splitting u) (splitting t) (length u) (length t) (λ r p e. same r p ∙ e) b a)
+    (as-many-more M t u ft fu roots (λ r p e. sym (same r p) ∙ e))
+    (as-many-more M u t fu ft (λ r. sym (roots r)) (λ r p e. same r p ∙ e))
 
 module _ (e : Engine) (names : List Name) (start evened later parts first once : Lent)
     (w1 : Evened e start evened) (w2 : RefinedInTurn names evened later) (w3 : Evened e later parts)

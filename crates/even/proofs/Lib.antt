@@ -12,3 +12,4 @@ pub mod One
 pub mod Later
 pub mod LaterBoard
 pub mod Held
+pub mod Parts

@@ -68,3 +68,12 @@ LaterSplitsSameMesh =
     → Evened e start evened → RefinedInTurn names evened split_later → Evened e split_later in_parts
     → RefinedInTurn names start split_first → Evened e split_first at_once
     → SameMesh in_parts at_once
+
+-- who has room enough for the splits at first and one evening has room enough for the parts, in a row as long; and each
+-- split that was possible at first, or passed over, is so after the evening
+abbrev pub RoomForParts : Type 0
+RoomForParts =
+    (e : Engine) (names : List Name) (start split_first at_once : Lent)
+    → RefinedInTurn names start split_first → Evened e split_first at_once
+    → (evened : Lent) × (split_later : Lent) × (in_parts : Lent)
+    × Evened e start evened × RefinedInTurn names evened split_later × Evened e split_later in_parts

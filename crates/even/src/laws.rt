@@ -1,6 +1,6 @@
 //! The laws of balance and conform: each function ensures one of them, and does nothing.
 ghost use Rattle.even.specs.Laws.{BalanceEvens, ConformEvens, DefinitionsAgree, OneEvening};
-ghost use Rattle.even.specs.Later.{MoreSplitsFinerMesh, LaterSplitsSameMesh};
+ghost use Rattle.even.specs.Later.{MoreSplitsFinerMesh, LaterSplitsSameMesh, RoomForParts};
 ghost use Rattle.even.specs.LaterBoard.{FactsAtWork};
 
 /// What balance makes of any well-formed table.
@@ -31,6 +31,11 @@ pub fn more_splits_finer_mesh()
 /// Marks that come later: evening, splitting more and evening again leaves what splitting all and evening once does.
 pub fn later_splits_same_mesh()
     ensures { LaterSplitsSameMesh }
+{}
+
+/// And needs no more room.
+pub fn room_for_parts()
+    ensures { RoomForParts }
 {}
 
 /// A board on which both facts are at work, for balance and for conform: what they ask for can be met.
