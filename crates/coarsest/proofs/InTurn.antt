@@ -1,33 +1,41 @@
 -- Lists of cells split in turn: what they make of a table, and that they may come before or after an evening. Assumes nothing.
-use Rattle.std.proofs.Common.{◌≡◌, refl, sym, ap, ap₂, ◌∙◌, Bool, true, false, ◌||◌, ◌⊎◌, inl, inr, ⊎_elim, Option, None, Some, List, [], ◌∷◌, ℕ, zero, suc, ◌<◌, arith, length, Contains, is_none, slice_index_or}
+use Rattle.std.proofs.Common.{◌≡◌, refl, sym, ap, ap₂, ◌∙◌, Bool, true, false, ◌||◌, not, ◌⊎◌, inl, inr, ⊎_elim, Option, None, Some, List, [], ◌∷◌, ℕ, zero, suc, ◌<◌, ◌≤◌, le_antisymm, subst, arith, length, Contains, is_none, slice_index_or}
 use mathlib.Core.Logic.{◌↔◌}
+use mathlib.Core.Path.{fun_ext}
+use Rattle.std.specs.Bool.{then_some}
+use Rattle.std.specs.Prelude.{option_and_then}
 use Rattle.std.proofs.lemmas.List.Elements.{Contains-append_right}
 use Rattle.cell.specs.Boxes.{Box}
 use Rattle.cell.proofs.Contact.{or_cases, or_left, or_right}
 use Rattle.table.specs.Mesh.{Cell, at, split, is_leaf}
 use Rattle.table.specs.Formed.{Formed}
-use Rattle.table.proofs.Meshes.{at_self, formed-split}
+use Rattle.table.proofs.Meshes.{at_self, formed-split, not_some, some_is}
 use Rattle.coarsest.specs.declared.Engine.{Engine}
 use Rattle.coarsest.specs.Passes.{split_if, evened}
-use Rattle.coarsest.specs.Names.{Route, Splitting, Roots, Leaf, ◌⊆◌, roots_of, find, splitting}
-use Rattle.coarsest.specs.InTurn.{Name, Possible, PassedOver, EachInTurn, SameLeaves, split_named, split_in_turn}
+use Rattle.coarsest.specs.Names.{Route, Roots, HasCells, place, ◌⊆◌, roots_of, find, splitting}
+use Rattle.coarsest.specs.InTurn.{Name, Possible, PassedOver, EachInTurn, placed, SameLeaves, split_named, split_in_turn}
 use Rattle.coarsest.specs.Laws.{SameRoots}
-use Rattle.coarsest.proofs.Roots.{roots_kept}
+use Rattle.coarsest.proofs.Roots.{of_root, roots_kept, polygons_kept}
 use Rattle.coarsest.proofs.Forced.{bool-ext}
-use Rattle.coarsest.proofs.Find.{at_split, at_leaf, split_at, stands_of, stands-found, find-rooted, is-root, root_is, tells, find-kept, splits-kept, splits-back}
-use Rattle.coarsest.proofs.Numbered.{name-one}
+use Rattle.coarsest.proofs.Find.{at_split, at_leaf, split_at, stands_of, stands-found, find-root, find-up, find-rooted, is-root, root_is, tells, find-kept, splits-kept, splits-back}
+use Rattle.coarsest.proofs.Numbered.{name-one, formed-cells}
+use Rattle.coarsest.proofs.Count.{cells-fewer}
 use Rattle.coarsest.proofs.Least.{stands-more}
 use Rattle.coarsest.proofs.Leaves.{stands-same}
-use Rattle.coarsest.proofs.Evened.{evened-formed, evened-roots, evened-coarsest}
+use Rattle.coarsest.proofs.Evened.{evened-keeps, evened-formed, evened-roots, evened-coarsest}
 use Rattle.coarsest.proofs.Ends.{evened-parts}
 
 abbrev pub name_of : ℕ → Route → Name
 name_of r p = record { root = r; route = p }
 
+abbrev pub SamePolygons : List Cell → List Cell → Type 0
+SamePolygons t u = (r : ℕ) → of_root (λ x. x.polygon) t r ≡ of_root (λ x. x.polygon) u r
+
 -- the table u, of t's roots, splits what t does and what L has
 pub record Adds (M : ℕ) (t u : List Cell) (L : ℕ → Route → Type 0) : Type 0 where
   pub formed : Formed M u
   pub roots : SameRoots u t
+  pub polygons : SamePolygons u t
   pub back : (r : ℕ) (p : Route) → splitting u r p ≡ true → (splitting t r p ≡ true) ⊎ L r p
   pub keeps : splitting t ⊆ splitting u
   pub adds : (r : ℕ) (p : Route) → L r p → splitting u r p ≡ true
@@ -63,6 +71,7 @@ module _ (M : ℕ) (t : List Cell) (formed : Formed M t) (n : Name) where
       rw (whole-split t n c p.named p.whole) (record {
         formed = formed';
         roots = roots_kept t c hc;
+        polygons = polygons_kept t c hc;
         keeps = splits-kept t c hc p.whole;
         adds = λ r q e. split-self t c hc p.whole r q (rw (sym (ap (λ (x : Name). x.root) e), sym (ap (λ (x : Name). x.route) e)) p.named);
         back = λ r q e.
@@ -75,6 +84,7 @@ module _ (M : ℕ) (t : List Cell) (formed : Formed M t) (n : Name) where
       rw (passed-kept t n s) (record {
         formed = formed;
         roots = λ r. refl;
+        polygons = λ r. refl;
         keeps = λ r q e. e;
         adds = λ r q e. rw (sym (ap (λ (x : Name). x.root) e), sym (ap (λ (x : Name). x.route) e)) s;
         back = λ r q e. inl e;
@@ -105,6 +115,7 @@ list-adds M [] t formed each =
     record {
       formed = formed;
       roots = λ r. refl;
+      polygons = λ r. refl;
       keeps = λ r p e. e;
       adds = λ r p h. (let l = h.1 in absurd (omega arith));
       back = λ r p e. inl e;
@@ -115,6 +126,7 @@ list-adds M (n ∷ ns) t formed each =
     record {
       formed = b.formed;
       roots = λ r. b.roots r ∙ a.roots r;
+      polygons = λ r. b.polygons r ∙ a.polygons r;
       keeps = λ r p e. b.keeps r p (a.keeps r p e);
       adds = λ r p h. ⊎_elim (λ e. b.keeps r p (a.adds r p e)) (λ h. b.adds r p h) (in-cases n ns r p h);
       back = λ r p e.
@@ -167,22 +179,93 @@ module _ (M : ℕ) where
 
 -- ---- leaves by name
 
-leaf-same : (R Q : Roots) (S T : Splitting) → ((r : ℕ) → R r ≡ Q r) → ((r : ℕ) (p : Route) → S r p ≡ T r p) → (r : ℕ) (p : Route) (B : Box) → Leaf R S r p B
-    → Leaf Q T r p B
-leaf-same R Q S T roots same r p B l =
-    record {
-      root = l.root;
-      known = sym (roots r) ∙ l.known;
-      placed = l.placed;
-      stands = stands-same S T r p (same r) l.stands;
-      whole = sym (same r p) ∙ l.whole;
-    }
+-- an evening changes no root's polygon
+pub evened-polygons : (e : Engine) (k M : ℕ) (t : List Cell) → SamePolygons (evened e k M t) t
+evened-polygons e k M t =
+    evened-keeps e k M (λ u. SamePolygons u t) (λ u f c hf hc same d r. polygons_kept u c hc r ∙ same r) t (λ r. refl)
 
-pub leaves-same : (t u : List Cell) → SameRoots t u → ((r : ℕ) (p : Route) → splitting t r p ≡ splitting u r p) → SameLeaves t u
-leaves-same t u roots same r p B = (
-  leaf-same (roots_of t) (roots_of u) (splitting t) (splitting u) roots same r p B,
-  leaf-same (roots_of u) (roots_of t) (splitting u) (splitting t) (λ r. sym (roots r)) (λ r p. sym (same r p)) r p B,
-)
+-- a cell has its root's polygon
+polygon-of : (M : ℕ) (t : List Cell) → Formed M t → (r : ℕ) (p : Route) (i : ℕ) → find t r p ≡ Some i → (at t i).polygon ≡ (at t r).polygon
+polygon-of M t formed r [] i f = ap (λ (x : ℕ). (at t x).polygon) (find-root t r i f).0
+polygon-of M t formed r (q ∷ p) i f =
+    let u = find-up t r q p i f in
+    ap (λ (x : ℕ). (at t x).polygon) u.here ∙ ((formed.split u.parent u.first u.kids).kid q).polygon ∙ polygon-of M t formed r p u.parent u.found
+
+-- the two tables split the same of the same roots
+pub record Alike (M : ℕ) (t u : List Cell) : Type 0 where
+  pub one : Formed M t
+  pub other : Formed M u
+  pub roots : SameRoots t u
+  pub polygons : SamePolygons t u
+  pub splits : (r : ℕ) (p : Route) → splitting t r p ≡ splitting u r p
+
+polygon-root : (t u : List Cell) (r : ℕ) → of_root (λ x. x.polygon) t r ≡ of_root (λ x. x.polygon) u r → (at t r).parent ≡ None → (at u r).parent ≡ None
+    → (at t r).polygon ≡ (at u r).polygon
+polygon-root t u r e p q =
+    some_is (of_root (λ x. x.polygon) u r) (at t r).polygon (at u r).polygon
+    (sym e ∙ ap (λ (o : Option ℕ). then_some (is_none o) (at t r).polygon) p) (ap (λ (o : Option ℕ). then_some (is_none o) (at u r).polygon) q)
+
+-- whether a cell is a leaf is told by its name
+leaf-told : (t : List Cell) (r : ℕ) (p : Route) (i : ℕ) → find t r p ≡ Some i → splitting t r p ≡ not (is_leaf t i)
+unfolding splitting
+leaf-told t r p i f = rw f refl
+
+not-one : (a b : Bool) → not a ≡ not b → a ≡ b
+not-one true true e = refl
+not-one true false e = sym e
+not-one false true e = sym e
+not-one false false e = refl
+
+leaf-there : (t u : List Cell) (r : ℕ) (p : Route) (i j : ℕ) → splitting t r p ≡ splitting u r p → find t r p ≡ Some i → find u r p ≡ Some j → is_leaf t i ≡ is_leaf u j
+leaf-there t u r p i j same f g =
+    not-one (is_leaf t i) (is_leaf u j) (sym (leaf-told t r p i f) ∙ same ∙ leaf-told u r p j g)
+
+module _ (M : ℕ) where
+  alike-turned : (t u : List Cell) → Alike M t u → Alike M u t
+  alike-turned t u a =
+      record { one = a.other; other = a.one; roots = λ r. sym (a.roots r); polygons = λ r. sym (a.polygons r); splits = λ r p. sym (a.splits r p) }
+
+  found-there : (t u : List Cell) → Alike M t u → (r : ℕ) (p : Route) (i : ℕ) → find t r p ≡ Some i → (j : ℕ) × (find u r p ≡ Some j)
+  found-there t u a r p i f =
+      let top = root_is t r (find-rooted t r p i f) in
+      stands-found u r p (is-root u r (at t r).box (sym (a.roots r) ∙ top)).0
+      (stands-same (splitting t) (splitting u) r p (a.splits r) (stands_of t r p i f))
+
+  placed-there : (t u : List Cell) → Alike M t u → (r : ℕ) (p : Route) (i j : ℕ) → find t r p ≡ Some i → find u r p ≡ Some j → placed t i ≡ placed u j
+  placed-there t u a r p i j f g =
+      let top = find-rooted t r p i f in
+      let here = is-root u r (at t r).box (sym (a.roots r) ∙ root_is t r top) in
+      let one = tells M t a.one r p i f in
+      let other = tells M u a.other r p j g in
+      let box : (at t i).box ≡ (at u j).box = one.box ∙ ap (λ (A : Box). place A p) (sym here.1) ∙ sym other.box in
+      let level : (at t i).level ≡ (at u j).level = one.level ∙ sym other.level in
+      let root : (at t r).polygon ≡ (at u r).polygon = polygon-root t u r (a.polygons r) top here.0 in
+      let polygon = polygon-of M t a.one r p i f ∙ root ∙ sym (polygon-of M u a.other r p j g) in
+      let leaf : is_leaf t i ≡ is_leaf u j = leaf-there t u r p i j (a.splits r p) f g in
+      λ x. then_some (leaf x) (record { box = box x; level = level x; polygon = polygon x })
+
+  pub leaves-same : (t u : List Cell) → Alike M t u → SameLeaves t u
+  leaves-same t u a r p = by (find t r p) (find u r p) refl refl
+    where
+      by : (o w : Option ℕ) → find t r p ≡ o → find u r p ≡ w → option_and_then (placed t) o ≡ option_and_then (placed u) w
+      by None None f g = refl
+      by None (Some j) f g = let h = found-there u t (alike-turned t u a) r p j g in not_some (find t r p) h.0 f h.1
+      by (Some i) None f g = let h = found-there t u a r p i f in not_some (find u r p) h.0 g h.1
+      by (Some i) (Some j) f g = placed-there t u a r p i j f g
+
+-- ---- as many cells
+
+-- of two tables of the same roots the one that splits no less has no fewer cells; alike, they have as many
+pub cells-more : (M : ℕ) (t u : List Cell) → Formed M t → Formed M u → SameRoots t u → splitting t ⊆ splitting u → length t ≤ length u
+cells-more M t u ft fu roots more =
+    cells-fewer (roots_of u) (splitting t) (splitting u) (length t) (length u) more
+    (subst (λ (R : Roots). HasCells R (splitting t) (length t)) (fun_ext roots) (formed-cells M t ft)) (formed-cells M u fu)
+
+pub cells-alike : (M : ℕ) (t u : List Cell) → Alike M t u → length t ≡ length u
+cells-alike M t u a =
+    le_antisymm
+    (cells-more M t u a.one a.other a.roots (λ r p e. sym (a.splits r p) ∙ e))
+    (cells-more M u t a.other a.one (λ r. sym (a.roots r)) (λ r p e. a.splits r p ∙ e))
 
 -- ---- both laws
 
@@ -230,13 +313,20 @@ module _ (e : Engine) (k M : ℕ) (t : List Cell) (names : List Name) (formed : 
       (λ s. later.roots s ∙ evened-roots e k M t formed s ∙ sym (first.roots s))
       first.keeps later-splits r p)
 
+  pub later-alike : Alike M (evened e k M (split_in_turn (evened e k M t) names)) (evened e k M (split_in_turn t names))
+  later-alike =
+      record {
+        one = evened-formed e k M (split_in_turn (evened e k M t) names) later.formed;
+        other = evened-formed e k M (split_in_turn t names) first.formed;
+        roots = λ r.
+            evened-roots e k M (split_in_turn (evened e k M t) names) later.formed r ∙ later.roots r ∙ evened-roots e k M t formed r ∙ sym (first.roots r)
+            ∙ sym (evened-roots e k M (split_in_turn t names) first.formed r);
+        polygons = λ r.
+            evened-polygons e k M (split_in_turn (evened e k M t) names) r ∙ later.polygons r ∙ evened-polygons e k M t r ∙ sym (first.polygons r)
+            ∙ sym (evened-polygons e k M (split_in_turn t names) r);
+        splits = later-same;
+      }
+
   pub later-ends : EachInTurn M (evened e k M t) names
       × SameLeaves (evened e k M (split_in_turn (evened e k M t) names)) (evened e k M (split_in_turn t names))
-  later-ends = (
-    later-each,
-    leaves-same _ _
-        (λ r.
-        evened-roots e k M (split_in_turn (evened e k M t) names) later.formed r ∙ later.roots r ∙ evened-roots e k M t formed r ∙ sym (first.roots r)
-        ∙ sym (evened-roots e k M (split_in_turn t names) first.formed r))
-        later-same,
-  )
+  later-ends = (later-each, leaves-same M _ _ later-alike)

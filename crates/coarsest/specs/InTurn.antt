@@ -1,10 +1,11 @@
 -- A list of cells, by name, split in turn: each is split where it is a leaf, and passed over where it is split already.
-use Rattle.std.specs.Prelude.{ℕ, ◌<◌, ◌≡◌, ◌⊎◌, ◌↔◌, true, List, [], ◌∷◌, None, Some, fold}
+use Rattle.std.specs.Prelude.{ℕ, ◌<◌, ◌≡◌, ◌⊎◌, true, List, [], ◌∷◌, fold, Option, None, Some, option_and_then}
+use Rattle.std.specs.Bool.{then_some}
 use Rattle.std.specs.Option.{option_map_or}
 use Rattle.cell.specs.Boxes.{Box}
 use Rattle.table.specs.Mesh.{Cell, at, is_leaf}
 use Rattle.coarsest.specs.Passes.{split_if}
-use Rattle.coarsest.specs.Names.{Route, Leaf, roots_of, find, splitting}
+use Rattle.coarsest.specs.Names.{Route, find, splitting}
 
 pub record Name : Type 0 where
   pub root : ℕ
@@ -33,7 +34,20 @@ abbrev pub EachInTurn : ℕ → List Cell → List Name → Type 0
 EachInTurn M t [] = Unit {0}
 EachInTurn M t (n ∷ ns) = (Possible M t n ⊎ PassedOver t n) × EachInTurn M (split_named t n) ns
 
--- the two tables have the same leaves, by name, at the same places
+-- a leaf, whatever its id
+pub record Placed : Type 0 where
+  pub box : Box
+  pub level : ℕ
+  pub polygon : ℕ
+
+abbrev pub placed : List Cell → ℕ → Option Placed
+placed t i =
+    then_some (is_leaf t i) (record { box = (at t i).box; level = (at t i).level; polygon = (at t i).polygon })
+
+-- the leaf of a name, and none where no leaf has it
+abbrev pub leaf_named : List Cell → ℕ → Route → Option Placed
+leaf_named t r p = option_and_then (placed t) (find t r p)
+
+-- the two tables have the same leaves, by name
 abbrev pub SameLeaves : List Cell → List Cell → Type 0
-SameLeaves t u =
-    (r : ℕ) (p : Route) (B : Box) → Leaf (roots_of t) (splitting t) r p B ↔ Leaf (roots_of u) (splitting u) r p B
+SameLeaves t u = (r : ℕ) (p : Route) → leaf_named t r p ≡ leaf_named u r p

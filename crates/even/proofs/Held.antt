@@ -1,10 +1,11 @@
 -- What the definition of the row by the passes holds: a table, of the cells that the passes end in. So the definition by the passes and the one by names say
 -- the same of every row. Assumes nothing.
-use Rattle.std.proofs.Common.{◌≡◌, refl, sym, ap, ap₂, subst, subst₂, ◌∙◌, Bool, true, false, None, List, ℕ, ◌<◌, ◌≤◌, ◌/◌, arith, leb, leb-true, leb-false, true≢false, length, ℤ, is_none}
+use Rattle.std.proofs.Common.{◌≡◌, refl, sym, ap, ap₂, subst, subst₂, ◌∙◌, Bool, true, false, None, List, ◌∷◌, ℕ, ◌<◌, ◌≤◌, ◌/◌, arith, leb, le-leb, leb-true, leb-false, true≢false, length, ℤ, is_none}
+use Rattle.refusals.specs.Said.{accepted}
 use Rattle.table.specs.declared.Head.{Head}
 use Rattle.table.specs.Mesh.{Cell, at, split, leaf_count, table}
 use Rattle.table.specs.Formed.{Formed, well_formed}
-use Rattle.table.specs.Rows.{IsTable, cells_in, head_of, after_split}
+use Rattle.table.specs.Rows.{IsTable, cells_in, head_of, head_values, after_split}
 use Rattle.table.specs.Refine.{split_row}
 use Rattle.table.proofs.Cells.{length-table}
 use Rattle.table.proofs.Meshes.{length-split}
@@ -17,7 +18,7 @@ use Rattle.coarsest.proofs.Least.{due-of, level-most}
 use Rattle.coarsest.proofs.Sweep.{Keeps}
 use Rattle.coarsest.proofs.Evened.{evened-keeps}
 use Rattle.even.specs.Rows.{row_of}
-use Rattle.even.specs.Even.{even_cells, even_head, even_says, even_row, EndsCoarsest}
+use Rattle.even.specs.Even.{even_cells, even_head, even_splits, even_says, even_row, EndsCoarsest}
 use Rattle.even.proofs.Rowing.{row_is}
 use Rattle.even.proofs.Ending.{ends-done, ends-full, ends-bad}
 
@@ -96,6 +97,25 @@ module _ (row : List ℤ) (head : Head) (is-table : IsTable row head) where
 
     pub long-held : length (row_of (even_cells e row head) (length row)) ≡ length row
     long-held = ap length row-held ∙ ends-held.as_long
+
+-- what an evening for which there is room says and leaves
+module _ (e : Engine) (row : List ℤ) (head : Head) (formed : IsTable row head) (fits : length (even_cells e row head) ≤ length row / 8) where
+  pub says-held : even_says e row head ≡ accepted (even_splits e row head ∷ head_values (even_head e row head))
+  unfolding even_says
+  says-held = rw (formed, le-leb _ _ fits) refl
+
+  row-is : even_row e row head ≡ row_of (even_cells e row head) (length row)
+  unfolding even_row
+  row-is = rw says-held refl
+
+  pub even-cells : cells_in (even_row e row head) (even_head e row head) ≡ even_cells e row head
+  even-cells = rw row-is (cells-held row head formed e fits)
+
+  pub even-table : IsTable (even_row e row head) (even_head e row head)
+  even-table = rw row-is (table-held row head formed e fits)
+
+  pub even-long : length (even_row e row head) ≡ length row
+  even-long = ap length row-is ∙ long-held row head formed e fits
 
 -- both definitions of an evening, of every row
 pub definitions-agree : (e : Engine) (head : Head) (row : List ℤ) → EndsCoarsest e head row (even_row e row head) (even_says e row head)

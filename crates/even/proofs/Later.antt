@@ -1,6 +1,5 @@
 -- Several calls, one after the other, by what their contracts say of each: the same splitting whether marks come at once or later. Assumes nothing.
-use Rattle.std.proofs.Common.{◌≡◌, refl, sym, ap, ap₂, ◌∙◌, subst, Bool, true, false, cond, ◌⊎◌, ⊎_elim, inl, inr, List, [], ◌∷◌, ℕ, ◌+◌, ◌*◌, arith, ◌/◌, leb, leb-true, ltb, ◌≤◌, length, ℤ, Contains, subst₂, Some, le_antisymm}
-use mathlib.Core.Path.{fun_ext}
+use Rattle.std.proofs.Common.{◌≡◌, refl, sym, ap, ap₂, ◌∙◌, subst, Bool, true, false, cond, ◌⊎◌, ⊎_elim, inl, inr, List, [], ◌∷◌, ℕ, ◌+◌, ◌*◌, arith, ◌/◌, leb, leb-true, ltb, ◌≤◌, length, ℤ, Contains, subst₂, Some}
 use Rattle.refusals.specs.Said.{accepted, refusal, is_accepted}
 use Rattle.refusals.specs.declared.Refusal.TheVariants.{BadTable, NoSuchCell, AlreadySplit, FinestLevel, NoRoom}
 use Rattle.table.specs.declared.Head.{Head}
@@ -12,18 +11,15 @@ use Rattle.table.proofs.Cells.{length-table}
 use Rattle.table.proofs.Refining.{accepted-facts, refine-values, refined-cells}
 use Rattle.table.proofs.Wellformed.{formed-facts}
 use Rattle.coarsest.specs.declared.Engine.{Engine}
-use Rattle.coarsest.specs.Passes.{difference}
-use Rattle.coarsest.specs.Names.{◌⊆◌, Roots, Splitting, Coarsest, Evens, Route, HasCells, find, roots_of, splitting}
-use Rattle.coarsest.specs.InTurn.{Name, Possible, EachInTurn, split_named, split_in_turn}
+use Rattle.coarsest.specs.Passes.{evened, difference}
+use Rattle.coarsest.specs.Names.{find, splitting}
+use Rattle.coarsest.specs.InTurn.{Name, Possible, EachInTurn, SameLeaves, split_named, split_in_turn}
 use Rattle.coarsest.specs.InTurn.{PassedOver as PassesOver}
-use Rattle.coarsest.specs.Laws.{SameRoots}
 use Rattle.coarsest.proofs.Least.{is-none}
-use Rattle.coarsest.proofs.InTurn.{whole-split, passed-kept, Adds, list-adds, leaves-same}
-use Rattle.coarsest.proofs.Forced.{coarsest-grows, coarsest-parts}
-use Rattle.coarsest.proofs.Count.{cells-fewer}
-use Rattle.coarsest.proofs.Numbered.{formed-cells}
+use Rattle.coarsest.proofs.InTurn.{whole-split, passed-kept, Adds, Alike, list-adds, leaves-same, cells-alike, later-alike}
+use Rattle.coarsest.proofs.Ends.{evened-grows}
 use Rattle.even.specs.Even.{even_says, even_cells, even_head, even_splits}
-use Rattle.even.proofs.Held.{head-same, definitions-agree}
+use Rattle.even.proofs.Held.{head-same, even-cells, definitions-agree}
 use Rattle.even.specs.Later.{Lent, cells_of, Evened, Refined, PassedOver, RefinedInTurn, SameMesh, MoreSplitsFinerMesh}
 
 -- cells and leaves grow together: four cells, three leaves
@@ -35,7 +31,7 @@ Grows g h = 4 * h.leaves + 3 * g.count ≡ 4 * g.leaves + 3 * h.count
 pub record Accepted (e : Engine) (row : List ℤ) (head h : Head) : Type 0 where
   pub formed : IsTable row head
   pub fits : length (even_cells e row head) ≤ length row / 8
-  pub max_level : h.max_level ≡ head.max_level
+  pub head_after : h ≡ even_head e row head
 
 pub accepted-even : (e : Engine) (row : List ℤ) (head h : Head) (splits : ℕ) → even_says e row head ≡ accepted (splits ∷ head_values h) → Accepted e row head h
 unfolding even_says
@@ -45,27 +41,28 @@ accepted-even e row head h splits says = by (well_formed row head) (leb (length 
         → cond a (cond b (accepted (even_splits e row head ∷ head_values (even_head e row head))) (refusal NoRoom)) (refusal BadTable)
         ≡ accepted (splits ∷ head_values h)
         → Accepted e row head h
-    by true true a b says = record { formed = a; fits = leb-true _ _ b; max_level = cc }
+    by true true a b says = record { formed = a; fits = leb-true _ _ b; head_after = head-same h (even_head e row head) (cc) (cc) (cc) }
     by true false a b says = let z : ◌≡◌ {A = ℕ} 0 1 = cc in absurd (omega arith)
     by false b a b' says = let z : ◌≡◌ {A = ℕ} 0 1 = cc in absurd (omega arith)
 
 record Evening (e : Engine) (before after : Lent) : Type 0 where
   formed : Formed before.head.max_level (cells_of before)
+  cells : cells_of after ≡ even_cells e before.row before.head
   max_level : after.head.max_level ≡ before.head.max_level
-  evens : Evens (difference e) before.head.max_level (cells_of before) (cells_of after)
   grows : Grows before.head after.head
 
 evening : (e : Engine) (before after : Lent) → Evened e before after → Evening e before after
 evening e before after w =
     let a = accepted-even e before.row before.head after.head w.splits w.room_enough in
-    let says = w.room_enough ∙ ap (λ (m : ℕ). accepted (w.splits ∷ after.head.count ∷ after.head.leaves ∷ m ∷ [])) a.max_level in
+    let level = ap (λ (h : Head). h.max_level) a.head_after in
+    let says = w.room_enough ∙ ap (λ (m : ℕ). accepted (w.splits ∷ after.head.count ∷ after.head.leaves ∷ m ∷ [])) level in
     let d = (definitions-agree e before.head before.row).done w.splits after.head.count after.head.leaves says in
     let cells = d.1 in
     let leaves = d.2 in
     record {
       formed = (formed-facts before.row before.head a.formed).cells;
-      max_level = a.max_level;
-      evens = rw w.row_after d.0;
+      cells = ap₂ cells_in w.row_after a.head_after ∙ even-cells e before.row before.head a.formed a.fits;
+      max_level = level;
       grows = omega arith;
     }
 
@@ -164,35 +161,20 @@ turn-adds names before after formed w =
 
 -- ---- more marks, finer mesh
 
-coarsest-at : (k M m : ℕ) (R Q : Roots) (T C : Splitting) → M ≡ m → ((r : ℕ) → R r ≡ Q r) → Coarsest k M R T C → Coarsest k m Q T C
-coarsest-at k M m R Q T C e roots c = subst₂ (λ (x : ℕ) (y : Roots). Coarsest k x y T C) e (fun_ext roots) c
-
 pub finer-mesh : MoreSplitsFinerMesh
 finer-mesh e few more few' more' roots level splits w v =
     let a = evening e few few' w in
     let b = evening e more more' v in
-    coarsest-grows (difference e) more.head.max_level (roots_of (cells_of more)) (splitting (cells_of few)) (splitting (cells_of more))
-    (splitting (cells_of few')) (splitting (cells_of more'))
-    (coarsest-at (difference e) few.head.max_level more.head.max_level (roots_of (cells_of few)) (roots_of (cells_of more)) (splitting (cells_of few))
-    (splitting (cells_of few')) level roots a.evens.coarsest)
-    b.evens.coarsest splits
+    let fine = subst (λ (m : ℕ). Formed m (cells_of more)) (sym level) b.formed in
+    let same : even_cells e more.row more.head ≡ evened e (difference e) few.head.max_level (cells_of more) =
+    ap (λ (m : ℕ). evened e (difference e) m (cells_of more)) (sym level) in
+    rw (a.cells, b.cells ∙ same)
+    (evened-grows (difference e) few.head.max_level e e (cells_of few) (cells_of more) a.formed fine roots splits)
 
 -- ---- marks that come later
 
--- of two tables of the same roots the one that splits no less has no fewer cells; of the same splitting, as many
-pub as-many-more : (M : ℕ) (t u : List Cell) → Formed M t → Formed M u → SameRoots t u → splitting t ⊆ splitting u → length t ≤ length u
-as-many-more M t u ft fu roots more =
-    cells-fewer (roots_of u) (splitting t) (splitting u) (length t) (length u) more
-    (subst (λ (R : Roots). HasCells R (splitting t) (length t)) (fun_ext roots) (formed-cells M t ft)) (formed-cells M u fu)
-
-pub as-many : (M : ℕ) (t u : List Cell) → Formed M t → Formed M u → SameRoots t u → ((r : ℕ) (p : Route) → splitting t r p ≡ splitting u r p) → length t ≡ length u
-as-many M t u ft fu roots same =
-    le_antisymm
-    (as-many-more M t u ft fu roots (λ r p e. sym (same r p) ∙ e))
-    (as-many-more M u t fu ft (λ r. sym (roots r)) (λ r p e. same r p ∙ e))
-
-module _ (e : Engine) (names : List Name) (start evened later parts first once : Lent)
-    (w1 : Evened e start evened) (w2 : RefinedInTurn names evened later) (w3 : Evened e later parts)
+module _ (e : Engine) (names : List Name) (start evened_first later parts first once : Lent)
+    (w1 : Evened e start evened_first) (w2 : RefinedInTurn names evened_first later) (w3 : Evened e later parts)
     (w4 : RefinedInTurn names start first) (w5 : Evened e first once) where
   abbrev k : ℕ
   k = difference e
@@ -200,14 +182,17 @@ module _ (e : Engine) (names : List Name) (start evened later parts first once :
   abbrev M : ℕ
   M = start.head.max_level
 
-  abbrev L : ℕ → Route → Type 0
-  L r p = Contains names (record { root = r; route = p })
+  abbrev t : List Cell
+  t = cells_of start
 
-  evening1 : Evening e start evened
-  evening1 = evening e start evened w1
+  abbrev at-end : List Cell → List Cell
+  at-end u = evened e k M (split_in_turn u names)
 
-  turn2 : InTurn names evened later
-  turn2 = in-turn names evened later w2
+  evening1 : Evening e start evened_first
+  evening1 = evening e start evened_first w1
+
+  turn2 : InTurn names evened_first later
+  turn2 = in-turn names evened_first later w2
 
   evening3 : Evening e later parts
   evening3 = evening e later parts w3
@@ -221,49 +206,20 @@ module _ (e : Engine) (names : List Name) (start evened later parts first once :
   level-later : later.head.max_level ≡ M
   level-later = turn2.max_level ∙ evening1.max_level
 
-  -- what the list makes of the two tables
-  adds-later : Adds M (cells_of evened) (cells_of later) L
-  adds-later =
-      subst (λ (m : ℕ). Adds m (cells_of evened) (cells_of later) L) evening1.max_level
-      (turn-adds names evened later (subst (λ (m : ℕ). Formed m (cells_of evened)) (sym evening1.max_level) evening1.evens.formed) w2)
+  cells-parts : cells_of parts ≡ at-end (evened e k M t)
+  cells-parts =
+      evening3.cells
+      ∙ ap₂ (λ (m : ℕ) (u : List Cell). evened e k m u) level-later (turn2.cells ∙ ap (λ (u : List Cell). split_in_turn u names) evening1.cells)
 
-  adds-first : Adds M (cells_of start) (cells_of first) L
-  adds-first = turn-adds names start first evening1.formed w4
+  cells-once : cells_of once ≡ at-end t
+  cells-once = evening5.cells ∙ ap₂ (λ (m : ℕ) (u : List Cell). evened e k m u) turn4.max_level turn4.cells
 
-  -- the roots of every table on the way are those of the second, split first
-  roots-start : SameRoots (cells_of start) (cells_of first)
-  roots-start r = sym (adds-first.roots r)
-
-  roots-later : SameRoots (cells_of later) (cells_of first)
-  roots-later r = adds-later.roots r ∙ evening1.evens.roots r ∙ roots-start r
-
-  roots-ends : SameRoots (cells_of parts) (cells_of once)
-  roots-ends r = evening3.evens.roots r ∙ roots-later r ∙ sym (evening5.evens.roots r)
-
-  same-splits : (r : ℕ) (p : Route) → splitting (cells_of once) r p ≡ splitting (cells_of parts) r p
-  same-splits =
-      coarsest-parts k M (roots_of (cells_of first)) (splitting (cells_of start)) (splitting (cells_of first)) (splitting (cells_of evened))
-      (splitting (cells_of later)) (splitting (cells_of once)) (splitting (cells_of parts))
-      (coarsest-at k M M _ _ _ _ refl roots-start evening1.evens.coarsest)
-      (coarsest-at k first.head.max_level M _ _ _ _ turn4.max_level (λ r. refl) evening5.evens.coarsest)
-      (coarsest-at k later.head.max_level M _ _ _ _ level-later roots-later evening3.evens.coarsest)
-      adds-first.keeps
-      (λ r p s. ⊎_elim (λ o. adds-later.keeps r p (evening1.evens.coarsest.keeps r p o)) (adds-later.adds r p) (adds-first.back r p s))
-      (λ S f g r p s. ⊎_elim (f r p) (λ i. g r p (adds-first.adds r p i)) (adds-later.back r p s))
-
-  level-once : once.head.max_level ≡ M
-  level-once = evening5.max_level ∙ turn4.max_level
-
-  level-parts : parts.head.max_level ≡ M
-  level-parts = evening3.max_level ∙ level-later
+  alike : Alike M (at-end (evened e k M t)) (at-end t)
+  alike = later-alike e k M t names evening1.formed turn4.each
 
   same-count : parts.head.count ≡ once.head.count
   same-count =
-      sym (length-table parts.row parts.head.count)
-      ∙ as-many M (cells_of parts) (cells_of once)
-      (subst (λ (m : ℕ). Formed m (cells_of parts)) level-later evening3.evens.formed)
-      (subst (λ (m : ℕ). Formed m (cells_of once)) turn4.max_level evening5.evens.formed)
-      roots-ends (λ r p. sym (same-splits r p))
+      sym (length-table parts.row parts.head.count) ∙ ap length cells-parts ∙ cells-alike M _ _ alike ∙ sym (ap length cells-once)
       ∙ length-table once.row once.head.count
 
   same-leaves : parts.head.leaves ≡ once.head.leaves
@@ -279,6 +235,7 @@ module _ (e : Engine) (names : List Name) (start evened later parts first once :
   pub ends-same : SameMesh parts once
   ends-same =
       record {
-        leaves = leaves-same (cells_of parts) (cells_of once) roots-ends (λ r p. sym (same-splits r p));
-        head = head-same parts.head once.head same-count same-leaves (level-parts ∙ sym level-once);
+        leaves = subst₂ SameLeaves (sym cells-parts) (sym cells-once) (leaves-same M _ _ alike);
+        head = head-same parts.head once.head same-count same-leaves
+            (evening3.max_level ∙ level-later ∙ sym (evening5.max_level ∙ turn4.max_level));
       }

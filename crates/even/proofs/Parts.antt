@@ -1,9 +1,9 @@
 -- Room enough for the splits at first and one evening is room enough for the parts. Assumes nothing.
-use Rattle.std.proofs.Common.{◌≡◌, refl, sym, ap, ap₂, subst, subst₂, ◌∙◌, Bool, false, cond, inl, inr, ⊎_elim, ◌⊎◌, List, [], ◌∷◌, ℕ, ◌+◌, ◌<◌, ◌≤◌, ◌/◌, arith, le-leb, lt-ltb, length, is_none, Contains}
-use Rattle.refusals.specs.Said.{accepted, is_accepted}
+use Rattle.std.proofs.Common.{◌≡◌, refl, sym, ap, ap₂, subst, subst₂, ◌∙◌, Bool, false, cond, inl, inr, ⊎_elim, ◌⊎◌, List, [], ◌∷◌, ℕ, ◌+◌, ◌<◌, ◌≤◌, ◌/◌, arith, lt-ltb, length, is_none, Contains}
+use Rattle.refusals.specs.Said.{is_accepted}
 use Rattle.table.specs.Mesh.{Cell, is_leaf}
 use Rattle.table.specs.Formed.{Formed}
-use Rattle.table.specs.Rows.{IsTable, head_values, after_split}
+use Rattle.table.specs.Rows.{IsTable, after_split}
 use Rattle.table.specs.Refine.{split_row}
 use Rattle.table.proofs.Cells.{length-table}
 use Rattle.table.proofs.Meshes.{length-split}
@@ -15,37 +15,17 @@ use Rattle.coarsest.specs.Passes.{difference, evened}
 use Rattle.coarsest.specs.InTurn.{Name, Possible, EachInTurn, split_named, split_in_turn}
 use Rattle.coarsest.specs.InTurn.{PassedOver as PassesOver}
 use Rattle.coarsest.proofs.Find.{at_split, tells}
-use Rattle.coarsest.proofs.Evened.{evened-formed, evened-roots, evened-grown}
-use Rattle.coarsest.proofs.InTurn.{name_of, Adds, list-adds, one-adds, later-same, later-each, whole-split, passed-kept}
-use Rattle.even.specs.Rows.{row_of}
-use Rattle.even.specs.Even.{even_says, even_row, even_cells, even_head, even_splits}
+use Rattle.coarsest.proofs.Evened.{evened-formed, evened-grown}
+use Rattle.coarsest.proofs.InTurn.{name_of, Adds, list-adds, one-adds, later-each, later-alike, cells-more, cells-alike, whole-split, passed-kept}
+use Rattle.even.specs.Even.{even_cells, even_splits}
 use Rattle.even.specs.Later.{Lent, cells_of, Evened, Refined, PassedOver, RefinedInTurn}
 use Rattle.even.specs.LaterBoard.{evened_of}
-use Rattle.even.proofs.Held.{cells-held, table-held, long-held}
-use Rattle.even.proofs.Later.{Accepted, accepted-even, passed-facts, InTurn, in-turn, as-many, as-many-more}
+use Rattle.even.proofs.Held.{says-held, even-cells, even-table, even-long}
+use Rattle.even.proofs.Later.{Accepted, accepted-even, passed-facts, InTurn, in-turn}
 
--- ---- an evening for which there is room
-
-module _ (e : Engine) (t : Lent) (formed : IsTable t.row t.head) (fits : length (even_cells e t.row t.head) ≤ length t.row / 8) where
-  says : even_says e t.row t.head ≡ accepted (even_splits e t.row t.head ∷ head_values (even_head e t.row t.head))
-  unfolding even_says
-  says = rw (formed, le-leb _ _ fits) refl
-
-  pub accepts : Evened e t (evened_of e t)
-  accepts = record { splits = even_splits e t.row t.head; room_enough = says; row_after = refl }
-
-  row-is : even_row e t.row t.head ≡ row_of (even_cells e t.row t.head) (length t.row)
-  unfolding even_row
-  row-is = rw says refl
-
-  cells-are : cells_of (evened_of e t) ≡ even_cells e t.row t.head
-  cells-are = rw row-is (cells-held t.row t.head formed e fits)
-
-  table-is : IsTable (evened_of e t).row (evened_of e t).head
-  table-is = rw row-is (table-held t.row t.head formed e fits)
-
-  long-is : length (evened_of e t).row ≡ length t.row
-  long-is = ap length row-is ∙ long-held t.row t.head formed e fits
+pub accepts : (e : Engine) (t : Lent) → IsTable t.row t.head → length (even_cells e t.row t.head) ≤ length t.row / 8 → Evened e t (evened_of e t)
+accepts e t formed fits =
+    record { splits = even_splits e t.row t.head; room_enough = says-held e t.row t.head formed fits; row_after = refl }
 
 -- ---- a list for which there is room
 
@@ -129,7 +109,7 @@ module _ (n : Name) (ns : List Name) (t : Lent) (formed : IsTable t.row t.head) 
   front-fewer : length (split_named (cells_of t) n) ≤ length (split_in_turn (split_named (cells_of t) n) ns)
   front-fewer =
       let rest = list-adds level ns (split_named (cells_of t) n) front-adds.formed each.1 in
-      as-many-more level _ _ front-adds.formed rest.formed (λ r. sym (rest.roots r)) rest.keeps
+      cells-more level _ _ front-adds.formed rest.formed (λ r. sym (rest.roots r)) rest.keeps
 
   one-more : Possible level (cells_of t) n ⊎ PassesOver (cells_of t) n → OneMore n t
   one-more (inl p) =
@@ -195,26 +175,15 @@ module _ (e : Engine) (names : List Name) (start first once : Lent) (w : Refined
   adds-later : Adds M (evened e k M t) (split_in_turn (evened e k M t) names) (λ r p. Contains names (name_of r p))
   adds-later = list-adds M names (evened e k M t) (evened-formed e k M t on) each-later
 
-  end-first : Formed M (evened e k M u)
-  end-first = evened-formed e k M u adds-first.formed
-
-  end-later : Formed M (evened e k M (split_in_turn (evened e k M t) names))
-  end-later = evened-formed e k M (split_in_turn (evened e k M t) names) adds-later.formed
-
   -- the parts end in as many cells, and on the way there are no more
   ends-as-many : length (evened e k M (split_in_turn (evened e k M t) names)) ≡ length (evened e k M u)
-  ends-as-many =
-      as-many M _ _ end-later end-first
-      (λ r.
-      evened-roots e k M (split_in_turn (evened e k M t) names) adds-later.formed r ∙ adds-later.roots r ∙ evened-roots e k M t on r
-      ∙ sym (adds-first.roots r) ∙ sym (evened-roots e k M u adds-first.formed r))
-      (later-same e k M t names on turn.each)
+  ends-as-many = cells-alike M _ _ (later-alike e k M t names on turn.each)
 
   split-fewer : length (split_in_turn (evened e k M t) names) ≤ length (evened e k M (split_in_turn (evened e k M t) names))
   split-fewer = evened-grown e k M (split_in_turn (evened e k M t) names) adds-later.formed
 
   evened-fewer : length (evened e k M t) ≤ length (split_in_turn (evened e k M t) names)
-  evened-fewer = as-many-more M _ _ (evened-formed e k M t on) adds-later.formed (λ r. sym (adds-later.roots r)) adds-later.keeps
+  evened-fewer = cells-more M _ _ (evened-formed e k M t on) adds-later.formed (λ r. sym (adds-later.roots r)) adds-later.keeps
 
   fits-one : length (evened e k M t) ≤ length start.row / 8
   fits-one = let a = ends-as-many in let b = split-fewer in let c = evened-fewer in let d = room in omega arith
@@ -227,20 +196,20 @@ module _ (e : Engine) (names : List Name) (start first once : Lent) (w : Refined
       let a = ends-as-many in
       let b = split-fewer in
       let d = room in
-      let cells = ap (λ (c : List Cell). length (split_in_turn c names)) (cells-are e start start-table fits-one) in
-      let long = ap (λ (x : ℕ). x / 8) (long-is e start start-table fits-one) in
-      all-more names one (table-is e start start-table fits-one)
-      (subst (λ (c : List Cell). EachInTurn M c names) (sym (cells-are e start start-table fits-one)) each-later)
+      let cells = ap (λ (c : List Cell). length (split_in_turn c names)) (even-cells e start.row start.head start-table fits-one) in
+      let long = ap (λ (x : ℕ). x / 8) (even-long e start.row start.head start-table fits-one) in
+      all-more names one (even-table e start.row start.head start-table fits-one)
+      (subst (λ (c : List Cell). EachInTurn M c names) (sym (even-cells e start.row start.head start-table fits-one)) each-later)
       (omega arith)
 
   fits-two : length (even_cells e list.last.row list.last.head) ≤ length list.last.row / 8
   fits-two =
       let turn2 = in-turn names one list.last list.done in
       let same = ap₂ (λ (m : ℕ) (c : List Cell). length (evened e k m c)) turn2.max_level
-      (turn2.cells ∙ ap (λ (c : List Cell). split_in_turn c names) (cells-are e start start-table fits-one)) in
+      (turn2.cells ∙ ap (λ (c : List Cell). split_in_turn c names) (even-cells e start.row start.head start-table fits-one)) in
       let a = ends-as-many in
       let d = room in
-      let long = ap (λ (x : ℕ). x / 8) (in-turn-long names one list.last list.done ∙ long-is e start start-table fits-one) in
+      let long = ap (λ (x : ℕ). x / 8) (in-turn-long names one list.last list.done ∙ even-long e start.row start.head start-table fits-one) in
       omega arith
 
   pub parts-fit : (evened : Lent) × (split_later : Lent) × (in_parts : Lent)
