@@ -1,13 +1,14 @@
 -- The laws of the passes, for both engines and every allowed difference k of levels. crates/coarsest/src/laws.rt
 -- promises each.
 use Rattle.std.specs.Prelude.{ℕ, ◌+◌, ◌*◌, ◌<◌, ◌≡◌, ◌↔◌, ◌||◌, ◌⊎◌, true, false, List}
-use Rattle.std.specs.Prelude.{length, Contains}
+use Rattle.std.specs.Prelude.{Some, length, Contains}
 use Rattle.cell.specs.Boxes.{Box}
-use Rattle.table.specs.Mesh.{Cell, leaf_count}
+use Rattle.table.specs.Mesh.{Cell, at, leaf_count}
 use Rattle.table.specs.Formed.{Formed}
 use Rattle.coarsest.specs.declared.Engine.{Engine}
 use Rattle.coarsest.specs.Passes.{is_due, pass, evened}
-use Rattle.coarsest.specs.Names.{Route, Splitting, ◌⊆◌, Coarsest, HasLeaf, Needs, roots_of, splitting}
+use Rattle.coarsest.specs.Names.{Route, Splitting, ◌⊆◌, Coarsest, HasLeaf, Needs, place, roots_of, find}
+use Rattle.coarsest.specs.Names.{splitting}
 use Rattle.coarsest.specs.InTurn.{Name, EachInTurn, SameLeaves, split_in_turn}
 
 -- the passes end in the coarsest splitting that keeps the table's splits
@@ -60,8 +61,16 @@ PartsEndTheSame =
     → ((r : ℕ) (p : Route) → splitting w r p ≡ (splitting (evened e k M t) r p || splitting u r p))
     → (r : ℕ) (p : Route) → splitting (evened e k M u) r p ≡ splitting (evened e k M w) r p
 
--- a list split in turn, each split possible or passed over, makes a well-formed table of the same roots, which splits what
--- was split and the listed cells, and no more
+-- every cell has one name, which tells where it lies and its level
+abbrev pub OneName : Type 0
+OneName =
+    (M : ℕ) (t : List Cell) → Formed M t → (i : ℕ) → i < length t
+    → (r : ℕ) × (p : Route) × (find t r p ≡ Some i)
+    × ((at t i).box ≡ place (at t r).box p) × ((at t i).level ≡ length p)
+    × ((s : ℕ) (q : Route) → find t s q ≡ Some i → (s ≡ r) × (q ≡ p))
+
+-- a list split in turn, each split possible or passed over, makes a well-formed table of the same roots, which splits
+-- what was split and the listed cells, and no more
 abbrev pub ListIsSplit : Type 0
 ListIsSplit =
     (M : ℕ) (t : List Cell) (names : List Name) → Formed M t → EachInTurn M t names

@@ -1,7 +1,7 @@
 //! The laws of the passes: each function ensures one of them, for every table, and does nothing.
 ghost use Rattle.coarsest.specs.Laws.{CoarsestIsReached, CoarsestIsOne, PassesEnd, StaysFormed, KeepsRoots};
 ghost use Rattle.coarsest.specs.Laws.{SplittingTellsLeaves, MoreSplitsEndFiner, PartsEndTheSame, NeedsTheCellsReached};
-ghost use Rattle.coarsest.specs.Laws.{EveningAddsThree, PassSettles, ListIsSplit, LaterSplitsEndTheSame};
+ghost use Rattle.coarsest.specs.Laws.{EveningAddsThree, PassSettles, OneName, ListIsSplit, LaterSplitsEndTheSame};
 
 /// What the passes end in is the coarsest splitting that they may end in.
 pub fn coarsest_is_reached()
@@ -43,7 +43,12 @@ pub fn parts_end_the_same()
     ensures { PartsEndTheSame }
 {}
 
-/// What a list of cells split in turn makes of a table: the listed cells are split beside those that were, and no other.
+/// A cell's name, its root and the quadrants from it, is its own, and tells its box and its level.
+pub fn one_name()
+    ensures { OneName }
+{}
+
+/// What a list of cells split in turn makes of a table: the listed cells are split, and those that were, and no other.
 pub fn list_is_split()
     ensures { ListIsSplit }
 {}

@@ -4,7 +4,7 @@ use mathlib.Core.Bool.{false≢true}
 use Rattle.std.specs.Option.{option_map_or}
 use Rattle.refusals.specs.Said.{Said, refusal, is_accepted}
 use Rattle.refusals.specs.declared.Refusal.TheVariants.{AlreadySplit}
-use Rattle.cell.specs.Boxes.{border, shares_edge}
+use Rattle.cell.specs.Boxes.{se, border, shares_edge}
 use Rattle.cell.specs.Ticks.{in_range, off, on}
 use Rattle.cell.proofs.Contact.{and_left, and_right, or_cases}
 use Rattle.table.specs.Slots.{cell_at, counted, same_z, in_slot, kept, put_cell, put_first, stored}
@@ -16,12 +16,12 @@ use Rattle.coarsest.specs.declared.Engine.{Engine}
 use Rattle.coarsest.specs.declared.Engine.TheVariants.{Balancing, Conforming}
 use Rattle.coarsest.specs.Passes.{due, step, with_each, pass, run, evened}
 use Rattle.coarsest.specs.Names.{find, splitting}
-use Rattle.coarsest.specs.InTurn.{Name}
+use Rattle.coarsest.specs.InTurn.{Name, leaf_named}
 use Rattle.coarsest.proofs.InTurn.{Adds, name_of}
 use Rattle.even.specs.Rows.{flat, row_of}
 use Rattle.even.specs.Even.{even_says, even_row, even_cells}
 use Rattle.even.specs.Later.{Lent, cells_of, Evened, Refined, PassedOver, RefinedInTurn}
-use Rattle.even.specs.LaterBoard.{AtWork, counts, evened_of, refined_of, refined_if, refined_in_turn, roots, start, marks, split_first}
+use Rattle.even.specs.LaterBoard.{AtWork, corner, counts, evened_of, refined_of, refined_if, refined_in_turn, roots, start, marks, split_first}
 use Rattle.even.specs.LaterBoard.{counted as numbers, evened as first_evened, split_later, in_parts, at_once}
 use Rattle.even.proofs.Later.{turn-adds, evening-formed}
 use Rattle.even.proofs.Parts.{accepts}
@@ -87,16 +87,18 @@ record Computed (e : Engine) : Type 0 where
   possible : splitting (cells_of start) 1 [] ≡ false
   passed_over : splitting (cells_of (first_evened e)) 1 [] ≡ true
   cells : counts e ≡ numbers e
+  leaf : leaf_named (cells_of (in_parts e)) 1 (se ∷ se ∷ []) ≡ Some corner
+  no_leaf : leaf_named (cells_of (in_parts e)) 1 [] ≡ None
 
 balance-computed : Computed Balancing
 unfolding roots start marks split_first first_evened split_later in_parts at_once find splitting table cell_at counted well_formed shape_ok rest_zero same_z cells_ok cell_ok in_slot in_range place_ok root_ok side_ok off on kids_ok border shares_edge due evened pass run step with_each even_row even_says flat row_of born_ok kid_ok same_but leaf_count split put_kid split_row kept put_cell put_first stored
 balance-computed =
-    record { first = refl; list = refl; again = refl; all = refl; once = refl; possible = refl; passed_over = refl; cells = refl }
+    record { first = refl; list = refl; again = refl; all = refl; once = refl; possible = refl; passed_over = refl; cells = refl; leaf = refl; no_leaf = refl }
 
 conform-computed : Computed Conforming
 unfolding roots start marks split_first first_evened split_later in_parts at_once find splitting table cell_at counted well_formed shape_ok rest_zero same_z cells_ok cell_ok in_slot in_range place_ok root_ok side_ok off on kids_ok border shares_edge due evened pass run step with_each even_row even_says flat row_of born_ok kid_ok same_but leaf_count split put_kid split_row kept put_cell put_first stored
 conform-computed =
-    record { first = refl; list = refl; again = refl; all = refl; once = refl; possible = refl; passed_over = refl; cells = refl }
+    record { first = refl; list = refl; again = refl; all = refl; once = refl; possible = refl; passed_over = refl; cells = refl; leaf = refl; no_leaf = refl }
 
 module _ (e : Engine) (c : Computed e) where
   evened-first : Evened e start (first_evened e)
@@ -125,6 +127,8 @@ module _ (e : Engine) (c : Computed e) where
         possible = c.possible;
         passed_over = c.passed_over;
         cells = c.cells;
+        leaf = c.leaf;
+        no_leaf = c.no_leaf;
       }
 
 pub at-work : (e : Engine) → AtWork e

@@ -1,18 +1,19 @@
 -- One small board on which both facts of Later.antt are at work, so that what they ask for can be met: each call is
 -- accepted, and the list has a cell that the first evening splits.
-use Rattle.std.specs.Prelude.{ℕ, ◌+◌, ◌≡◌, Bool, true, false, List, [], ◌∷◌, ◌++◌, ℤ, pos, map, fold, replicate}
-use Rattle.std.specs.Prelude.{if◌then◌else◌}
+use Rattle.std.specs.Prelude.{ℕ, ◌+◌, ◌≡◌, Bool, true, false, List, [], ◌∷◌, ◌++◌, ℤ, pos, map, fold}
+use Rattle.std.specs.Prelude.{replicate, None, Some, if◌then◌else◌}
 use Rattle.std.specs.List.{flat_map}
 use Rattle.std.specs.Option.{option_map_or}
 use Rattle.refusals.specs.Said.{is_accepted}
 use Rattle.cell.specs.Boxes.{se}
 use Rattle.cell.specs.Cells.{no_cell}
+use Rattle.cell.specs.Ticks.{off}
 use Rattle.table.specs.Rows.{head_of, after_split}
 use Rattle.table.specs.Refine.{refine_says, refined_row}
 use Rattle.coarsest.specs.declared.Engine.{Engine}
 use Rattle.coarsest.specs.declared.Engine.TheVariants.{Balancing, Conforming}
 use Rattle.coarsest.specs.Names.{Route, ◌⊆◌, find, splitting}
-use Rattle.coarsest.specs.InTurn.{Name}
+use Rattle.coarsest.specs.InTurn.{Name, Placed, leaf_named}
 use Rattle.coarsest.specs.Laws.{SameRoots}
 use Rattle.even.specs.Even.{even_row, even_head}
 use Rattle.even.specs.Later.{Lent, cells_of, Evened, RefinedInTurn}
@@ -79,6 +80,13 @@ abbrev pub counted : Engine → List ℕ
 counted Balancing = 12 ∷ 16 ∷ 24 ∷ 28 ∷ 24 ∷ 28 ∷ []
 counted Conforming = 12 ∷ 64 ∷ 68 ∷ 68 ∷ 24 ∷ 68 ∷ []
 
+abbrev pub corner : Placed
+corner = record {
+  box = record { x0 = off (pos 14); y0 = off (pos 0); x1 = off (pos 16); y1 = off (pos 2) };
+  level = 2;
+  polygon = 0;
+}
+
 -- every hypothesis of the two facts holds of the board, and each fact says something of it
 pub record AtWork (e : Engine) : Type 0 where
   pub same_roots : SameRoots (cells_of start) (cells_of split_first)
@@ -92,6 +100,9 @@ pub record AtWork (e : Engine) : Type 0 where
   pub possible : splitting (cells_of start) 1 [] ≡ false
   pub passed_over : splitting (cells_of (evened e)) 1 [] ≡ true
   pub cells : counts e ≡ counted e
+  -- and at the end: its south-eastern quadrant's own is a leaf, at x = 14 to 16 and y = 0 to 2, and it is none itself
+  pub leaf : leaf_named (cells_of (in_parts e)) 1 (se ∷ se ∷ []) ≡ Some corner
+  pub no_leaf : leaf_named (cells_of (in_parts e)) 1 [] ≡ None
 
 abbrev pub FactsAtWork : Type 0
 FactsAtWork = (e : Engine) → AtWork e

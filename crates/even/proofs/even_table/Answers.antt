@@ -12,7 +12,8 @@ use Rattle.coarsest.proofs.Evened.{evened-leaves}
 use Rattle.even.specs.Rows.{row_of}
 use Rattle.even.specs.Even.{even_cells, even_says, even_row}
 use Rattle.even.proofs.Rowing.{row_is}
-use Rattle.even.proofs.Ending.{ends-done, ends-full, ends-bad}
+use Rattle.even.proofs.Ending.{ends-bad}
+use Rattle.even.proofs.Held.{definitions-agree}
 use Rattle.even.proofs.even_table.Goals as goal
 
 pub returns-then-not-well_formed-clause-says : goal.returns-then-not-well_formed-clause-says
@@ -49,10 +50,8 @@ returns-in-Err-clause-row_after c =
 
 pub returns-in-Err-clause-coarsest : goal.returns-in-Err-clause-coarsest
 returns-in-Err-clause-coarsest c =
-    let w = formed-facts _ _ (sym c.well_formed-2.ensures ∙ c.if-not-well_formed.false) in
-    rw c.in-Err.ensures.refusal
-    (ends-full c.args.engine c.args.head c.args.row.now _ w c.in-Err.ensures.full
-    (c.undo.ensures ∙ c.in-Err.ensures.undone))
+    rw (returns-in-Err-clause-says c, returns-in-Err-clause-row_after c)
+    (definitions-agree c.args.engine c.args.head c.args.row.now)
 
 -- where there was room: the row has as many cells and leaves as the passes end in
 module _ (e : Engine) (head grown : Head) (old new : List ℤ) (formed : IsTable new grown)
@@ -97,10 +96,5 @@ returns-in-Ok-clause-row_after c =
 
 pub returns-in-Ok-clause-coarsest : goal.returns-in-Ok-clause-coarsest
 returns-in-Ok-clause-coarsest c =
-    let w = formed-facts _ _ (sym c.well_formed-2.ensures ∙ c.if-not-well_formed.false) in
-    let g = c.in-Ok.ensures in
-    rw g.max_level
-    (ends-done c.args.engine c.args.head c.args.row.now _ w _ _ g.cells
-    (sym (as-leafy c.args.engine c.args.head c.in-Ok.grown c.args.row.now c.even_out.new.row g.formed g.cells))
-    (room c.args.engine c.args.head c.in-Ok.grown c.args.row.now c.even_out.new.row g.formed g.cells
-    c.even_out.auto.row))
+    rw (returns-in-Ok-clause-says c, returns-in-Ok-clause-row_after c)
+    (definitions-agree c.args.engine c.args.head c.args.row.now)
