@@ -1,8 +1,9 @@
 //! Borders: of two rectangles by hand, and of many against `contact` of every pair.
 
+mod shared;
+
 use leafmesh::*;
-use std::fs;
-use std::path::Path;
+use shared::{rect_of, rooted, sample, Dice};
 
 type Leaf = (usize, Rect);
 
@@ -15,24 +16,6 @@ fn found(first: usize, second: usize, side: Side, length: u64) -> LeafBorder {
         first,
         second,
         border: border(side, length),
-    }
-}
-
-/// Numbers that look like chance, the same in every run.
-struct Dice(u64);
-
-impl Dice {
-    fn below(&mut self, most: u64) -> u64 {
-        self.0 = self
-            .0
-            .wrapping_mul(6_364_136_223_846_793_005)
-            .wrapping_add(1_442_695_040_888_963_407);
-        (self.0 >> 33) % most
-    }
-
-    /// From `least` to `most`.
-    fn between(&mut self, least: i64, most: i64) -> i64 {
-        least + self.below((most - least + 1) as u64) as i64
     }
 }
 
@@ -58,11 +41,6 @@ fn assert_in_order(all: &[LeafBorder]) {
     assert!(all.windows(2).all(|two| ids(&two[0]) < ids(&two[1])));
 }
 
-fn rect_of(row: &[i64], id: usize) -> Rect {
-    let slot = &row[SLOT * id..];
-    [columns::X0, columns::Y0, columns::X1, columns::Y1].map(|column| slot[column])
-}
-
 fn leaves_of(table: &Table) -> Vec<Leaf> {
     let mut ids = vec![0; table.leaf_count()];
     table.leaves(&mut ids).expect("room");
@@ -77,25 +55,6 @@ fn of_table(table: &Table) -> Vec<LeafBorder> {
     assert_in_order(&all);
     assert!(all == of_all_pairs(&leaves), "{} leaves", leaves.len());
     all
-}
-
-/// A row with these roots.
-fn rooted(roots: &[Rect], max_level: u64, slots: usize) -> (Vec<i64>, Head) {
-    let mut row = vec![0; SLOT * slots];
-    for (slot, root) in row.chunks_exact_mut(SLOT).zip(roots) {
-        slot[..4].copy_from_slice(root);
-        slot[columns::PARENT] = NO_CELL;
-        slot[columns::FIRST_CHILD] = NO_CELL;
-    }
-    let (count, leaves) = (roots.len(), roots.len());
-    (
-        row,
-        Head {
-            count,
-            leaves,
-            max_level,
-        },
-    )
 }
 
 #[test]
@@ -255,29 +214,15 @@ fn tables_by_chance() {
     let mut dice = Dice(7);
     let mut seen = 0;
     for _ in 0..60 {
-        let mut roots: Vec<Rect> = Vec::new();
-        for _ in 0..dice.between(1, 12) {
-            let again = roots.get(dice.below(16) as usize).copied();
-            let [x0, y0] = [0, 0].map(|_| dice.between(-20, 20));
-            let [w, h] = [0, 0].map(|_| 16 * dice.between(1, 2));
-            roots.push(again.unwrap_or([x0, y0, x0 + w, y0 + h]));
-        }
-        let (mut row, head) = rooted(&roots, 3, 8_000);
+        let (mut row, head) = rooted(&dice.roots(), 3, 8_000);
         let mut table = Table::of(&mut row, head).expect("roots");
-        for _ in 0..dice.below(20) {
-            // Of a split cell and at the deepest level it is refused.
-            let _ = table.refine(dice.below(table.head().count as u64) as usize);
-        }
+        let cells = dice.below(20);
+        dice.split(&mut table, cells);
         seen += of_table(&table).len();
         table.balance().expect("room");
         seen += of_table(&table).len();
     }
     assert!(seen > 5_000, "{seen}");
-}
-
-fn sample(name: &str) -> String {
-    let folder = Path::new(env!("CARGO_MANIFEST_DIR")).join("../../boards");
-    fs::read_to_string(folder.join(name)).expect("a sample")
 }
 
 /// Balanced boards of several polygons, layers and levels: by the mesh, by its table, by leafnet's text.
