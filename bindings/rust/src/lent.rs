@@ -1,11 +1,11 @@
-//! What is asked of a row and a head, whoever holds them. Each call judges the head against the row, but
-//! [`Lent::leaf_count`].
+//! What is asked of a row and a head, whoever holds them. Each call of the library judges the head against the row, but
+//! [`Lent::leaf_count`]; what looks at single slots doesn't.
 
-use crate::columns::{X0, X1, Y0, Y1};
+use crate::columns::{FIRST_CHILD, PARENT, X0, X1, Y0, Y1};
 use crate::refusal::{judged, judged_check, judged_net};
 use crate::{
-    borders, ffi, limits, Cell, Counts, Edge, Hanging, Head, LeafBorder, Links, Net, NetRoom,
-    NetRows, Node, Outlines, Reason, Rect, Refusal, SLOT,
+    borders, ffi, limits, Cell, CellName, Counts, Edge, Hanging, Head, LeafBorder, Links, Net,
+    NetRoom, NetRows, Node, Outlines, Quadrant, Reason, Rect, Refusal, NO_CELL, SLOT,
 };
 
 /// A row and the head of the table in it.
@@ -87,6 +87,42 @@ impl<'a> Lent<'a> {
     pub fn rect(self, id: usize) -> Rect {
         let slot = self.slot(id);
         [X0, Y0, X1, Y1].map(|column| slot[column])
+    }
+
+    /// The cell that another one is a quarter of. It stands before its quarters, so that a way up ends in any row.
+    fn parent(self, id: usize) -> Option<usize> {
+        self.cell_in(id, PARENT).filter(|&parent| parent < id)
+    }
+
+    /// The first quarter of a cell that is split.
+    pub fn first_child(self, id: usize) -> Option<usize> {
+        self.cell_in(id, FIRST_CHILD)
+    }
+
+    /// The cell that a slot names in this column.
+    fn cell_in(self, id: usize, column: usize) -> Option<usize> {
+        let cell = self.slot(id)[column];
+        (cell != NO_CELL).then_some(cell as usize)
+    }
+
+    pub fn name(self, id: usize) -> Option<CellName> {
+        if id >= self.head.count {
+            return None;
+        }
+        let (mut root, mut route) = (id, Vec::new());
+        while let Some(parent) = self.parent(root) {
+            route.push(Quadrant::ALL[root - self.first_child(parent)?]);
+            root = parent;
+        }
+        route.reverse();
+        Some(CellName { root, route })
+    }
+
+    pub fn id_of(self, name: &CellName) -> Option<usize> {
+        let is_root = |&id: &usize| id < self.head.count && self.parent(id).is_none();
+        let root = Some(name.root).filter(is_root)?;
+        let down = |id, &quadrant| Some(self.first_child(id)? + quadrant as usize);
+        name.route.iter().try_fold(root, down)
     }
 
     pub fn edge_rows(self, outlines: Outlines, links: Links) -> Result<usize, Refusal> {

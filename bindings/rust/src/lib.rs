@@ -22,6 +22,11 @@
 //! [`Table`] holds a lent row and its head, which every call keeps; [`Mesh`] holds a row of its own, its polygons and
 //! the calls in one. The library's own calls, over any row and any head, are in [`ffi`].
 //!
+//! **Maps of one board compare by name.** An id says when a cell was made, so a board that is marked and balanced every
+//! week has other ids than one with the same marks that is balanced once. A [`CellName`], the root and the quadrants
+//! down from it, is the same in both; and it is proved that both have the same leaves, and that more marks make no leaf
+//! coarser. [`CellName`] shows it with an example; [`Table::name`] and [`Table::id_of`] go there and back.
+//!
 //! The build links `libleafmesh.a` from crates/leafmesh/out under the repository's root, where
 //! bindings/library.sh leaves it, or from the folder that `LEAFMESH_LIBRARY` names.
 //!
@@ -64,6 +69,7 @@ mod lent;
 mod links;
 mod marks;
 mod mesh;
+mod name;
 mod net;
 mod pitch;
 pub mod printed;
@@ -80,6 +86,7 @@ pub mod vtk;
 pub use borders::{borders, Border, LeafBorder, Side};
 pub use links::{Channel, Contact, Footprint, Link, Links, OwnedLinks, Terminal, Via};
 pub use mesh::{Mesh, Polygons};
+pub use name::{CellName, NoName, Quadrant};
 pub use net::{Cell, Counts, Edge, Net, NetRoom, NetRows, Node};
 pub use pitch::{Misfit, Pitch, Why};
 use refusal::{judged, judged_border, judged_read};

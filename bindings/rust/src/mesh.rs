@@ -1,12 +1,12 @@
 //! A board's mesh and net with rooms of their own: the calls of [`Table`], one after another.
 
-use crate::columns::{FIRST_CHILD, LEVEL, POLYGON};
+use crate::columns::{LEVEL, POLYGON};
 use crate::lent::Lent;
 use crate::sides::has_side;
 use crate::unmeshed::{refused, Idle, Loose, TooLong, Unmeshed};
 use crate::{
-    Board, Hanging, Head, LeafBorder, Links, Net, NetRows, Outlines, Point, Reason, Rect, Refusal,
-    Settings, Table, NO_CELL, SLOT, SLOTS,
+    Board, CellName, Hanging, Head, LeafBorder, Links, Net, NetRows, Outlines, Point, Reason, Rect,
+    Refusal, Settings, Table, SLOT, SLOTS,
 };
 
 /// Polygons by rows, owned: what [`Table::build`] and [`Table::network`] take as [`Outlines`].
@@ -312,6 +312,24 @@ impl Mesh {
 
     /// Whether it isn't split.
     pub fn is_leaf(&self, id: usize) -> bool {
-        self.slot(id)[FIRST_CHILD] == NO_CELL
+        self.lent().first_child(id).is_none()
+    }
+
+    /// The name of a cell, as in [`Table::name`].
+    ///
+    /// # Panics
+    ///
+    /// It may, where the table isn't well formed.
+    pub fn name(&self, id: usize) -> Option<CellName> {
+        self.lent().name(id)
+    }
+
+    /// The id of a cell, as in [`Table::id_of`].
+    ///
+    /// # Panics
+    ///
+    /// It may, where the table isn't well formed.
+    pub fn id_of(&self, name: &CellName) -> Option<usize> {
+        self.lent().id_of(name)
     }
 }

@@ -3,13 +3,13 @@
 use crate::lent::Lent;
 use crate::refusal::judged_table;
 use crate::{
-    ffi, Counts, Hanging, Head, LeafBorder, Links, Net, NetRoom, NetRows, Outlines, Refusal,
-    Settings,
+    ffi, CellName, Counts, Hanging, Head, LeafBorder, Links, Net, NetRoom, NetRows, Outlines,
+    Refusal, Settings,
 };
 
 /// A table in a lent row, and its head, which every call keeps: so none can be asked with another table's. No call but
-/// [`Table::borders`], [`Table::network`], [`Table::linked_network`] and the two checks without a work room takes
-/// anything from the heap.
+/// [`Table::borders`], [`Table::name`], [`Table::network`], [`Table::linked_network`] and the two checks without a work
+/// room takes anything from the heap.
 #[derive(Debug)]
 pub struct Table<'a> {
     row: &'a mut [i64],
@@ -113,6 +113,41 @@ impl<'a> Table<'a> {
     /// [`Reason::NoRoom`](crate::Reason::NoRoom).
     pub fn leaf_order(&self, out: &mut [u64]) -> Result<usize, Refusal> {
         self.lent().leaf_order(out)
+    }
+
+    /// The name of the cell with this id. None where the table has no such cell.
+    pub fn name(&self, id: usize) -> Option<CellName> {
+        self.lent().name(id)
+    }
+
+    /// The id of the cell with this name. None where no such cell stands: the root is none, or a cell on the way down
+    /// isn't split.
+    ///
+    /// ```
+    /// use leafmesh::{CellName, Outlines, Quadrant, Settings, Table};
+    ///
+    /// // One square of 8 by 8 ticks, split once.
+    /// let outlines = Outlines {
+    ///     layers: &[1],
+    ///     components: &[0],
+    ///     sheets: &[1.0],
+    ///     counts: &[4],
+    ///     points: &[[0, 0], [8, 0], [8, 8], [0, 8]],
+    /// };
+    /// let settings = Settings { max_level: 2, cap: 256, target: 8 };
+    /// let mut row = vec![0; 8 * 64];
+    /// let mut table = Table::build(settings, &[], outlines, &mut row)?;
+    /// table.refine(0)?;
+    ///
+    /// let name = CellName { root: 0, route: vec![Quadrant::NorthEast] };
+    /// assert_eq!(table.id_of(&name), Some(4));
+    /// assert_eq!(table.name(4), Some(name));
+    /// let below = CellName { root: 0, route: vec![Quadrant::NorthEast, Quadrant::SouthWest] };
+    /// assert_eq!(table.id_of(&below), None);
+    /// # Ok::<(), leafmesh::Refusal>(())
+    /// ```
+    pub fn id_of(&self, name: &CellName) -> Option<usize> {
+        self.lent().id_of(name)
     }
 
     /// Every pair of leaves that share a border, once: `first` is below `second`, the pairs are in their order, and
