@@ -127,19 +127,24 @@ fn a_root_behind_another_ones_quarters() {
 fn names_by_hand() {
     let (mut row, head) = rooted(&[[0, 0, 8, 8], [8, 0, 16, 8]], 2, 16);
     let mut table = Table::of(&mut row, head).expect("two roots");
-    table.refine(1).expect("a leaf");
-    table.refine(3).expect("a leaf");
+    for id in [0, 1, 7] {
+        table.refine(id).expect("a leaf");
+    }
     let in_order = [
         (0, "0"),
+        (2, "0 SW"),
+        (3, "0 SE"),
+        (4, "0 NW"),
+        (5, "0 NE"),
         (1, "1"),
-        (2, "1 SW"),
-        (3, "1 SE"),
-        (6, "1 SE SW"),
-        (7, "1 SE SE"),
-        (8, "1 SE NW"),
-        (9, "1 SE NE"),
-        (4, "1 NW"),
-        (5, "1 NE"),
+        (6, "1 SW"),
+        (7, "1 SE"),
+        (10, "1 SE SW"),
+        (11, "1 SE SE"),
+        (12, "1 SE NW"),
+        (13, "1 SE NE"),
+        (8, "1 NW"),
+        (9, "1 NE"),
     ];
     for (id, text) in in_order {
         assert_eq!(table.name(id), Some(named(text)));
@@ -153,7 +158,16 @@ fn names_by_hand() {
         route: vec![Quadrant::SouthEast, Quadrant::NorthWest],
     };
     assert_eq!(name.to_string(), "1 SE NW");
-    for none in ["0 SW", "1 NE SW", "1 SE SE SE", "2", "3", "2 SE", "16"] {
+    for none in [
+        "0 SW SW",
+        "1 NE SW",
+        "1 SE SE SE",
+        "2",
+        "7",
+        "7 SE",
+        "14",
+        "16",
+    ] {
         assert_eq!(table.id_of(&named(none)), None, "{none}");
     }
 }
