@@ -51,12 +51,12 @@ impl Quadrant {
 /// [`Table::conform`](crate::Table::conform) alike (docs/RULES.md has the names and the splitting that both end in):
 ///
 /// - **More marks, finer map.** If one table has every split of another, it still does when both are balanced.
-/// - **Weekly or at once, the same map.** To balance, to split a list of names in turn, passing over those that are
-///   split already, and to balance again ends in the same leaves, and the same head, as to split the list first and
-///   balance once.
+/// - **Weekly or at once, the same map.** Let a list of names be split in turn, and those that are split already be
+///   passed over. To balance before it and after it ends in the same leaves, and the same head, as to balance after it
+///   alone.
 ///
-/// So marks are kept by name. A list that names what lies above a mark before the mark itself can be split in every
-/// such table, also where balance hasn't made way for it.
+/// So marks are kept by name. A cell that balance made way for doesn't stand in a fresh table: its list has to name
+/// what lies above it first, which is passed over where it is split.
 ///
 /// ```
 /// use leafmesh::{CellName, Mesh, Polygons, Reason, Refusal, Settings};
@@ -86,9 +86,10 @@ impl Quadrant {
 /// let last_marks = ["0".parse()?, "0 SE".parse()?];
 /// let new_marks = ["3".parse()?, "1".parse()?, "1 SE".parse()?];
 ///
+/// // Balance splits cell 1, so that it is passed over in the second week.
 /// let mut weekly = bare.clone();
 /// split(&mut weekly, &last_marks)?;
-/// assert_eq!(weekly.balance()?, 1); // cell 1, so that it is passed over next week
+/// assert_eq!(weekly.balance()?, 1);
 /// let last_leaves = leaves(&weekly)?;
 /// split(&mut weekly, &new_marks)?;
 /// weekly.balance()?;
