@@ -18,9 +18,73 @@ pub struct Name {
 }
 
 impl Name {
-    fn child(self, quadrant: u32) -> Self {
+    /// The root that stands at this place among the table's roots.
+    pub fn root(place: usize) -> Self {
+        Name { root: place as u32, depth: 0, path: 0 }
+    }
+
+    /// Quadrants are numbered SW, SE, NW, NE.
+    pub fn child(self, quadrant: u32) -> Self {
         Name { root: self.root, depth: self.depth + 1, path: self.path * 4 + quadrant }
     }
+
+    pub fn parent(self) -> Option<Self> {
+        let depth = self.depth.checked_sub(1)?;
+        Some(Name { root: self.root, depth, path: self.path / 4 })
+    }
+
+    /// The level of the cell.
+    pub fn depth(self) -> u8 {
+        self.depth
+    }
+
+    /// From the root down.
+    fn quadrants(self) -> impl Iterator<Item = usize> {
+        (0..self.depth).rev().map(move |below| (self.path >> (2 * below)) as usize % 4)
+    }
+}
+
+/// A leaf as it stands in a table, but for its id.
+#[derive(Clone, Copy, Debug, PartialEq, Eq, PartialOrd, Ord)]
+pub struct NamedLeaf {
+    pub name: Name,
+    pub rect: Rect,
+    pub polygon: i64,
+}
+
+/// The name of each cell of a well-formed table, by id.
+pub fn names(table: &[i64], count: usize) -> Vec<Name> {
+    let mut names: Vec<Name> = Vec::with_capacity(count);
+    let mut roots = 0;
+    // A parent stands before its children, so its name is known when theirs are asked for.
+    for id in 0..count {
+        let cell = Slot::load(table, id);
+        names.push(if cell.parent == NO_CELL {
+            roots += 1;
+            Name::root(roots - 1)
+        } else {
+            let parent = Slot::load(table, cell.parent as usize);
+            names[cell.parent as usize].child((id as i64 - parent.first) as u32)
+        });
+    }
+    names
+}
+
+/// The id of the cell of that name, if a well-formed table has it. Found by walking down from the root.
+pub fn id_of(table: &[i64], count: usize, name: Name) -> Option<usize> {
+    let mut roots = (0..count).filter(|&id| Slot::load(table, id).parent == NO_CELL);
+    let root = roots.nth(name.root as usize)?;
+    name.quadrants().try_fold(root, |id, quadrant| {
+        let cell = Slot::load(table, id);
+        (!cell.is_leaf()).then(|| cell.first as usize + quadrant)
+    })
+}
+
+/// The leaves of a well-formed table, by name.
+pub fn leaves_by_name(table: &[i64], count: usize) -> BTreeSet<NamedLeaf> {
+    let cells = (0..count).map(|id| Slot::load(table, id));
+    let named = cells.zip(names(table, count)).filter(|(cell, _)| cell.is_leaf());
+    named.map(|(cell, name)| NamedLeaf { name, rect: cell.rect(), polygon: cell.polygon }).collect()
 }
 
 /// The roots of a table and the names of its split cells.
@@ -39,17 +103,11 @@ impl Splitting {
     /// The splitting of a well-formed table.
     pub fn of_table(table: &[i64], count: usize) -> Self {
         let mut found = Splitting { roots: Vec::new(), split: BTreeSet::new() };
-        // A parent stands before its children, so its name is known when theirs are asked for.
-        let mut names: Vec<Name> = Vec::with_capacity(count);
-        for id in 0..count {
+        for (id, name) in names(table, count).into_iter().enumerate() {
             let cell = Slot::load(table, id);
-            let name = if cell.parent == NO_CELL {
-                found.add_root(cell.rect())
-            } else {
-                let parent = Slot::load(table, cell.parent as usize);
-                names[cell.parent as usize].child((id as i64 - parent.first) as u32)
-            };
-            names.push(name);
+            if cell.parent == NO_CELL {
+                found.roots.push(cell.rect());
+            }
             if !cell.is_leaf() {
                 found.split.insert(name);
             }
@@ -57,20 +115,26 @@ impl Splitting {
         found
     }
 
-    fn add_root(&mut self, rect: Rect) -> Name {
-        self.roots.push(rect);
-        Name { root: self.roots.len() as u32 - 1, depth: 0, path: 0 }
-    }
-
     pub fn cells(&self) -> usize {
         self.roots.len() + 4 * self.split.len()
+    }
+
+    /// Whether the cell of that name is split.
+    pub fn splits(&self, name: Name) -> bool {
+        self.split.contains(&name)
+    }
+
+    /// Whether two roots have an area in common.
+    pub fn roots_overlap(&self) -> bool {
+        let both = |a: Rect, b: Rect| overlap(a, b, 0) && overlap(a, b, 1);
+        let mut later = self.roots.iter().enumerate();
+        later.any(|(n, &a)| self.roots[..n].iter().any(|&b| both(a, b)))
     }
 
     fn leaves(&self) -> Vec<Leaf> {
         let mut leaves = Vec::new();
         for (root, &rect) in self.roots.iter().enumerate() {
-            let name = Name { root: root as u32, depth: 0, path: 0 };
-            self.gather(name, rect, &mut leaves);
+            self.gather(Name::root(root), rect, &mut leaves);
         }
         leaves
     }
@@ -119,9 +183,9 @@ impl Splitting {
         self.due(allowed).is_empty()
     }
 
-    /// Whether every cell that `other` splits is split here too.
+    /// Whether the roots are the same and every cell that `other` splits is split here too.
     pub fn contains(&self, other: &Splitting) -> bool {
-        self.split.is_superset(&other.split)
+        self.roots == other.roots && self.split.is_superset(&other.split)
     }
 }
 
