@@ -10,7 +10,7 @@ use calls::limits::SLOTS;
 use calls::table::{Head, Slot};
 use calls::well_formed::well_formed;
 use inputs::damage::damage;
-use inputs::tables::{random_table, random_unbalanced_table, Table};
+use inputs::tables::{random_table_to_even, Table};
 use inputs::Random;
 
 const CELLS: usize = 40;
@@ -89,11 +89,7 @@ pub fn any_lent(random: &mut Random) -> [(Table, Allowed); 2] {
 
 fn any_table(random: &mut Random) -> Table {
     let most = if random.one_in(LARGE_ONE_IN) { LARGE } else { CELLS };
-    if random.one_in(4) {
-        random_table(random, most)
-    } else {
-        random_unbalanced_table(random, most)
-    }
+    random_table_to_even(random, most)
 }
 
 /// Exactly what the coarsest splitting needs, less, or more.

@@ -5,6 +5,7 @@ pub mod chains;
 pub mod damage;
 pub mod default_levels;
 pub mod large_meshes;
+pub mod later;
 pub mod limit_pairs;
 pub mod limit_plans;
 pub mod limit_records;

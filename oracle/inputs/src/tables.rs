@@ -231,3 +231,12 @@ pub fn random_unbalanced_table(random: &mut Random, most: usize) -> Table {
     }
     table
 }
+
+/// For balance and conform: three in four tables are ones that balance has to split, if one of a few draws is.
+pub fn random_table_to_even(random: &mut Random, most: usize) -> Table {
+    if random.one_in(4) {
+        random_table(random, most)
+    } else {
+        random_unbalanced_table(random, most)
+    }
+}
