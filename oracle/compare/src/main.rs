@@ -11,6 +11,7 @@ mod even;
 mod hostile;
 mod indexed;
 mod large;
+mod later;
 mod leafnet;
 mod links;
 mod network;
@@ -45,6 +46,7 @@ const GROUPS: &[Group] = &[
         bench: Some(bench::table::run),
     },
     Group { name: "even", count: 60_000, compare: even::compare, bench: Some(bench::even::run) },
+    Group { name: "later", count: 20_000, compare: later::compare, bench: None },
     Group { name: "large", count: 300, compare: large::compare, bench: Some(bench::hostile::run) },
     Group { name: "strips", count: 200_000, compare: strips::compare, bench: None },
     Group {

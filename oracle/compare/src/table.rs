@@ -229,7 +229,8 @@ pub fn difference<T: Debug>(table: &Table, expected: T, got: T, more: &str) -> (
     (table.row.len() as u128, words)
 }
 
-fn table_words(table: &Table) -> String {
+/// A table's head and first slots.
+pub fn table_words(table: &Table) -> String {
     let shown = 40 * WIDTH;
     let slots: Vec<&[i64]> = table.row[..table.row.len().min(shown)].chunks(WIDTH).collect();
     let cut = if table.row.len() > shown { " and more" } else { "" };
