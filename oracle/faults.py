@@ -1,14 +1,16 @@
 #!/usr/bin/env python3
-"""Puts one fault at a time into a copy of the crates and sees the replays catch it.
+"""Puts one fault at a time into a copy of the crates, or of the oracle, and sees it caught.
 
     faults.py [WORD...]    only the faults whose line has one of the words
 
-Each fault is an edit of one file. `rt try` then runs the replay program that is named, with no proof, and what it
-writes compiled with checks is held to the stored answers. Printed is the first stored case that differs, by its name
-and its line in `stdout`, or where the checks stopped the program, which has written nothing then. Exit status 1 if a
-fault survives or an edit no longer fits. Not in the gate: each takes half a minute.
+Each fault is an edit of one file. For one of the crates `rt try` runs the replay program that is named, with no proof,
+and what it writes compiled with checks is held to the stored answers. Printed is the first stored case that differs, by
+its name and its line in `stdout`, or where the checks stopped the program, which has written nothing then. For one of
+the oracle `compare.sh` runs the group of calls that is named, with the library as it is; printed is the first line with
+a difference, or where the comparison stopped. Exit status 1 if a fault survives or an edit no longer fits. Not in the
+gate: each takes half a minute.
 
-Of each program only the cases at the limits are run, which stand in front.
+Of each program only the cases at the limits are run, which stand in front; of a group, a few random inputs.
 """
 
 import os
@@ -41,6 +43,13 @@ CELL = "cell/src/lib.rt"
 BORDER = "cell/src/border.rt"
 RECTANGLES = "cell/src/rectangles.rt"
 
+# The group of calls that is held to faults of its own, and on how many inputs.
+LATER, INPUTS = "later", "200"
+LENT = "compare/src/later/lent.rs"
+FACTS = "compare/src/later/facts.rs"
+NAMES = "calls/src/coarsest.rs"
+DRAWN = "inputs/src/later.rs"
+
 SHEETS = """    if let Some(p) = first_bad(sheets) {
         return Err(Refusal::OutOfRange(p));
     }
@@ -68,6 +77,11 @@ EAST = "if (self.x1 == other.x0) & (0 < height)"
 WEST = "if (other.x1 == self.x0) & (0 < height)"
 NORTH = "if (self.y1 == other.y0) & (0 < width)"
 SOUTH = "if (other.y1 == self.y0) & (0 < width)"
+PASSED_OVER = """            Err(Refusal { number: SPLIT_ALREADY, .. }) => self.went_on(self.head, 0),
+"""
+IN_PARTS = "        self.at_once(names, allowed)\n"
+LIST_ALONE = "        names.iter().try_for_each(|&name| self.split(name))\n"
+IS_PAIR = "splitting_of(self.more).contains(&splitting_of(self.few))"
 
 # What is wrong, the program that shall see it, the file, what stands there and what is put in its place.
 FAULTS = [
@@ -228,6 +242,13 @@ FAULTS = [
     ("network: no room looked at", NET, NETWORK, "if !room.holds(", "if room.holds(9000 + "),
     ("network: the room before the sheet", NET, NETWORK, JUDGED, ROOM_FIRST),
     ("network: the sheet before the polygon count", NET, JUDGE, POLYGON_COUNT + SHEETS, SHEETS + POLYGON_COUNT),
+    ("later: a split cell not passed over", LATER, LENT, PASSED_OVER, ""),
+    ("later: no evening behind the list, in parts", LATER, LENT, IN_PARTS, LIST_ALONE),
+    ("later: conform behind the list, in parts", LATER, LENT, IN_PARTS, IN_PARTS.replace("allowed", "Allowed::None")),
+    ("later: leaves by id", LATER, NAMES, "zip(names(table, count))", "zip((0..count).map(Name::root))"),
+    ("later: any two tables for a pair", LATER, FACTS, IS_PAIR, "true"),
+    ("later: the few finer than more", LATER, FACTS, "if more.contains(&few) {", "if few.contains(&more) {"),
+    ("later: more without a split of the few", LATER, DRAWN, "&more, random)", "&roots_of(&more), random)"),
 ]
 
 
@@ -308,24 +329,58 @@ def case_at(folder, program, byte):
     return f"{program}, {name} (line {line}: {stored})"
 
 
+def caught_by(folder, program):
+    """None if nothing differs, else what does, in words. Of a program: the stored case."""
+    if program == LATER:
+        return compared(folder, program)
+    differs = tried(folder, program)
+    if differs is None:
+        return None
+    byte, said = differs
+    return case_at(folder, program, byte) if byte >= 0 else f"{program}: {said}"
+
+
+def compared(folder, group):
+    """None if the comparison ends without a difference, else its first line with one, or where it stopped."""
+    run = subprocess.run(["./compare.sh", group, INPUTS], cwd=os.path.join(folder, "oracle"), capture_output=True)
+    said, stopped = run.stdout.decode(), re.search(r"panicked at [^\n]*\n[^\n]*", run.stderr.decode())
+    differing = re.search(r"^.*, [1-9][0-9]* differ$", said, re.M)
+    if run.returncode == 0:
+        return None
+    if not differing and not stopped:
+        raise ValueError(run.stderr.decode())
+    return (differing or stopped).group(0).replace("\n", " ")
+
+
+def copied_oracle(folder):
+    """The oracle in the folder, beside the bindings, which find library and original where this repository does."""
+    for part in ("oracle", "bindings/rust"):
+        no_work = shutil.ignore_patterns("target")
+        shutil.copytree(os.path.join(ROOT, part), os.path.join(folder, part), ignore=no_work)
+    if "LEAFMESH_LIBRARY" not in os.environ:
+        subprocess.run([os.path.join(ROOT, "bindings", "library.sh")], check=True)
+    library = os.environ.get("LEAFMESH_LIBRARY", os.path.join("..", "..", "crates", "leafmesh", "out"))
+    os.environ["LEAFMESH_LIBRARY"] = os.path.join(ROOT, "bindings", "rust", library)
+    os.environ.setdefault("LEAFMESH_ORIGINAL", os.path.join(ROOT, "..", "shared", "docs", "src"))
+    # The group runs no program, so it isn't made.
+    os.environ.setdefault("LEAFMESH_PROGRAM", "leafnet")
+
+
 def result_of(folder, fault):
     """What is said of a fault, and whether it was caught."""
     _, program, file, old, new = fault
-    path = os.path.join(folder, "crates", file)
+    path = os.path.join(folder, "oracle" if program == LATER else "crates", file)
     before = read(path)
     if before.count(old.encode()) != 1:
         return f"NO SUCH TEXT, or more than once: {old!r}", False
     write(path, before.replace(old.encode(), new.encode()))
     try:
-        differs = tried(folder, program)
+        caught = caught_by(folder, program)
     except ValueError as why:
         return f"NOT COMPILED, or no answer: {str(why)[:300]}", False
     finally:
         write(path, before)
-    if differs is None:
-        return "SURVIVED", False
-    byte, said = differs
-    return ("caught by " + (case_at(folder, program, byte) if byte >= 0 else f"{program}: {said}")), True
+    return ("SURVIVED", False) if caught is None else (f"caught by {caught}", True)
 
 
 def main():
@@ -338,10 +393,13 @@ def main():
         shutil.copy(os.path.join(ROOT, "crates.txt"), folder)
         for program in (TABLE, NET, BOARDS, OUTLINE):
             cut(folder, program)
-        for program in sorted({fault[1] for fault in faults}):
-            differs = tried(folder, program)
+        programs = sorted({fault[1] for fault in faults})
+        if LATER in programs:
+            copied_oracle(folder)
+        for program in programs:
+            differs = caught_by(folder, program)
             if differs is not None:
-                raise SystemExit(f"{program} differs from its stored answers without a fault: {differs}")
+                raise SystemExit(f"{program} differs without a fault: {differs}")
         missed = 0
         for fault in faults:
             said, caught = result_of(folder, fault)
