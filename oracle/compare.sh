@@ -1,8 +1,8 @@
 #!/bin/sh
 # Holds the port and the original side by side.
 #
-#   compare.sh [CALLS [COUNT [SEED]]]    CALLS: contact, table, even, large, strips, build, record, power,
-#                                        network, links, checks, leafnet, or all
+#   compare.sh [CALLS [COUNT [SEED]]]    CALLS: contact, table, even, later, large, strips, build, record,
+#                                        power, network, links, checks, leafnet, or all
 #   compare.sh bench [CALLS]             times of both
 #   compare.sh heap [CALLS]              the heap that each takes for the benchmarks' calls
 #

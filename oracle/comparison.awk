@@ -8,6 +8,8 @@ function head() {
         (words == "" ? "" : " " words) "`; oracle/README.md says what the inputs of each group are."
     print "Port and original get the same inputs; every number that is written is compared, fractions by their bits, and text byte for byte."
     print "Where the original has no such call or goes on where docs/RULES.md refuses, the other side is `oracle/calls`, written from that page alone."
+    print "Of `more splits` and `splits in parts` one input is several calls, all made by both sides; what is claimed of the rows that they"
+    print "leave (oracle/README.md, `later`) is judged of the port's."
     print "Of contact the original says whether there is a border, and `oracle/calls` on which side and how long."
     print "Tables of 4,000 to 16,384 slots take the original too long: there the other side of balance and conform is an indexed form of the"
     print "passes (`oracle/compare/src/indexed.rs`), which is itself held to the original on small tables."

@@ -14,21 +14,31 @@ use crate::table::table_words;
 use calls::coarsest::{coarsest, Splitting};
 use calls::even::Allowed;
 use facts::{splitting_of, Orders, Pair};
-use inputs::later::{table_to_even, MoreSplits, SplitList};
+use inputs::later::{steep_table, table_to_even, MoreSplits, SplitList};
 use inputs::tables::Table;
 use inputs::Random;
 use lent::Stop;
 
-/// How many cells a table has at most, and its evened form: what has more is too wide to be run.
+/// How a table is drawn, and how many cells its evened form has at most: what has more is too wide to be run.
 #[derive(Clone, Copy)]
-struct Size {
-    cells: usize,
-    evened: usize,
+struct Draw {
+    table: fn(&mut Random) -> Table,
+    widest: usize,
 }
 
-const ORDINARY: Size = Size { cells: 32, evened: 200 };
-const LARGE: Size = Size { cells: 500, evened: 1_500 };
-const LARGE_ONE_IN: u64 = 300;
+const ORDINARY: Draw = Draw { table: |random| table_to_even(28, random), widest: 180 };
+const LARGE: Draw = Draw { table: |random| table_to_even(500, random), widest: 1_500 };
+/// Conform makes all of a root as deep as its deepest cell, so these are drawn for it.
+const STEEP: Draw = Draw { table: steep_table, widest: 1_500 };
+
+fn any_draw(random: &mut Random) -> Draw {
+    match random.below(300) {
+        0 => LARGE,
+        1..=2 => STEEP,
+        _ => ORDINARY,
+    }
+}
+
 /// What is counted as a table of hundreds of cells, and as a deep one.
 const HUNDREDS: usize = 200;
 const DEEP: i64 = 5;
@@ -106,29 +116,29 @@ impl Evening {
 
     /// Both facts, of one random table.
     fn run(&mut self, random: &mut Random) {
-        let size = if random.one_in(LARGE_ONE_IN) { LARGE } else { ORDINARY };
-        let (table, evened) = self.any_table(size, random);
+        let draw = any_draw(random);
+        let (table, evened) = self.any_table(draw, random);
         self.tables.count(&table);
-        self.more_splits(&table, evened.cells(), size, random);
+        self.more_splits(&table, evened.cells(), draw.widest, random);
         let list = SplitList::random(&table, &evened, random);
-        self.splits_in_parts(&table, &list, size, random);
+        self.splits_in_parts(&table, &list, draw.widest, random);
     }
 
     /// A table that isn't too wide, and its evened form.
-    fn any_table(&self, size: Size, random: &mut Random) -> (Table, Splitting) {
+    fn any_table(&self, draw: Draw, random: &mut Random) -> (Table, Splitting) {
         loop {
-            let table = table_to_even(size.cells, random);
-            if let Some(evened) = self.evened(&table, size) {
+            let table = (draw.table)(random);
+            if let Some(evened) = self.evened(&table, draw.widest) {
                 return (table, evened);
             }
         }
     }
 
-    fn evened(&self, table: &Table, size: Size) -> Option<Splitting> {
-        coarsest(&table.row, table.count, self.allowed.levels(), size.evened)
+    fn evened(&self, table: &Table, widest: usize) -> Option<Splitting> {
+        coarsest(&table.row, table.count, self.allowed.levels(), widest)
     }
 
-    fn more_splits(&mut self, few: &Table, few_need: usize, size: Size, random: &mut Random) {
+    fn more_splits(&mut self, few: &Table, few_need: usize, widest: usize, random: &mut Random) {
         let MoreSplits { table: more, of_its_own } = MoreSplits::than(few, random);
         let pair = Pair { few, more: &more };
         if !pair.is_one() {
@@ -136,7 +146,7 @@ impl Evening {
             self.pairs.none += 1;
             return;
         }
-        let Some(evened) = self.evened(&more, size) else {
+        let Some(evened) = self.evened(&more, widest) else {
             self.pairs.too_wide += 1;
             return;
         };
@@ -158,10 +168,10 @@ impl Evening {
         &mut self,
         table: &Table,
         list: &SplitList,
-        size: Size,
+        widest: usize,
         random: &mut Random,
     ) {
-        let Some(evened) = self.evened(&list.after, size) else {
+        let Some(evened) = self.evened(&list.after, widest) else {
             self.lists.too_wide += 1;
             return;
         };

@@ -3,32 +3,46 @@
 
 use crate::meshes::split_towards;
 use crate::random::Random;
-use crate::tables::{random_table_to_even, Table};
+use crate::tables::{random_table, random_table_to_even, Table};
 use calls::coarsest::{id_of, names, Name, Splitting};
 use calls::table::{Slot, NO_CELL};
 use std::iter::successors;
 
 /// Most names of a list.
 const LONGEST_LIST: usize = 12;
-/// Most further splits of a table that has more than another, but for a few with many.
+/// Most further splits of a table that has more than another: some mostly, now and then many.
 const SOME_SPLITS: usize = 6;
 const MANY_SPLITS: usize = 24;
 const MANY_ONE_IN: u64 = 8;
 const OF_ITS_OWN_ONE_IN: u64 = 16;
-const DEEP_ONE_IN: u64 = 4;
-/// Of a list's names, how many can't be split in their turn.
+const TOWARDS_A_CORNER_ONE_IN: u64 = 4;
+/// The least levels of a steep table.
+const STEEP: u64 = 4;
+/// How often a list's name is one that can't be split in its turn.
 const IMPOSSIBLE_ONE_IN: u64 = 96;
 
-/// A table of at most `most` cells; one in four then has a leaf that is split as deep as it goes.
+/// A table of at most `most` cells; in one of four a leaf is then split towards a corner.
 pub fn table_to_even(most: usize, random: &mut Random) -> Table {
     let mut table = random_table_to_even(random, most);
-    if random.one_in(DEEP_ONE_IN) {
+    if random.one_in(TOWARDS_A_CORNER_ONE_IN) {
         if let Some(id) = table.leaf_to_split(random) {
-            let times = table.max_level;
+            let times = 1 + random.below(table.max_level);
             split_towards(&mut table, id, random.index(4), times);
         }
     }
     table
+}
+
+/// One root or two, the first of them split towards a corner, four levels at least.
+pub fn steep_table(random: &mut Random) -> Table {
+    loop {
+        let mut table = random_table(random, 2);
+        if table.count > 0 && table.max_level >= STEEP {
+            let times = STEEP + random.below(table.max_level - STEEP + 1);
+            split_towards(&mut table, 0, random.index(4), times);
+            return table;
+        }
+    }
 }
 
 /// The same roots, in front, with all splits of the few and mostly some more, in another order; now and then with

@@ -3,7 +3,7 @@
 use calls::coarsest::{coarsest, id_of, leaves_by_name, names, Name, Splitting};
 use calls::even::Allowed;
 use calls::well_formed::well_formed;
-use inputs::later::{table_to_even, MoreSplits, SplitList};
+use inputs::later::{steep_table, table_to_even, MoreSplits, SplitList};
 use inputs::tables::{random_table, Table};
 use inputs::Random;
 use std::collections::BTreeSet;
@@ -65,6 +65,20 @@ fn roots_overlap_by_an_area() {
         }
     }
     assert!(!splitting_of(&Table::with(0, &[first], &[])).roots_overlap());
+}
+
+#[test]
+fn steep_tables_are_well_formed_and_deep() {
+    let mut random = Random::new(34);
+    let mut of_two_roots = 0;
+    for _ in 0..500 {
+        let table = steep_table(&mut random);
+        assert!(well_formed(&table.row, table.head()));
+        let deepest = (0..table.count).map(|id| table.slot(id).level).max();
+        assert!(deepest >= Some(4), "{table:?}");
+        of_two_roots += usize::from(table.slot(1).level == 0);
+    }
+    assert!((100..400).contains(&of_two_roots), "{of_two_roots}");
 }
 
 /// More splits are all of the few and some more, of the same roots, with other ids. Beside those there are tables

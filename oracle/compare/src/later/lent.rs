@@ -43,9 +43,10 @@ pub struct Lent {
 
 impl Lent {
     pub fn in_slots(table: &Table, slots: usize) -> Self {
-        let (mut row, head) = (table.clone(), table.head());
-        row.set_slots(slots);
-        Lent { port_row: row.row.clone(), row: row.row, head, splits: Vec::new() }
+        let mut roomy = table.clone();
+        roomy.set_slots(slots);
+        let (row, port_row) = (roomy.row.clone(), roomy.row);
+        Lent { row, port_row, head: table.head(), splits: Vec::new() }
     }
 
     pub fn even(&mut self, allowed: Allowed) -> Result<(), Stop> {
