@@ -81,6 +81,7 @@ PASSED_OVER = """            Err(Refusal { number: SPLIT_ALREADY, .. }) => self.
 """
 IN_PARTS = "        self.at_once(names, allowed)\n"
 LIST_ALONE = "        names.iter().try_for_each(|&name| self.split(name))\n"
+IS_SPLIT = "if splitting.splits(name)"
 IS_PAIR = "splitting_of(self.more).contains(&splitting_of(self.few))"
 
 # What is wrong, the program that shall see it, the file, what stands there and what is put in its place.
@@ -248,7 +249,7 @@ FAULTS = [
     ("later: leaves by id", LATER, NAMES, "zip(names(table, count))", "zip((0..count).map(Name::root))"),
     ("later: any two tables for a pair", LATER, FACTS, IS_PAIR, "true"),
     ("later: the few finer than more", LATER, FACTS, "if more.contains(&few) {", "if few.contains(&more) {"),
-    ("later: more without a split of the few", LATER, DRAWN, "&more, random)", "&roots_of(&more), random)"),
+    ("later: more without a split of the few", LATER, DRAWN, IS_SPLIT, IS_SPLIT + " && !random.one_in(50)"),
 ]
 
 
