@@ -47,7 +47,7 @@ RefinedInTurn [] before after = after ≡ before
 RefinedInTurn (n ∷ ns) before after =
     (next : Lent) × (Refined n before next ⊎ PassedOver n before next) × RefinedInTurn ns next after
 
--- the same leaves by name, at the same places, and as many of everything
+-- the same leaves, by name, with box, level and polygon; and as many cells and leaves
 pub record SameMesh (t u : Lent) : Type 0 where
   pub leaves : SameLeaves (cells_of t) (cells_of u)
   pub head : t.head ≡ u.head

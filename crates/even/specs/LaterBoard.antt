@@ -100,7 +100,7 @@ pub record AtWork (e : Engine) : Type 0 where
   pub possible : splitting (cells_of start) 1 [] ≡ false
   pub passed_over : splitting (cells_of (evened e)) 1 [] ≡ true
   pub cells : counts e ≡ counted e
-  -- and at the end: its south-eastern quadrant's own is a leaf, at x = 14 to 16 and y = 0 to 2, and it is none itself
+  -- at the end the south-eastern quadrant of its south-eastern quadrant is a leaf, and it is none itself
   pub leaf : leaf_named (cells_of (in_parts e)) 1 (se ∷ se ∷ []) ≡ Some corner
   pub no_leaf : leaf_named (cells_of (in_parts e)) 1 [] ≡ None
 

@@ -23,7 +23,7 @@ pub fn one_evening()
     ensures { OneEvening }
 {}
 
-/// More marks, finer mesh: of two calls that were accepted.
+/// More marks, finer mesh: of what two accepted calls leave in their rows.
 pub fn more_splits_finer_mesh()
     ensures { MoreSplitsFinerMesh }
 {}
@@ -33,7 +33,7 @@ pub fn later_splits_same_mesh()
     ensures { LaterSplitsSameMesh }
 {}
 
-/// And needs no more room.
+/// Whoever has room for all splits and one evening has room for the parts, and no split of the list is lost by them.
 pub fn room_for_parts()
     ensures { RoomForParts }
 {}
