@@ -17,11 +17,10 @@ use Rattle.coarsest.specs.InTurn.{Name, Possible, PassedOver, EachInTurn, placed
 use Rattle.coarsest.specs.Laws.{SameRoots}
 use Rattle.coarsest.proofs.Roots.{of_root, roots_kept, polygons_kept}
 use Rattle.coarsest.proofs.Forced.{bool-ext}
-use Rattle.coarsest.proofs.Find.{at_split, at_leaf, split_at, stands_of, stands-found, find-root, find-up, find-rooted, is-root, root_is, tells, find-kept, splits-kept, splits-back}
+use Rattle.coarsest.proofs.Find.{at_split, at_leaf, split_at, find-root, find-up, find-rooted, is-root, root_is, tells, find-kept, splits-kept, splits-back}
 use Rattle.coarsest.proofs.Numbered.{name-one, formed-cells}
 use Rattle.coarsest.proofs.Count.{cells-fewer}
-use Rattle.coarsest.proofs.Least.{stands-more}
-use Rattle.coarsest.proofs.Leaves.{stands-same}
+use Rattle.coarsest.proofs.Leaves.{found-over}
 use Rattle.coarsest.proofs.Evened.{evened-keeps, evened-formed, evened-roots, evened-coarsest}
 use Rattle.coarsest.proofs.Ends.{evened-parts}
 
@@ -151,10 +150,7 @@ module _ (M : ℕ) where
       go : (b : Bool) → splitting u n.root n.route ≡ b → Possible M u n ⊎ PassedOver u n
       go true e = inr e
       go false e =
-          let top = root_is t n.root (find-rooted t n.root n.route p.id p.named) in
-          let here = is-root u n.root (at t n.root).box (m.roots n.root ∙ top) in
-          let stands = stands-more (splitting u) (splitting t) m.splits n.root n.route (stands_of t n.root n.route p.id p.named) in
-          let f = stands-found u n.root n.route here.0 stands in
+          let f = found-over t u m.roots m.splits n.root n.route p.id p.named in
           let old = (tells M t m.before n.root n.route p.id p.named).level in
           let new = (tells M u m.after n.root n.route f.0 f.1).level in
           let finer = p.finer in
@@ -226,10 +222,7 @@ module _ (M : ℕ) where
       record { one = a.other; other = a.one; roots = λ r. sym (a.roots r); polygons = λ r. sym (a.polygons r); splits = λ r p. sym (a.splits r p) }
 
   found-there : (t u : List Cell) → Alike M t u → (r : ℕ) (p : Route) (i : ℕ) → find t r p ≡ Some i → (j : ℕ) × (find u r p ≡ Some j)
-  found-there t u a r p i f =
-      let top = root_is t r (find-rooted t r p i f) in
-      stands-found u r p (is-root u r (at t r).box (sym (a.roots r) ∙ top)).0
-      (stands-same (splitting t) (splitting u) r p (a.splits r) (stands_of t r p i f))
+  found-there t u a = found-over t u (λ r. sym (a.roots r)) (λ r p e. sym (a.splits r p) ∙ e)
 
   placed-there : (t u : List Cell) → Alike M t u → (r : ℕ) (p : Route) (i j : ℕ) → find t r p ≡ Some i → find u r p ≡ Some j → placed t i ≡ placed u j
   placed-there t u a r p i j f g =

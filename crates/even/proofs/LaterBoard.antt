@@ -20,8 +20,8 @@ use Rattle.coarsest.specs.InTurn.{Name, leaf_named}
 use Rattle.coarsest.proofs.InTurn.{Adds, name_of}
 use Rattle.even.specs.Rows.{flat, row_of}
 use Rattle.even.specs.Even.{even_says, even_row, even_cells}
-use Rattle.even.specs.Later.{Lent, cells_of, Evened, Refined, PassedOver, RefinedInTurn}
-use Rattle.even.specs.LaterBoard.{AtWork, corner, counts, evened_of, refined_of, refined_if, refined_in_turn, roots, start, marks, split_first}
+use Rattle.even.specs.Later.{Lent, cells_of, Evened, Refined, PassedOver, RefinedInTurn, evened_of}
+use Rattle.even.specs.LaterBoard.{AtWork, corner, counts, refined_of, refined_if, refined_in_turn, roots, start, marks, split_first}
 use Rattle.even.specs.LaterBoard.{counted as numbers, evened as first_evened, split_later, in_parts, at_once}
 use Rattle.even.proofs.Later.{turn-adds, evening-formed}
 use Rattle.even.proofs.Parts.{accepts}

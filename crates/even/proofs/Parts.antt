@@ -18,8 +18,7 @@ use Rattle.coarsest.proofs.Find.{at_split, tells}
 use Rattle.coarsest.proofs.Evened.{evened-formed, evened-grown}
 use Rattle.coarsest.proofs.InTurn.{name_of, Adds, list-adds, one-adds, later-each, later-alike, cells-more, cells-alike, whole-split, passed-kept}
 use Rattle.even.specs.Even.{even_cells, even_splits}
-use Rattle.even.specs.Later.{Lent, cells_of, Evened, Refined, PassedOver, RefinedInTurn}
-use Rattle.even.specs.LaterBoard.{evened_of}
+use Rattle.even.specs.Later.{Lent, cells_of, Evened, Refined, PassedOver, RefinedInTurn, evened_of}
 use Rattle.even.proofs.Held.{says-held, even-cells, even-table, even-long}
 use Rattle.even.proofs.Later.{Accepted, accepted-even, passed-facts, InTurn, in-turn}
 

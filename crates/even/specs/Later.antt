@@ -10,7 +10,7 @@ use Rattle.coarsest.specs.declared.Engine.{Engine}
 use Rattle.coarsest.specs.Names.{◌⊆◌, find, splitting}
 use Rattle.coarsest.specs.InTurn.{Name, SameLeaves}
 use Rattle.coarsest.specs.Laws.{SameRoots}
-use Rattle.even.specs.Even.{even_says, even_row}
+use Rattle.even.specs.Even.{even_says, even_row, even_head}
 
 -- a row and its head, as a caller lends them
 pub record Lent : Type 0 where
@@ -26,6 +26,10 @@ pub record Evened (e : Engine) (before after : Lent) : Type 0 where
   pub splits : ℕ
   pub room_enough : even_says e before.row before.head ≡ accepted (splits ∷ head_values after.head)
   pub row_after : after.row ≡ even_row e before.row before.head
+
+-- what such a call leaves
+abbrev pub evened_of : Engine → Lent → Lent
+evened_of e t = record { row = even_row e t.row t.head; head = even_head e t.row t.head }
 
 -- refine was called for the cell of a name, and split it: what its contract says of an accepted call
 pub record Refined (name : Name) (before after : Lent) : Type 0 where

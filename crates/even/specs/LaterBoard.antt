@@ -15,13 +15,9 @@ use Rattle.coarsest.specs.declared.Engine.TheVariants.{Balancing, Conforming}
 use Rattle.coarsest.specs.Names.{Route, ◌⊆◌, find, splitting}
 use Rattle.coarsest.specs.InTurn.{Name, Placed, leaf_named}
 use Rattle.coarsest.specs.Laws.{SameRoots}
-use Rattle.even.specs.Even.{even_row, even_head}
-use Rattle.even.specs.Later.{Lent, cells_of, Evened, RefinedInTurn}
+use Rattle.even.specs.Later.{Lent, cells_of, Evened, RefinedInTurn, evened_of}
 
--- what accepted calls leave
-abbrev pub evened_of : Engine → Lent → Lent
-evened_of e t = record { row = even_row e t.row t.head; head = even_head e t.row t.head }
-
+-- what refine leaves, accepted or not
 abbrev pub refined_if : Bool → Lent → ℕ → Lent
 refined_if accepted t id =
     if accepted then record { row = refined_row t.row t.head id; head = after_split t.head } else t
