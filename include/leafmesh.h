@@ -228,11 +228,11 @@ typedef struct {
 typedef struct {
     uint32_t component;
     int64_t x, y;
-} leafmesh_terminal;
+} leafmesh_channel_end;
 
 /* A channel between two components of one layer, and its resistance in ohms. */
 typedef struct {
-    leafmesh_terminal drain, source;
+    leafmesh_channel_end drain, source;
     double resistance;
 } leafmesh_channel;
 

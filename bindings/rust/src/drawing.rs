@@ -7,7 +7,7 @@ use crate::marks::{self, Marks};
 use crate::printed::Printed;
 use crate::sides::hanging;
 use crate::{
-    borders, Board, LeafBorder, Links, Mesh, Net, NetRows, Point, Rect, Refusal, Side, TICK,
+    borders, Board, Leaf, LeafBorder, Links, Mesh, Net, NetRows, Point, Rect, Refusal, Side, TICK,
 };
 use std::collections::{BTreeMap, BTreeSet};
 use std::fmt::{self, Write};
@@ -82,13 +82,13 @@ impl Picture {
     ///
     /// # Errors
     ///
-    /// [`Reason::BadTable`](crate::Reason) for a table that isn't well formed.
+    /// Those of [`NetRows::judge`].
     pub fn of_mesh(title: &str, mesh: &Mesh, net: NetRows) -> Result<Self, Refusal> {
-        let cell = |id: usize| Cell {
-            id,
-            layer: i64::from(mesh.polygons.layers[mesh.polygon(id)]),
-            level: mesh.level(id),
-            rect: mesh.rect(id),
+        let cell = |leaf: Leaf| Cell {
+            id: leaf.id,
+            layer: i64::from(leaf.layer),
+            level: leaf.level,
+            rect: leaf.rect,
         };
         let nodes: Vec<Place> = net
             .nodes
@@ -97,8 +97,8 @@ impl Picture {
             .collect();
         Ok(Picture {
             title: title.to_string(),
-            cells: mesh.order()?.into_iter().map(cell).collect(),
-            hanging: hanging(net).into_iter().map(|node| nodes[node]).collect(),
+            cells: mesh.leaves().map(cell).collect(),
+            hanging: hanging(net)?.into_iter().map(|node| nodes[node]).collect(),
             nodes,
             values: None,
             marks: Marks::default(),
@@ -199,14 +199,9 @@ fn middles(cell: &Cell) -> [Place; 4] {
 }
 
 /// Watts over square millimetres of each leaf of a mesh, from the watts of a net's cells.
-pub fn densities(mesh: &Mesh, watts: &[f64]) -> Result<Vec<f64>, Refusal> {
-    let millimetres = |ticks: i64| ticks as f64 * TICK * 1e3;
-    let area = |[x0, y0, x1, y1]: Rect| millimetres(x1 - x0) * millimetres(y1 - y0);
-    let order = mesh.order()?;
-    let leaves = order.iter().zip(watts);
-    Ok(leaves
-        .map(|(&id, watts)| watts / area(mesh.rect(id)))
-        .collect())
+pub fn densities(mesh: &Mesh, watts: &[f64]) -> Vec<f64> {
+    let density = |(leaf, watts): (Leaf, &f64)| watts / (leaf.area() * 1e6);
+    mesh.leaves().zip(watts).map(density).collect()
 }
 
 /// From ticks to the picture: panels in columns, one a layer.

@@ -84,8 +84,8 @@ mod unmeshed;
 pub mod vtk;
 
 pub use borders::{borders, Border, LeafBorder, Side};
-pub use links::{Channel, Contact, Footprint, Link, Links, OwnedLinks, Terminal, Via};
-pub use mesh::{Mesh, Polygons};
+pub use links::{Channel, ChannelEnd, Contact, Footprint, Link, Links, OwnedLinks, Via};
+pub use mesh::{Leaf, Mesh, Polygons, Region};
 pub use name::{CellName, NoName, Quadrant};
 pub use net::{Cell, Counts, Edge, Net, NetRoom, NetRows, Node};
 pub use pitch::{Misfit, Pitch, Why};

@@ -49,7 +49,7 @@ pub struct Via {
 /// An end of a channel: the node of a component that is nearest to a place.
 #[repr(C)]
 #[derive(Clone, Copy, Debug, Default, PartialEq, Eq)]
-pub struct Terminal {
+pub struct ChannelEnd {
     /// Of the node.
     pub component: u32,
     /// In ticks.
@@ -63,9 +63,9 @@ pub struct Terminal {
 #[derive(Clone, Copy, Debug, Default, PartialEq)]
 pub struct Channel {
     /// The first end.
-    pub drain: Terminal,
+    pub drain: ChannelEnd,
     /// The second end.
-    pub source: Terminal,
+    pub source: ChannelEnd,
     /// In ohms.
     pub resistance: f64,
 }
@@ -180,7 +180,7 @@ impl Via {
 impl Channel {
     /// Whether the library takes its values.
     pub fn in_range(&self) -> bool {
-        let is_there = |end: &Terminal| is_place(end.x, end.y);
+        let is_there = |end: &ChannelEnd| is_place(end.x, end.y);
         is_there(&self.drain) && is_there(&self.source) && is_resistance(self.resistance)
     }
 }

@@ -1,12 +1,12 @@
 //! A board's mesh and net with rooms of their own: the calls of [`Table`], one after another.
 
-use crate::columns::{LEVEL, POLYGON};
+use crate::columns::{LEVEL, PARENT, POLYGON};
 use crate::lent::Lent;
 use crate::sides::has_side;
 use crate::unmeshed::{refused, Idle, Loose, TooLong, Unmeshed};
 use crate::{
-    Board, CellName, Hanging, Head, LeafBorder, Links, Net, NetRows, Outlines, Point, Reason, Rect,
-    Refusal, Settings, Table, SLOT, SLOTS,
+    contact, power, Board, Border, CellName, Hanging, Head, LeafBorder, Links, Net, NetRows,
+    Outlines, Point, Reason, Rect, Refusal, Settings, Table, NO_CELL, SLOT, SLOTS, TICK,
 };
 
 /// Polygons by rows, owned: what [`Table::build`] and [`Table::network`] take as [`Outlines`].
@@ -71,20 +71,79 @@ impl Board {
     }
 }
 
-/// A table in the largest room, and the board that it was made of.
+/// A leaf of a mesh.
+#[derive(Clone, Copy, Debug, PartialEq)]
+pub struct Leaf {
+    /// Its id in the table.
+    pub id: usize,
+    /// The index of its polygon.
+    pub polygon: usize,
+    /// That of its polygon.
+    pub layer: u16,
+    /// That of its polygon.
+    pub component: u32,
+    /// 0 of a base cell.
+    pub level: u64,
+    /// In ticks.
+    pub rect: Rect,
+    /// In ohms a square.
+    pub sheet: f64,
+}
+
+impl Leaf {
+    /// In square metres.
+    pub fn area(&self) -> f64 {
+        let [x0, y0, x1, y1] = self.rect;
+        let metres = |ticks: i64| ticks as f64 * TICK;
+        metres(x1 - x0) * metres(y1 - y0)
+    }
+
+    /// Whether a place lies in the leaf or on its sides.
+    pub fn has(&self, [x, y]: Point) -> bool {
+        let [x0, y0, x1, y1] = self.rect;
+        (x0..=x1).contains(&x) && (y0..=y1).contains(&y)
+    }
+
+    /// The sheet current that this power stands for, in amperes a metre: the square root of the mean of its square over
+    /// the leaf.
+    pub fn sheet_current(&self, watts: f64) -> f64 {
+        (watts / (self.area() * self.sheet)).sqrt()
+    }
+}
+
+/// A part of a board to be refined.
+#[derive(Clone, Copy, Debug, PartialEq, Eq)]
+pub struct Region {
+    /// In ticks, x0 < x1 and y0 < y1.
+    pub rect: Rect,
+    /// The leaves in it are to be of this level or deeper.
+    pub level: u64,
+    /// The layer, or all of them.
+    pub layer: Option<u16>,
+}
+
+impl Region {
+    /// Whether it and a leaf have an area in common.
+    fn covers(&self, leaf: &Leaf) -> bool {
+        let ([x0, y0, x1, y1], [u0, v0, u1, v1]) = (self.rect, leaf.rect);
+        let is_on = self.layer.map_or(true, |layer| layer == leaf.layer);
+        is_on && x0.max(u0) < x1.min(u1) && y0.max(v0) < y1.min(v1)
+    }
+}
+
+/// A table in the largest room, and the board that it was made of. Only the library writes the table, so it is always
+/// well formed.
 #[derive(Clone, Debug, PartialEq)]
 pub struct Mesh {
-    /// Eight numbers a slot; [`columns`](crate::columns) names them.
-    pub table: Vec<i64>,
-    /// How many of the slots are cells, how many of these leaves, and the deepest level.
-    pub head: Head,
-    /// What the board was cut by.
-    pub settings: Settings,
-    /// Layers with a cell size of their own.
-    pub list: Vec<[u64; 2]>,
-    /// What it was cut from.
-    pub polygons: Polygons,
+    table: Vec<i64>,
+    head: Head,
+    settings: Settings,
+    list: Vec<[u64; 2]>,
+    polygons: Polygons,
 }
+
+/// Of calls that refuse a table only where it isn't well formed.
+const WELL_FORMED: &str = "the library made the table";
 
 impl Mesh {
     /// The base cells of a board. `list` gives some layers a cell size of their own, as in [`Table::build`].
@@ -143,49 +202,261 @@ impl Mesh {
         }
     }
 
+    /// How many cells there are, how many of them are leaves, and the deepest level.
+    pub fn head(&self) -> Head {
+        self.head
+    }
+
+    /// Eight numbers a slot; [`columns`](crate::columns) names them. Those behind the last cell are 0.
+    pub fn row(&self) -> &[i64] {
+        &self.table
+    }
+
+    /// What the board was cut by.
+    pub fn settings(&self) -> Settings {
+        self.settings
+    }
+
+    /// Layers with a cell size of their own.
+    pub fn list(&self) -> &[[u64; 2]] {
+        &self.list
+    }
+
+    /// What the board was cut from.
+    pub fn polygons(&self) -> &Polygons {
+        &self.polygons
+    }
+
     /// Splits one leaf.
     ///
     /// # Errors
     ///
-    /// Those of [`Table::refine`], and [`Reason::BadTable`].
+    /// Those of [`Table::refine`].
     pub fn refine(&mut self, id: usize) -> Result<(), Refusal> {
-        let mut table = Table::unjudged(&mut self.table, self.head);
-        table.refine(id)?;
-        self.head = table.head();
-        Ok(())
+        self.change(|table| table.refine(id))
+    }
+
+    /// Splits leaves, in this order, or none of them.
+    ///
+    /// # Errors
+    ///
+    /// Those of [`Table::refine`]; the mesh is as it was before.
+    ///
+    /// ```
+    /// use leafmesh::{text, Mesh, Reason};
+    ///
+    /// let board = text::parse("target 8\nlevel 2\npolygon 1 0 1\n0 0\n8 0\n8 8\n0 8\n")?;
+    /// let mut mesh = Mesh::of_board(&board)?;
+    /// mesh.refine_many([0, 2, 3])?;
+    /// assert_eq!(mesh.splits().collect::<Vec<_>>(), [0, 2, 3]);
+    ///
+    /// let before = mesh.clone();
+    /// let why = mesh.refine_many([1, 99]).unwrap_err();
+    /// assert_eq!((why.reason, why.place), (Reason::NoSuchCell, 99));
+    /// assert_eq!(mesh, before);
+    /// # Ok::<(), Box<dyn std::error::Error>>(())
+    /// ```
+    pub fn refine_many(&mut self, ids: impl IntoIterator<Item = usize>) -> Result<(), Refusal> {
+        self.all_or_nothing(|mesh| ids.into_iter().try_for_each(|id| mesh.refine(id)))
+    }
+
+    /// Splits the leaves of a region until none of them is coarser than its level. Answers how many splits that took: 0
+    /// where no leaf has an area in common with it, or all are as fine. Balance comes afterwards.
+    ///
+    /// # Errors
+    ///
+    /// [`Reason::FinestLevel`] where the region's level is deeper than the mesh's, [`Reason::NoRoom`]; the mesh is as it
+    /// was before.
+    pub fn refine_region(&mut self, region: Region) -> Result<usize, Refusal> {
+        self.all_or_nothing(|mesh| {
+            let before = mesh.head.count;
+            for level in 0..region.level {
+                let is_coarse = |leaf: &Leaf| leaf.level == level && region.covers(leaf);
+                let ids: Vec<usize> = mesh
+                    .leaves()
+                    .filter(is_coarse)
+                    .map(|leaf| leaf.id)
+                    .collect();
+                ids.into_iter().try_for_each(|id| mesh.refine(id))?;
+            }
+            Ok((mesh.head.count - before) / 4)
+        })
+    }
+
+    /// Splits the hottest leaves and balances: one round of refining where a current crowds. `watts` has the power of each
+    /// cell of the mesh's net, and `share` says how many of the leaves are split, from 0 to 1. Those that are at the finest
+    /// level are passed over. Answers how many splits the round made, balance's among them.
+    ///
+    /// # Errors
+    ///
+    /// [`Reason::OutOfRange`] where there aren't as many powers as leaves, [`Reason::NoRoom`]; the mesh is as it was
+    /// before.
+    pub fn refine_hottest(&mut self, watts: &[f64], share: f64) -> Result<usize, Refusal> {
+        if watts.len() != self.head.leaves {
+            let reason = Reason::OutOfRange;
+            return Err(Refusal { reason, place: 0 });
+        }
+        let mut by_heat: Vec<(f64, Leaf)> = watts.iter().copied().zip(self.leaves()).collect();
+        by_heat.sort_by(|a, b| b.0.total_cmp(&a.0));
+        by_heat.truncate((by_heat.len() as f64 * share) as usize);
+        by_heat.retain(|(_, leaf)| leaf.level < self.head.max_level);
+        self.all_or_nothing(|mesh| {
+            by_heat
+                .iter()
+                .try_for_each(|(_, leaf)| mesh.refine(leaf.id))?;
+            Ok(by_heat.len() + mesh.balance()?)
+        })
     }
 
     /// Balances the table: the number of splits.
     ///
     /// # Errors
     ///
-    /// Those of [`Table::balance`], and [`Reason::BadTable`].
+    /// Those of [`Table::balance`].
     pub fn balance(&mut self) -> Result<usize, Refusal> {
+        self.change(|table| table.balance())
+    }
+
+    /// Splits leaves until no two that share an edge differ in level: the number of splits.
+    ///
+    /// # Errors
+    ///
+    /// Those of [`Table::conform`].
+    pub fn conform(&mut self) -> Result<usize, Refusal> {
+        self.change(|table| table.conform())
+    }
+
+    fn change<T>(
+        &mut self,
+        call: impl FnOnce(&mut Table) -> Result<T, Refusal>,
+    ) -> Result<T, Refusal> {
         let mut table = Table::unjudged(&mut self.table, self.head);
-        let splits = table.balance()?;
+        let answer = call(&mut table)?;
         self.head = table.head();
-        Ok(splits)
+        Ok(answer)
+    }
+
+    /// Several changes, of which a refusal leaves none.
+    fn all_or_nothing<T>(
+        &mut self,
+        changes: impl FnOnce(&mut Self) -> Result<T, Refusal>,
+    ) -> Result<T, Refusal> {
+        let (head, cells) = (self.head, self.table[..SLOT * self.head.count].to_vec());
+        changes(self).map_err(|why| {
+            self.table[..cells.len()].copy_from_slice(&cells);
+            self.table[cells.len()..SLOT * self.head.count].fill(0);
+            self.head = head;
+            why
+        })
+    }
+
+    /// The cells that were split, in the order in which they were, those of balance among them. A new mesh of the same
+    /// polygons and settings that splits them has the same table, number by number.
+    pub fn splits(&self) -> impl Iterator<Item = usize> + '_ {
+        // Quarters have ids in fours, in the order of the splits, behind the base cells.
+        let is_base = |id: &usize| self.slot(*id)[PARENT] == NO_CELL;
+        let first = (0..self.head.count).take_while(is_base).count();
+        let quarters = (first..self.head.count).step_by(4);
+        quarters.map(|id| self.slot(id)[PARENT] as usize)
+    }
+
+    /// The board as it is split now: [`text::show`](crate::text::show) and [`write`](crate::write) keep it, and
+    /// [`Mesh::of_board`] makes the same mesh of it, if this one is balanced.
+    ///
+    /// ```
+    /// use leafmesh::{text, Mesh};
+    ///
+    /// let board = text::parse("target 8\nlevel 2\npolygon 1 0 1\n0 0\n8 0\n8 8\n0 8\n")?;
+    /// let mut mesh = Mesh::of_board(&board)?;
+    /// mesh.refine(0)?;
+    /// mesh.balance()?;
+    /// let kept = text::show(&mesh.board());
+    /// assert_eq!(Mesh::of_board(&text::parse(&kept)?)?, mesh);
+    /// # Ok::<(), Box<dyn std::error::Error>>(())
+    /// ```
+    pub fn board(&self) -> Board {
+        let rows = &self.polygons;
+        let polygon = |at: usize| {
+            let (layer, component) = (rows.layers[at].into(), rows.components[at].into());
+            [layer, component, rows.counts[at]]
+        };
+        Board {
+            max_level: self.settings.max_level,
+            cap: self.settings.cap,
+            target: self.settings.target,
+            layers: self.list.clone(),
+            polygons: (0..rows.layers.len()).map(polygon).collect(),
+            sheets: rows.sheets.clone(),
+            points: rows.points.clone(),
+            splits: self.splits().map(|id| id as u64).collect(),
+        }
     }
 
     /// The leaves' ids in [`Table::leaf_order`]: cell i of the net is the i-th of them.
-    ///
-    /// # Errors
-    ///
-    /// Those of [`Table::leaf_order`], and [`Reason::BadTable`].
-    pub fn order(&self) -> Result<Vec<usize>, Refusal> {
-        self.lent().judge()?;
+    pub fn order(&self) -> Vec<usize> {
         let mut ids = vec![0; self.lent().leaf_count()];
-        self.lent().leaf_order(&mut ids)?;
-        Ok(ids.into_iter().map(|id| id as usize).collect())
+        self.lent().leaf_order(&mut ids).expect(WELL_FORMED);
+        ids.into_iter().map(|id| id as usize).collect()
+    }
+
+    /// The leaves in this order.
+    pub fn leaves(&self) -> impl Iterator<Item = Leaf> + '_ {
+        self.order().into_iter().map(|id| self.leaf_of(id))
+    }
+
+    /// The leaf with this id. None where there is no such cell, or it is split.
+    pub fn leaf(&self, id: usize) -> Option<Leaf> {
+        (id < self.head.count && self.is_leaf(id)).then(|| self.leaf_of(id))
+    }
+
+    fn leaf_of(&self, id: usize) -> Leaf {
+        let polygon = self.polygon(id);
+        Leaf {
+            id,
+            polygon,
+            layer: self.polygons.layers[polygon],
+            component: self.polygons.components[polygon],
+            level: self.level(id),
+            rect: self.rect(id),
+            sheet: self.polygons.sheets[polygon],
+        }
+    }
+
+    /// The leaf of a layer at a place. On a side that leaves share, and where polygons lie over each other, it is the first
+    /// of them in the order of the leaves.
+    pub fn leaf_at(&self, layer: u16, place: Point) -> Option<Leaf> {
+        let is_it = |leaf: &Leaf| leaf.layer == layer && leaf.has(place);
+        self.leaves().find(is_it)
+    }
+
+    /// The leaves that share a border with this one, of any layer, in the order of their ids, each with the border as this
+    /// leaf sees it. None where it is no leaf.
+    pub fn neighbours(&self, id: usize) -> Vec<(Leaf, Border)> {
+        let Some(own) = self.leaf(id) else {
+            return Vec::new();
+        };
+        let shared = |other: Leaf| {
+            let border = contact(own.rect, other.rect).expect("a leaf lies in range");
+            border.map(|border| (other, border))
+        };
+        let leaves = (0..self.head.count).filter_map(|id| self.leaf(id));
+        leaves.filter_map(shared).collect()
     }
 
     /// Every pair of leaves that share a border, as in [`Table::borders`].
+    pub fn borders(&self) -> Vec<LeafBorder> {
+        self.lent().borders().expect(WELL_FORMED)
+    }
+
+    /// The power of each cell of the mesh's net, from the potential of each node: [`power`], with rows from the heap.
     ///
     /// # Errors
     ///
-    /// [`Reason::BadTable`].
-    pub fn borders(&self) -> Result<Vec<LeafBorder>, Refusal> {
-        self.lent().borders()
+    /// Those of [`power`].
+    pub fn power(&self, net: NetRows, potentials: &[f64]) -> Result<Vec<f64>, Refusal> {
+        let mut watts = vec![0.0; net.cells.len()];
+        power(net, potentials, &mut watts)?;
+        Ok(watts)
     }
 
     /// The net of the leaves, without links.
@@ -193,7 +464,7 @@ impl Mesh {
     /// # Errors
     ///
     /// Those of [`Table::network`]; [`Unmeshed::TooLong`] or [`Unmeshed::Loose`] where the net would be wrong,
-    /// since [`Mesh::check`] names a node inside a leaf's side.
+    /// since [`Mesh::check_by_layer`] names a node inside a leaf's side.
     pub fn net(&self) -> Result<Net, Unmeshed> {
         self.linked_net(Links::default())
     }
@@ -206,7 +477,7 @@ impl Mesh {
     /// nothing.
     pub fn linked_net(&self, links: Links) -> Result<Net, Unmeshed> {
         let net = self.unjudged_linked_net(links)?;
-        if let Some(hanging) = self.check(net.rows())? {
+        if let Some(hanging) = self.check_by_layer(net.rows())? {
             return Err(self.why_loose(&net, hanging));
         }
         let edges = self.edges_of_links(links)?;
@@ -239,7 +510,7 @@ impl Mesh {
     ///
     /// # Errors
     ///
-    /// Those of [`Table::edge_rows`], and [`Reason::BadTable`].
+    /// Those of [`Table::edge_rows`].
     pub fn edges_of_links(&self, links: Links) -> Result<Vec<usize>, Refusal> {
         let rows = |links| self.lent().edge_rows(self.polygons.outlines(), links);
         let own = rows(Links::default())?;
@@ -252,11 +523,21 @@ impl Mesh {
     ///
     /// # Errors
     ///
-    /// Those of [`Table::check_by_layer`], and [`Reason::BadTable`].
-    pub fn check(&self, net: NetRows) -> Result<Option<Hanging>, Refusal> {
+    /// Those of [`Table::check_by_layer`].
+    pub fn check_by_layer(&self, net: NetRows) -> Result<Option<Hanging>, Refusal> {
         let work = &mut net.check_work();
         self.lent()
             .check_by_layer(net, self.polygons.outlines(), work)
+    }
+
+    /// The first leaf edge whose middle node lacks a half, nodes being found by their place alone.
+    ///
+    /// # Errors
+    ///
+    /// Those of [`Table::check_network_conforming`].
+    pub fn check_network_conforming(&self, net: NetRows) -> Result<Option<Hanging>, Refusal> {
+        let work = &mut net.check_work();
+        self.lent().check_network_conforming(net, work)
     }
 
     /// Why a node inside a side isn't joined along it: a strip of the same copper that is too long, or the place
@@ -316,19 +597,11 @@ impl Mesh {
     }
 
     /// The name of a cell, as in [`Table::name`].
-    ///
-    /// # Panics
-    ///
-    /// It may, where the table isn't well formed.
     pub fn name(&self, id: usize) -> Option<CellName> {
         self.lent().name(id)
     }
 
     /// The id of a cell, as in [`Table::id_of`].
-    ///
-    /// # Panics
-    ///
-    /// It may, where the table isn't well formed.
     pub fn id_of(&self, name: &CellName) -> Option<usize> {
         self.lent().id_of(name)
     }

@@ -1,6 +1,6 @@
 //! The rows of a net, as the library has them in memory.
 
-use crate::limits;
+use crate::{limits, power, Refusal};
 use std::mem::size_of;
 
 /// A node: layer, component, and where it stands, in ticks.
@@ -86,6 +86,22 @@ pub struct NetRows<'a> {
 }
 
 impl NetRows<'_> {
+    /// Whether the net is sound: every cell and edge names nodes that are there, and every cell's corners are those of a
+    /// rectangle.
+    ///
+    /// # Errors
+    ///
+    /// [`Reason::BadTable`](crate::Reason::BadTable) where it isn't, and
+    /// [`Reason::OutOfRange`](crate::Reason::OutOfRange) for a sheet resistance.
+    pub fn judge(self) -> Result<(), Refusal> {
+        // Power judges all rows before it works anything out.
+        power(
+            self,
+            &vec![0.0; self.nodes.len()],
+            &mut vec![0.0; self.cells.len()],
+        )
+    }
+
     /// Enough work room for a check of this net.
     pub(crate) fn check_work(self) -> Vec<u64> {
         vec![0; limits::check_work(self.nodes.len(), self.edges.len())]

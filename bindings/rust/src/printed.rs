@@ -177,34 +177,31 @@ fn numbers<'a, const N: usize>(words: impl Iterator<Item = &'a str>) -> Option<[
 /// Those of [`Mesh::of_board`].
 pub fn show(board: &Board) -> Result<String, Unmeshed> {
     let mesh = Mesh::unjudged(board)?;
-    show_mesh(board, &mesh, &mesh.net()?)
+    Ok(show_mesh(board, &mesh, &mesh.net()?))
 }
 
 /// The same of a mesh and a net that were made of the board already. Where the net has links, the first line ends with
 /// how many.
-///
-/// # Errors
-///
-/// Those of [`Mesh::new`] and [`Mesh::order`].
-pub fn show_mesh(board: &Board, mesh: &Mesh, net: &Net) -> Result<String, Unmeshed> {
-    let order = mesh.order()?;
-    let before = Mesh::new(board.settings(), &board.layers, board.polygons()?)?
-        .head
-        .count;
-    let splits = (mesh.head.count - before) / 4 - board.splits.len();
+pub fn show_mesh(board: &Board, mesh: &Mesh, net: &Net) -> String {
+    let splits = mesh.splits().count().saturating_sub(board.splits.len());
     let links = match net.links {
         0 => String::new(),
         links => format!(" links {links}"),
     };
     let mut text = format!(
         "cells {} leaves {} nodes {} edges {} splits {splits}{links}\n",
-        mesh.head.count,
-        order.len(),
+        mesh.head().count,
+        mesh.head().leaves,
         net.nodes.len(),
         net.edges.len()
     );
-    for id in order {
-        let ([x0, y0, x1, y1], level, polygon) = (mesh.rect(id), mesh.level(id), mesh.polygon(id));
+    for leaf in mesh.leaves() {
+        let (
+            crate::Leaf {
+                id, polygon, level, ..
+            },
+            [x0, y0, x1, y1],
+        ) = (leaf, leaf.rect);
         let _ = writeln!(text, "leaf {id} {polygon} {level} {x0} {y0} {x1} {y1}");
     }
     for (number, node) in net.nodes.iter().enumerate() {
@@ -220,7 +217,7 @@ pub fn show_mesh(board: &Board, mesh: &Mesh, net: &Net) -> Result<String, Unmesh
         let bits = edge.conductance.to_bits();
         let _ = writeln!(text, "edge {} {} {bits:016x}", edge.from, edge.to);
     }
-    Ok(text)
+    text
 }
 
 /// The first node that [`Table::check_by_layer`] names, by polygon, and the leaf's id: the net is wrong there. The text

@@ -1,6 +1,6 @@
 //! Nodes inside the sides of a net's cells: those that hang, and those off the middle.
 
-use crate::{NetRows, Node, Point, Rect};
+use crate::{NetRows, Node, Point, Rect, Refusal, Side};
 use std::collections::BTreeMap;
 
 /// A node of a cell's own layer and component that stands inside one of its sides and is no end of it.
@@ -56,7 +56,12 @@ impl Lines {
 }
 
 /// Every node inside a side of a cell, by cell, then south, east, north, west, then rising.
-pub fn inside(net: NetRows) -> Vec<Inside> {
+///
+/// # Errors
+///
+/// Those of [`NetRows::judge`].
+pub fn inside(net: NetRows) -> Result<Vec<Inside>, Refusal> {
+    net.judge()?;
     let lines = [Lines::of(net, on_row), Lines::of(net, on_column)];
     let mut found = Vec::new();
     for (cell, corners) in net.cells.iter().map(|cell| cell.corners).enumerate() {
@@ -71,16 +76,43 @@ pub fn inside(net: NetRows) -> Vec<Inside> {
             }));
         }
     }
-    found
+    Ok(found)
 }
 
 /// The numbers of the nodes at the middle of a cell's side, rising.
-pub fn hanging(net: NetRows) -> Vec<usize> {
-    let middles = inside(net).into_iter().filter(|one| one.middle);
+///
+/// # Errors
+///
+/// Those of [`NetRows::judge`].
+pub fn hanging(net: NetRows) -> Result<Vec<usize>, Refusal> {
+    let middles = inside(net)?.into_iter().filter(|one| one.middle);
     let mut found: Vec<usize> = middles.map(|one| one.node).collect();
     found.sort_unstable();
     found.dedup();
-    found
+    Ok(found)
+}
+
+/// The nodes on a side of a cell, both ends and what stands between them of its own layer and component, rising along x
+/// or y. None where there is no such cell.
+///
+/// # Errors
+///
+/// Those of [`NetRows::judge`].
+pub fn along(net: NetRows, cell: usize, side: Side) -> Result<Vec<usize>, Refusal> {
+    net.judge()?;
+    let Some(cell) = net.cells.get(cell) else {
+        return Ok(Vec::new());
+    };
+    let number = side as usize;
+    let ends = [cell.corners[number], cell.corners[(number + 1) % 4]];
+    let lines = Lines::of(net, [on_row, on_column][number % 2]);
+    let [low, high] = match side {
+        Side::South | Side::East => ends,
+        Side::North | Side::West => [ends[1], ends[0]],
+    };
+    let between = lines.between(ends.map(|end| &net.nodes[end]));
+    let inner = between.map(|(node, _)| node);
+    Ok([low].into_iter().chain(inner).chain([high]).collect())
 }
 
 /// SW, SE, NE, NW.

@@ -56,9 +56,10 @@ use crate::limits::{
     CAP, CELL, HALF, LAYER_ENTRIES, MEANS_DEFAULT, POLYGONS, RESISTANCE_HIGH, RESISTANCE_LOW,
     RING_POINTS, SHEET_HIGH, SHEET_LOW, SPLITS,
 };
+use crate::solving::Terminal;
 use crate::{
-    read, record_length, write, Board, Channel, Contact, Footprint, Link, Links, OwnedLinks, Pitch,
-    Point, Reason, Refusal, Terminal, Unmeshed, Via, COORDINATE, MAX_LEVEL,
+    read, record_length, write, Board, Channel, ChannelEnd, Contact, Footprint, Link, Links,
+    OwnedLinks, Pitch, Point, Reason, Refusal, Unmeshed, Via, COORDINATE, MAX_LEVEL,
 };
 use std::error::Error;
 use std::fmt::{self, Write};
@@ -113,6 +114,8 @@ pub struct Lines {
     pub channel_layer: usize,
     /// Of each channel.
     pub channels: Vec<usize>,
+    /// Of each terminal.
+    pub terminals: Vec<usize>,
 }
 
 /// All that a text says.
@@ -120,8 +123,10 @@ pub struct Lines {
 pub struct Whole {
     /// What a record can hold.
     pub board: Board,
-    /// What it can't.
+    /// What it can't: what joins polygons and layers.
     pub links: OwnedLinks,
+    /// What it can't: where current enters and leaves.
+    pub terminals: Vec<Terminal>,
     /// Where each part stands.
     pub lines: Lines,
 }
@@ -297,8 +302,8 @@ impl Whole {
         let [drain, dx, dy, source, sx, sy, ohms] = words else {
             return Err(None);
         };
-        let end = |component: &str, x: &str, y: &str| -> Result<Terminal, Why> {
-            Ok(Terminal {
+        let end = |component: &str, x: &str, y: &str| -> Result<ChannelEnd, Why> {
+            Ok(ChannelEnd {
                 component: component_of(component)?,
                 x: self.place(x)?,
                 y: self.place(y)?,

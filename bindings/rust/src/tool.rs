@@ -1,6 +1,7 @@
 //! What the tools have in common: words, input, output and how they end. A tool that can't write all it has says so
 //! and ends with 1; an output that was closed before the start looks like an empty file to it.
 
+use crate::solving::Terminal;
 use crate::text::{self, Lines, Whole};
 use crate::{read, Board, Mesh, Net, OwnedLinks, Unmeshed};
 use std::fs;
@@ -59,6 +60,7 @@ pub fn text(bytes: Vec<u8>) -> Result<String, String> {
 pub struct Given {
     pub board: Board,
     pub links: OwnedLinks,
+    pub terminals: Vec<Terminal>,
     /// None of a record.
     lines: Option<Lines>,
 }
@@ -71,18 +73,21 @@ impl Given {
             return Ok(Given {
                 board,
                 links: OwnedLinks::default(),
+                terminals: Vec::new(),
                 lines: None,
             });
         }
         let Whole {
             board,
             links,
+            terminals,
             lines,
         } = text::parse_whole(&self::text(bytes)?).map_err(|why| why.to_string())?;
         let record = text::pack_board(&board, &lines).map_err(|why| why.to_string())?;
         Ok(Given {
             board: read(&record).map_err(|why| why.to_string())?,
             links,
+            terminals,
             lines: Some(lines),
         })
     }

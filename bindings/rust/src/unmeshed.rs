@@ -43,7 +43,7 @@ pub struct TooLong {
 }
 
 /// A node between the ends of a leaf's side that lacks an edge to the point before or after it, as
-/// [`Mesh::check`](crate::Mesh::check) names it.
+/// [`Mesh::check_by_layer`](crate::Mesh::check_by_layer) names it.
 #[derive(Clone, Copy, Debug, PartialEq, Eq)]
 pub struct Loose {
     /// That of the leaf.

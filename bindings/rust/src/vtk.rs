@@ -3,7 +3,7 @@
 //! the points. Links are lines between their nodes, behind the leaves.
 
 use crate::sides::hanging;
-use crate::{Edge, Mesh, Net, NetRows, Node, Refusal, TICK};
+use crate::{Edge, Leaf, Mesh, Net, NetRows, Node, Reason, Refusal, TICK};
 use std::collections::BTreeSet;
 use std::fmt::{self, Write};
 
@@ -21,7 +21,7 @@ pub enum Field<'a> {
 ///
 /// # Errors
 ///
-/// Those of [`Table::leaf_order`](crate::Table::leaf_order).
+/// Those of [`NetRows::judge`]; [`Reason::BadTable`] of another mesh's net.
 pub fn of_mesh(mesh: &Mesh, net: NetRows, fields: &[Field]) -> Result<String, Refusal> {
     of_rows(mesh, net, &[], fields)
 }
@@ -37,15 +37,21 @@ pub fn of_linked_mesh(mesh: &Mesh, net: &Net, fields: &[Field]) -> Result<String
 }
 
 fn of_rows(mesh: &Mesh, net: NetRows, links: &[Edge], fields: &[Field]) -> Result<String, Refusal> {
-    let order = mesh.order()?;
+    net.judge()?;
+    let leaves: Vec<Leaf> = mesh.leaves().collect();
+    if leaves.len() != net.cells.len() {
+        let reason = Reason::BadTable;
+        return Err(Refusal { reason, place: 0 });
+    }
+    let hangs = hanging(net)?;
     let mut text = String::new();
-    put(mesh, &order, net, links, fields, &mut text).expect("a string takes all text");
+    put(&leaves, &hangs, net, links, fields, &mut text).expect("a string takes all text");
     Ok(text)
 }
 
 fn put(
-    mesh: &Mesh,
-    order: &[usize],
+    leaves: &[Leaf],
+    hangs: &[usize],
     net: NetRows,
     links: &[Edge],
     fields: &[Field],
@@ -54,10 +60,9 @@ fn put(
     let (nodes, cells) = (net.nodes.len(), net.cells.len());
     put_grid(net, links, text)?;
     writeln!(text, "CELL_DATA {}", cells + links.len())?;
-    put_leaves(mesh, order, net, links, text)?;
+    put_leaves(leaves, links, text)?;
     put_own(fields, true, [cells, links.len()], text)?;
     writeln!(text, "POINT_DATA {nodes}")?;
-    let hangs = hanging(net);
     let hangs = |at: usize| f64::from(u8::from(hangs.binary_search(&at).is_ok()));
     put_field("hanging", &mut (0..nodes).map(hangs), text)?;
     put_own(fields, false, [nodes, 0], text)
@@ -93,34 +98,26 @@ fn put_grid(net: NetRows, links: &[Edge], text: &mut String) -> fmt::Result {
 }
 
 /// What every leaf has, and every link.
-fn put_leaves(
-    mesh: &Mesh,
-    order: &[usize],
-    net: NetRows,
-    links: &[Edge],
-    text: &mut String,
-) -> fmt::Result {
-    let polygon = |at: usize| mesh.polygon(order[at]);
-    let numbers: [(&str, &dyn Fn(usize) -> f64); 6] = [
-        ("leaf", &|at| order[at] as f64),
-        ("level", &|at| mesh.level(order[at]) as f64),
-        ("polygon", &|at| polygon(at) as f64),
-        ("layer", &|at| f64::from(mesh.polygons.layers[polygon(at)])),
-        ("component", &|at| {
-            f64::from(mesh.polygons.components[polygon(at)])
-        }),
-        ("r_sheet", &|at| net.cells[at].sheet),
+fn put_leaves(leaves: &[Leaf], links: &[Edge], text: &mut String) -> fmt::Result {
+    type Number = fn(&Leaf) -> f64;
+    let numbers: [(&str, Number); 6] = [
+        ("leaf", |leaf| leaf.id as f64),
+        ("level", |leaf| leaf.level as f64),
+        ("polygon", |leaf| leaf.polygon as f64),
+        ("layer", |leaf| f64::from(leaf.layer)),
+        ("component", |leaf| f64::from(leaf.component)),
+        ("r_sheet", |leaf| leaf.sheet),
     ];
     for (name, number) in numbers {
-        let leaves = (0..net.cells.len()).map(number);
-        put_field(name, &mut leaves.chain(links.iter().map(|_| -1.0)), text)?;
+        let own = leaves.iter().map(number);
+        put_field(name, &mut own.chain(links.iter().map(|_| -1.0)), text)?;
     }
     if links.is_empty() {
         return Ok(());
     }
-    let leaves = net.cells.iter().map(|_| 0.0);
+    let none = leaves.iter().map(|_| 0.0);
     let conductances = links.iter().map(|link| link.conductance);
-    put_field("siemens", &mut leaves.chain(conductances), text)
+    put_field("siemens", &mut none.chain(conductances), text)
 }
 
 /// A twentieth of the board's larger side, in metres.

@@ -59,12 +59,12 @@ fn via() -> Via {
 
 fn channel() -> Channel {
     Channel {
-        drain: Terminal {
+        drain: ChannelEnd {
             component: 0,
             x: 0,
             y: 0,
         },
-        source: Terminal {
+        source: ChannelEnd {
             component: 0,
             x: 4,
             y: 4,

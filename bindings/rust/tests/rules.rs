@@ -338,7 +338,7 @@ fn contacts_and_channels_of_two_squares() {
         assert_eq!(links_of(links), expected);
     }
     for (source, expected) in [([4, 4], ([0, 2], 0.25)), ([4, 0], ([0, 1], 0.5))] {
-        let at = |[x, y]: Point| Terminal { component: 0, x, y };
+        let at = |[x, y]: Point| ChannelEnd { component: 0, x, y };
         let channels = [Channel {
             drain: at([0, 0]),
             source: at(source),

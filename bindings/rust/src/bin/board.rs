@@ -46,7 +46,7 @@ fn unpack(record: &[u8]) -> Result<String, String> {
 
 fn in_text(given: &Given) -> Result<String, String> {
     let (mesh, net) = given.mesh()?;
-    printed::show_mesh(&given.board, &mesh, &net).map_err(|why| why.to_string())
+    Ok(printed::show_mesh(&given.board, &mesh, &net))
 }
 
 fn in_vtk(given: &Given) -> Result<String, String> {

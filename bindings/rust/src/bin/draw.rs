@@ -10,7 +10,7 @@
 //! With `--borders` a line lies on every border that two cells share, the longer the wider, over the cells' colours.
 
 use leafmesh::drawing::{densities, Picture};
-use leafmesh::solving::{across_linked, System};
+use leafmesh::solving::System;
 use leafmesh::tool::{self, Given};
 use leafmesh::{power, printed, Mesh, Net, NetRows};
 use std::env;
@@ -74,17 +74,10 @@ fn of_board(file: &str, asked: &Asked) -> Result<Picture, String> {
     if !asked.power {
         return Ok(picture);
     }
-    let (system, by) = match System::of_linked_cells(&net) {
-        Ok(system) => (system, ""),
-        // A side's end that hangs itself, as polygons over each other may have, or a node off a side's middle, if it is
-        // joined: the conductances are what is left.
-        Err(_) => (System::of_net(net.rows()), " by the net's conductances"),
-    };
-    let volts = system
-        .solve(&across_linked(&net.nodes, net.links()))
-        .map_err(|why| why.to_string())?;
-    let words = format!("{POWER} at 1 V from the bottom to the top{by}");
-    coloured(picture, &words, &mesh, net.rows(), &volts)
+    let solution = System::of_cells(&net)
+        .and_then(|system| system.solve(&mesh.held(&net, &given.terminals)))
+        .map_err(|why| format!("{file}: {why}"))?;
+    coloured(picture, POWER, &mesh, net.rows(), &solution.volts)
 }
 
 /// With the links that were given.
@@ -102,7 +95,7 @@ fn of_text(asked: &Asked) -> Result<Picture, String> {
     let given = Given::of_bytes(tool::file(file)?).map_err(|why| format!("{file}: {why}"))?;
     let printed = printed::read(&text)?;
     let (mesh, net) = given.mesh().map_err(|why| format!("{file}: {why}"))?;
-    let own = printed::show_mesh(&given.board, &mesh, &net).map_err(|why| why.to_string())?;
+    let own = printed::show_mesh(&given.board, &mesh, &net);
     printed::is_of(&printed, &own)?;
     let picture = of_mesh(title, &given, &mesh, &net)?;
     let Some(file) = &asked.potentials else {
@@ -122,8 +115,7 @@ fn coloured(
 ) -> Result<Picture, String> {
     let mut watts = vec![0.0; net.cells.len()];
     power(net, volts, &mut watts).map_err(|why| why.to_string())?;
-    let values = densities(mesh, &watts).map_err(|why| why.to_string())?;
-    Ok(picture.by_value(words, &values))
+    Ok(picture.by_value(words, &densities(mesh, &watts)))
 }
 
 fn numbers_in(file: &str) -> Result<Vec<f64>, String> {

@@ -3,7 +3,7 @@
 //! pictures, not for judging a board.
 
 use leafmesh::printed::{self, Printed};
-use leafmesh::solving::{across_linked, System};
+use leafmesh::solving::System;
 use leafmesh::{tool, NetRows};
 use std::env;
 use std::fmt::Write;
@@ -26,12 +26,11 @@ fn run() -> Result<Vec<u8>, String> {
 }
 
 fn potentials(mesh: &Printed) -> Result<Vec<f64>, String> {
-    let system = System::of_net(NetRows {
+    let net = NetRows {
         nodes: &mesh.nodes,
         edges: &mesh.edges,
         cells: &[],
-    });
-    system
-        .solve(&across_linked(&mesh.nodes, mesh.links()))
-        .map_err(|why| why.to_string())
+    };
+    let solved = System::of_net(net).and_then(|system| system.solve(&[]));
+    Ok(solved.map_err(|why| why.to_string())?.volts)
 }

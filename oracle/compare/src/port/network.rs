@@ -5,7 +5,7 @@ use calls::network::NetRoom;
 use calls::sheets::Sheets;
 use inputs::tables::Table;
 use leafmesh::ffi::{self, NetOutcome, Outcome};
-use leafmesh::{Cell, Channel, Contact, Edge, Footprint, Node, Terminal, Via};
+use leafmesh::{Cell, Channel, ChannelEnd, Contact, Edge, Footprint, Node, Via};
 
 /// The rows lent for a net, and the work room.
 #[derive(Clone, Debug)]
@@ -49,7 +49,7 @@ impl LentLinks {
                 resistance: via.resistance,
             }
         };
-        let end = |own::Terminal { component, x, y }: own::Terminal| Terminal { component, x, y };
+        let end = |own::Terminal { component, x, y }: own::Terminal| ChannelEnd { component, x, y };
         let channel = |channel: &own::Channel| Channel {
             drain: end(channel.drain),
             source: end(channel.source),

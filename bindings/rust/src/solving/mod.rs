@@ -1,0 +1,269 @@
+//! Potentials, currents and powers on the cells of a net, where terminals are held: the solver that comes with the crate.
+//! It is tested and not proved, and a solver of your own may take its place.
+//!
+//! Two systems are made of the same net. [`System::of_cells`] takes the cells as bilinear elements, with a node at the
+//! middle of a cell's side tied to the mean of the side's ends, and the net's links between them. [`System::of_net`] takes
+//! the net's conductances, which are the original's and not the copper's at a change of level (docs/CONDUCTANCES.md).
+//!
+//! ```
+//! use leafmesh::solving::{Drive, Spot, System, Terminal};
+//! use leafmesh::{text, Mesh, Side};
+//!
+//! // A strip of two squares, one ohm a square, its lower half split: 2 ohms.
+//! let board = text::parse("level 2\ntarget 8\npolygon 1 0 1\n0 0\n8 0\n8 16\n0 16\nsplit 0\n")?;
+//! let mesh = Mesh::of_board(&board)?;
+//! let net = mesh.net()?;
+//! let terminal = |name: &str, side, drive| Terminal {
+//!     name: name.to_string(),
+//!     spot: Spot::End { layer: 1, component: 0, side },
+//!     drive,
+//! };
+//! let terminals = [
+//!     terminal("in", Side::North, Drive::Amperes(3.0)),
+//!     terminal("out", Side::South, Drive::Volts(0.0)),
+//! ];
+//! let solution = System::of_cells(&net)?.solve(&mesh.held(&net, &terminals))?;
+//!
+//! let [into, out] = &solution.terminals[..] else { unreachable!() };
+//! assert!((into.volts - 6.0).abs() < 1e-9 && (out.amperes + 3.0).abs() < 1e-9);
+//! assert!((solution.watts() - 18.0).abs() < 1e-9);
+//! # Ok::<(), Box<dyn std::error::Error>>(())
+//! ```
+
+mod element;
+mod matrix;
+mod terminal;
+mod unknowns;
+mod unsolved;
+
+use crate::sides::{inside, Inside};
+use crate::{Edge, Net, NetRows};
+use element::Element;
+use matrix::{conjugate_gradients, Entry, Matrix};
+use unknowns::Unknowns;
+
+pub use element::Flow;
+pub use terminal::{Drive, Held, Spot, Terminal};
+pub use unsolved::Unsolved;
+
+/// Nodes and their shares.
+type Parts = Vec<(usize, f64)>;
+
+/// The currents between the nodes of a net, as a sum of their potentials.
+#[derive(Clone, Debug)]
+pub struct System {
+    /// The nodes that make up each node, with their shares: itself, or what it is tied to.
+    parts: Vec<Parts>,
+    /// Siemens between the nodes that aren't tied.
+    matrix: Matrix,
+    elements: Vec<Element>,
+    /// What is a conductance: links, or all of a net's edges.
+    edges: Vec<Edge>,
+}
+
+/// What the terminals of a system bring about.
+#[derive(Clone, Debug, PartialEq)]
+pub struct Solution {
+    /// The potential of each node. Those that nothing joins to a terminal are at 0 V.
+    pub volts: Vec<f64>,
+    /// Of each terminal, in their order.
+    pub terminals: Vec<Applied>,
+    /// Of each cell; none in a system of a net's conductances.
+    pub cells: Vec<Flow>,
+    /// Of each link, or of each edge in a system of a net's conductances: amperes from its first node to its second.
+    pub edges: Vec<f64>,
+    /// The power of these edges, in watts.
+    pub edge_watts: Vec<f64>,
+}
+
+/// What stands at a terminal.
+#[derive(Clone, Debug, PartialEq)]
+pub struct Applied {
+    /// Its name.
+    pub terminal: String,
+    /// Its potential.
+    pub volts: f64,
+    /// The current into the board; below 0 it comes out.
+    pub amperes: f64,
+}
+
+impl Solution {
+    /// The power of all cells and edges: the sum of potential times current over the terminals, but for what the
+    /// iteration left.
+    pub fn watts(&self) -> f64 {
+        let cells = self.cells.iter().map(|cell| cell.watts);
+        cells.chain(self.edge_watts.iter().copied()).sum()
+    }
+
+    /// The power that the terminals give.
+    pub fn given(&self) -> f64 {
+        let given = |one: &Applied| one.volts * one.amperes;
+        self.terminals.iter().map(given).sum()
+    }
+}
+
+/// The nodes that make up each node. In a balanced table of aligned bands the ends of a side with a node at its
+/// middle never hang themselves: the finer cells beside it would lie two levels below the next.
+fn parts_of(net: NetRows) -> Result<Vec<Parts>, Unsolved> {
+    let mut parts: Vec<Parts> = (0..net.nodes.len()).map(free).collect();
+    let all = inside(net)?;
+    for one in &all {
+        parts[one.node] = one.ends.iter().map(|&end| (end, 0.5)).collect();
+    }
+    let held = |one: &Inside| one.middle && one.ends.iter().all(|&end| parts[end].len() == 1);
+    match all.iter().find(|one| !held(one)) {
+        Some(one) => Err(Unsolved::NoFit { node: one.node }),
+        None => Ok(parts),
+    }
+}
+
+/// A node that is tied to nothing.
+fn free(number: usize) -> Parts {
+    vec![(number, 1.0)]
+}
+
+/// Edges by their conductances.
+fn entries_of(edges: &[Edge]) -> Vec<Entry> {
+    let entries = |edge: &Edge| {
+        let (a, b, g) = (edge.from, edge.to, edge.conductance);
+        [(a, a, g), (b, b, g), (a, b, -g), (b, a, -g)]
+    };
+    edges.iter().flat_map(entries).collect()
+}
+
+impl System {
+    /// The net's own conductances; no node is tied.
+    ///
+    /// # Errors
+    ///
+    /// [`Unsolved::Refused`] of a net that isn't sound, [`Unsolved::BadConductance`].
+    pub fn of_net(net: NetRows) -> Result<Self, Unsolved> {
+        net.judge()?;
+        let parts = (0..net.nodes.len()).map(free).collect();
+        System::of_parts(parts, Vec::new(), net.edges, 0)
+    }
+
+    /// The cells as bilinear elements, hanging nodes tied, and the links by their conductances. Of edges that aren't links
+    /// nothing is read.
+    ///
+    /// # Errors
+    ///
+    /// Those of [`System::of_net`]; [`Unsolved::NoFit`] where a node stands inside a cell's side and not at its middle:
+    /// the table that the net was made of isn't balanced, or its coordinates are no multiples of the base cell.
+    pub fn of_cells(net: &Net) -> Result<Self, Unsolved> {
+        let parts = parts_of(net.rows())?;
+        let elements = net.cells.iter().map(|cell| Element::of(cell, &net.nodes));
+        let first = net.edges.len().saturating_sub(net.links);
+        System::of_parts(parts, elements.collect(), &net.edges[first..], first)
+    }
+
+    /// `first` is the place of the first of the edges, in the net.
+    fn of_parts(
+        parts: Vec<Parts>,
+        elements: Vec<Element>,
+        edges: &[Edge],
+        first: usize,
+    ) -> Result<Self, Unsolved> {
+        let is_good = |edge: &Edge| edge.conductance.is_finite() && edge.conductance >= 0.0;
+        if let Some(at) = edges.iter().position(|edge| !is_good(edge)) {
+            return Err(Unsolved::BadConductance { edge: first + at });
+        }
+        let mut all = entries_of(edges);
+        for element in &elements {
+            for (&row, values) in element.corners.iter().zip(element.matrix()) {
+                let entry = |(&column, value): (&usize, f64)| (row, column, value);
+                all.extend(element.corners.iter().zip(values).map(entry));
+            }
+        }
+        let mut tied = Vec::with_capacity(all.len());
+        for (row, column, value) in all {
+            for &(r, share) in &parts[row] {
+                tied.extend(
+                    parts[column]
+                        .iter()
+                        .map(|&(c, other)| (r, c, share * other * value)),
+                );
+            }
+        }
+        let matrix = Matrix::of_entries(parts.len(), tied);
+        let edges = edges.to_vec();
+        Ok(System {
+            parts,
+            matrix,
+            elements,
+            edges,
+        })
+    }
+
+    /// How many nodes there are.
+    pub fn node_count(&self) -> usize {
+        self.parts.len()
+    }
+
+    /// Whether a node's potential follows from the ends of the side that it hangs on.
+    pub fn is_tied(&self, node: usize) -> bool {
+        self.parts[node][0] != (node, 1.0)
+    }
+
+    /// The potentials where terminals are held, by conjugate gradients, and what flows.
+    ///
+    /// # Errors
+    ///
+    /// In this order: no terminal; by terminal its drive, a node that isn't there or belongs to another one, none at all;
+    /// a terminal with a current and none with a potential to come from; [`Unsolved::NoEnd`] where it takes more steps
+    /// than there are nodes several times over.
+    pub fn solve(&self, held: &[Held]) -> Result<Solution, Unsolved> {
+        let unknowns = Unknowns::of(self, held)?;
+        let matrix = &self.matrix;
+        let found = conjugate_gradients(
+            |column| unknowns.times(matrix, column),
+            &unknowns.diagonal(matrix),
+            unknowns.right(matrix),
+        )
+        .map_err(|share| Unsolved::NoEnd { share })?;
+        Ok(self.solution(held, unknowns.potentials(&found)))
+    }
+
+    /// What flows at the potentials of the nodes that aren't tied.
+    fn solution(&self, held: &[Held], free: Vec<f64>) -> Solution {
+        let out = self.matrix.times(&free);
+        let applied = |one: &Held| {
+            let mut own: Vec<usize> = one.nodes.clone();
+            own.retain(|&node| !self.is_tied(node));
+            own.sort_unstable();
+            own.dedup();
+            Applied {
+                terminal: one.terminal.clone(),
+                volts: own.first().map_or(0.0, |&node| free[node]),
+                amperes: own.iter().map(|&node| out[node]).sum(),
+            }
+        };
+        let terminals = held.iter().map(applied).collect();
+        let volts = self.with_ties(&free);
+        let drop = |edge: &Edge| volts[edge.from] - volts[edge.to];
+        Solution {
+            terminals,
+            cells: self
+                .elements
+                .iter()
+                .map(|element| element.flow(&volts))
+                .collect(),
+            edges: self
+                .edges
+                .iter()
+                .map(|edge| edge.conductance * drop(edge))
+                .collect(),
+            edge_watts: self
+                .edges
+                .iter()
+                .map(|edge| edge.conductance * drop(edge) * drop(edge))
+                .collect(),
+            volts,
+        }
+    }
+
+    fn with_ties(&self, volts: &[f64]) -> Vec<f64> {
+        let sum = |parts: &Parts| parts.iter().map(|&(at, share)| share * volts[at]).sum();
+        self.parts.iter().map(sum).collect()
+    }
+}

@@ -1,0 +1,214 @@
+//! What of a system is known and what is sought, where terminals are held.
+
+use super::matrix::Matrix;
+use super::{Drive, Held, System, Unsolved};
+
+/// What the potential of a node comes from.
+#[derive(Clone, Copy, Debug, PartialEq)]
+enum Source {
+    /// It is held.
+    Known(f64),
+    /// It is sought, by this number: a terminal with a current has one for all its nodes.
+    Sought(usize),
+    /// It follows from the ends of the side that it hangs on.
+    Tied,
+}
+
+/// The sources of all nodes, and how many numbers are sought.
+pub(super) struct Unknowns {
+    sources: Vec<Source>,
+    /// The current into each sought number.
+    currents: Vec<f64>,
+}
+
+impl Unknowns {
+    /// # Errors
+    ///
+    /// The first terminal that can't be held, or has a current that could come from any potential.
+    pub fn of(system: &System, held: &[Held]) -> Result<Self, Unsolved> {
+        let owners = owners_of(system, held)?;
+        judge_potentials(system, held, &owners)?;
+        let mut currents = Vec::new();
+        let mut seek = |current: f64| {
+            currents.push(current);
+            Source::Sought(currents.len() - 1)
+        };
+        let driven: Vec<Source> = held
+            .iter()
+            .map(|one| match one.drive {
+                Drive::Volts(volts) => Source::Known(volts),
+                Drive::Amperes(amperes) => seek(amperes),
+            })
+            .collect();
+        let source = |(node, owner): (usize, &Option<usize>)| match owner {
+            Some(terminal) => driven[*terminal],
+            None if system.is_tied(node) => Source::Tied,
+            None => seek(0.0),
+        };
+        let sources = owners.iter().enumerate().map(source).collect();
+        Ok(Unknowns { sources, currents })
+    }
+
+    /// What flows into each sought number from the known ones and from outside.
+    pub fn right(&self, matrix: &Matrix) -> Vec<f64> {
+        let known = self.sources.iter().map(|source| match source {
+            Source::Known(volts) => *volts,
+            _ => 0.0,
+        });
+        let out = self.gathered(&matrix.times(&known.collect::<Vec<_>>()));
+        self.currents
+            .iter()
+            .zip(out)
+            .map(|(own, out)| own - out)
+            .collect()
+    }
+
+    /// The matrix of the sought numbers times a column.
+    pub fn times(&self, matrix: &Matrix, column: &[f64]) -> Vec<f64> {
+        self.gathered(&matrix.times(&self.spread(column, 0.0)))
+    }
+
+    /// The diagonal of that matrix.
+    pub fn diagonal(&self, matrix: &Matrix) -> Vec<f64> {
+        let mut sums = vec![0.0; self.currents.len()];
+        for (row, &source) in self.sources.iter().enumerate() {
+            if let Source::Sought(number) = source {
+                let own = matrix.row(row).iter();
+                let own = own.filter(|&&(column, _)| self.sources[column] == source);
+                sums[number] += own.map(|&(_, value)| value).sum::<f64>();
+            }
+        }
+        sums
+    }
+
+    /// The potentials of the nodes that don't hang.
+    pub fn potentials(&self, found: &[f64]) -> Vec<f64> {
+        self.spread(found, 1.0)
+    }
+
+    /// A number a node: what was found, and so many times what is known.
+    fn spread(&self, found: &[f64], share: f64) -> Vec<f64> {
+        let value = |source: &Source| match *source {
+            Source::Known(volts) => share * volts,
+            Source::Sought(number) => found[number],
+            Source::Tied => 0.0,
+        };
+        self.sources.iter().map(value).collect()
+    }
+
+    /// The sums of a column over the nodes of each sought number.
+    fn gathered(&self, column: &[f64]) -> Vec<f64> {
+        let mut sums = vec![0.0; self.currents.len()];
+        for (source, value) in self.sources.iter().zip(column) {
+            if let Source::Sought(number) = source {
+                sums[*number] += value;
+            }
+        }
+        sums
+    }
+}
+
+/// The terminal that each node belongs to.
+fn owners_of(system: &System, held: &[Held]) -> Result<Vec<Option<usize>>, Unsolved> {
+    if held.is_empty() {
+        return Err(Unsolved::NoTerminal);
+    }
+    let mut owners: Vec<Option<usize>> = vec![None; system.node_count()];
+    for (number, one) in held.iter().enumerate() {
+        let terminal = || one.terminal.clone();
+        if !one.drive.is_in_range() {
+            return Err(Unsolved::OutOfRange {
+                terminal: terminal(),
+            });
+        }
+        let mut count = 0;
+        for &node in &one.nodes {
+            let Some(owner) = owners.get_mut(node) else {
+                return Err(Unsolved::NoSuchNode {
+                    terminal: terminal(),
+                    node,
+                });
+            };
+            match *owner {
+                _ if system.is_tied(node) => continue,
+                Some(other) if other != number => {
+                    let terminals = [held[other].terminal.clone(), terminal()];
+                    return Err(Unsolved::Shared { node, terminals });
+                }
+                _ => *owner = Some(number),
+            }
+            count += 1;
+        }
+        if count == 0 {
+            return Err(Unsolved::NoNode {
+                terminal: terminal(),
+            });
+        }
+    }
+    Ok(owners)
+}
+
+/// Whether each terminal with a current is joined to one with a potential.
+fn judge_potentials(
+    system: &System,
+    held: &[Held],
+    owners: &[Option<usize>],
+) -> Result<(), Unsolved> {
+    let mut pieces = Pieces::of(&system.matrix, system.node_count());
+    let mut firsts: Vec<Option<usize>> = vec![None; held.len()];
+    for (node, owner) in owners.iter().enumerate() {
+        if let Some(terminal) = *owner {
+            pieces.join(*firsts[terminal].get_or_insert(node), node);
+        }
+    }
+    let mut ends = Vec::new();
+    for (one, first) in held.iter().zip(&firsts) {
+        if let (Drive::Volts(_), Some(node)) = (one.drive, first) {
+            ends.push(pieces.root(*node));
+        }
+    }
+    for (one, first) in held.iter().zip(&firsts) {
+        let is_joined = |node: usize, pieces: &mut Pieces| ends.contains(&pieces.root(node));
+        let drifts = matches!(one.drive, Drive::Amperes(_))
+            && !first.is_some_and(|node| is_joined(node, &mut pieces));
+        if drifts {
+            let terminal = one.terminal.clone();
+            return Err(Unsolved::NoPotential { terminal });
+        }
+    }
+    Ok(())
+}
+
+/// Which nodes are joined, by one that stands for all of a piece.
+struct Pieces {
+    next: Vec<usize>,
+}
+
+impl Pieces {
+    fn of(matrix: &Matrix, nodes: usize) -> Self {
+        let mut pieces = Pieces {
+            next: (0..nodes).collect(),
+        };
+        for row in 0..nodes {
+            for &(column, value) in matrix.row(row) {
+                if value != 0.0 {
+                    pieces.join(row, column);
+                }
+            }
+        }
+        pieces
+    }
+
+    fn root(&mut self, mut at: usize) -> usize {
+        while self.next[at] != at {
+            self.next[at] = self.next[self.next[at]];
+            at = self.next[at];
+        }
+        at
+    }
+
+    fn join(&mut self, a: usize, b: usize) {
+        let (a, b) = (self.root(a), self.root(b));
+        self.next[a.max(b)] = a.min(b);
+    }
+}

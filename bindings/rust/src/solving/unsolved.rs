@@ -1,0 +1,118 @@
+//! Why a net or its terminals have no solution.
+
+use crate::Refusal;
+use std::error::Error;
+use std::fmt;
+
+/// Why there is no system of a net, or no solution of a system.
+#[derive(Clone, Debug, PartialEq)]
+#[non_exhaustive]
+pub enum Unsolved {
+    /// The net isn't sound: the library's own refusal.
+    Refused(Refusal),
+    /// A conductance that is below 0 or no number.
+    BadConductance {
+        /// By its place.
+        edge: usize,
+    },
+    /// A node that stands inside a cell's side and isn't held by its ends.
+    NoFit {
+        /// The first such node.
+        node: usize,
+    },
+    /// There is no terminal.
+    NoTerminal,
+    /// What a terminal is held at is no number, or a potential that is out of range.
+    OutOfRange {
+        /// Its name.
+        terminal: String,
+    },
+    /// A terminal names a node that isn't there.
+    NoSuchNode {
+        /// Its name.
+        terminal: String,
+        /// The number that it names.
+        node: usize,
+    },
+    /// A terminal takes no node, or only such as hang.
+    NoNode {
+        /// Its name.
+        terminal: String,
+    },
+    /// A node of two terminals.
+    Shared {
+        /// The first such node.
+        node: usize,
+        /// Their names.
+        terminals: [String; 2],
+    },
+    /// A terminal with a current, on copper that no terminal with a potential is joined to: its potential could be any.
+    NoPotential {
+        /// Its name.
+        terminal: String,
+    },
+    /// The iteration didn't come to its end.
+    NoEnd {
+        /// The residual as a share of its start.
+        share: f64,
+    },
+}
+
+impl From<Refusal> for Unsolved {
+    fn from(refusal: Refusal) -> Self {
+        Unsolved::Refused(refusal)
+    }
+}
+
+impl Unsolved {
+    /// The terminal to blame, the later one of two.
+    pub fn terminal(&self) -> Option<&str> {
+        match self {
+            Unsolved::OutOfRange { terminal }
+            | Unsolved::NoSuchNode { terminal, .. }
+            | Unsolved::NoNode { terminal }
+            | Unsolved::NoPotential { terminal } => Some(terminal),
+            Unsolved::Shared { terminals, .. } => Some(&terminals[1]),
+            _ => None,
+        }
+    }
+}
+
+impl fmt::Display for Unsolved {
+    fn fmt(&self, f: &mut fmt::Formatter<'_>) -> fmt::Result {
+        match self {
+            Unsolved::Refused(refusal) => refusal.fmt(f),
+            Unsolved::BadConductance { edge } => {
+                write!(f, "the conductance of edge {edge} is below 0 or no number")
+            }
+            Unsolved::NoFit { node } => write!(
+                f,
+                "node {node} stands inside a cell's side, not at its middle: balance the table, make all coordinates \
+                 multiples of the base cell, and no strip longer than cap of them"
+            ),
+            Unsolved::NoTerminal => write!(f, "there is no terminal"),
+            Unsolved::OutOfRange { terminal } => {
+                write!(f, "terminal {terminal}: its potential or current is out of range")
+            }
+            Unsolved::NoSuchNode { terminal, node } => {
+                write!(f, "terminal {terminal}: there is no node {node}")
+            }
+            Unsolved::NoNode { terminal } => {
+                write!(f, "terminal {terminal}: no corner of a leaf lies in it")
+            }
+            Unsolved::Shared {
+                node,
+                terminals: [a, b],
+            } => write!(f, "terminals {a} and {b} share node {node}"),
+            Unsolved::NoPotential { terminal } => write!(
+                f,
+                "terminal {terminal}: a current into copper that no terminal with a potential is joined to"
+            ),
+            Unsolved::NoEnd { share } => {
+                write!(f, "no solution: the residual fell to {share:.1e} only")
+            }
+        }
+    }
+}
+
+impl Error for Unsolved {}
