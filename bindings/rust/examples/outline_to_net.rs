@@ -1,101 +1,109 @@
-//! From outline to net, by the calls of `Table`: two pads joined by a neck, split where the neck is, balanced,
-//! and solved on the cells to show their power. (`Mesh` has the same calls and a row of its own; examples/neck has a
-//! board in millimetres.)
+//! From outline to picture: two pads joined by a neck that lies across, refined where the neck is, balanced, made a net,
+//! and solved on its cells at 10 A.
 //!
-//! `cargo run --example outline_to_net`
+//! `cargo run --example outline_to_net FILE.svg` leaves a picture there; without a file it prints only.
 
-use leafmesh::columns::Y0;
-use leafmesh::solving::{across, System};
-use leafmesh::{power, Net, Outlines, Point, Refusal, Settings, Table, SLOT, TICK};
+use leafmesh::drawing::{densities, Picture};
+use leafmesh::solving::{Drive, Spot, System, Terminal};
+use leafmesh::{Mesh, Pitch, Polygons, Region, Settings, Side};
+use std::env;
 use std::error::Error;
+use std::fs;
 use std::io::{stdout, Write};
+use std::process::ExitCode;
 
-/// Ohms a square.
-const SHEET: f64 = 0.5e-3;
-
-/// An hourglass of copper: pads of 48 by 16 ticks, and a neck of 16 by 16 between them. All coordinates are multiples
-/// of the base cell, so that the bands' cells meet corner to corner.
-const RING: [Point; 12] = [
-    [0, 0],
-    [48, 0],
-    [48, 16],
-    [32, 16],
-    [32, 32],
-    [48, 32],
-    [48, 48],
-    [0, 48],
-    [0, 32],
-    [16, 32],
-    [16, 16],
-    [0, 16],
+/// Pads of 6 by 4 mm and a neck of 2 by 0.4 mm between them.
+const OUTLINE: [[f64; 2]; 12] = [
+    [0.0, 0.0],
+    [6.0, 0.0],
+    [6.0, 1.8],
+    [8.0, 1.8],
+    [8.0, 0.0],
+    [14.0, 0.0],
+    [14.0, 4.0],
+    [8.0, 4.0],
+    [8.0, 2.2],
+    [6.0, 2.2],
+    [6.0, 4.0],
+    [0.0, 4.0],
 ];
 
-fn main() -> Result<(), Box<dyn Error>> {
-    let mut out = stdout();
-    let outlines = Outlines {
-        layers: &[1],
-        components: &[0],
-        sheets: &[SHEET],
-        counts: &[12],
-        points: &RING,
-    };
-    let mut row = vec![0; SLOT * 256];
-    let (splits, table) = meshed(outlines, &mut row)?;
-    let cells = table.head().count;
-    writeln!(out, "{splits} split(s) to balance, {cells} cells")?;
+fn main() -> ExitCode {
+    match run() {
+        Ok(()) => ExitCode::SUCCESS,
+        Err(why) => {
+            eprintln!("outline_to_net: {why}");
+            ExitCode::FAILURE
+        }
+    }
+}
 
-    let leaves = table.leaf_count();
-    let net = table.network(outlines)?;
+fn run() -> Result<(), Box<dyn Error>> {
+    // The outline, in base cells of 0.2 mm that can be split four times; copper of 35 micrometres.
+    let pitch = Pitch::new(0.2, 4)?;
+    let mut polygons = Polygons::default();
+    polygons.push(1, 0, 0.5e-3, &pitch.ring(&OUTLINE)?);
+    let settings = Settings {
+        max_level: 4,
+        cap: 256,
+        target: pitch.target(),
+    };
+    let mut mesh = Mesh::new(settings, &[], polygons)?;
+
+    // Finer cells in the neck and round its ends, and no two neighbours more than one level apart.
+    let [[x0, y0], [x1, y1]] = [pitch.point([5.6, 1.6])?, pitch.point([8.4, 2.4])?];
+    mesh.refine_region(Region {
+        rect: [x0, y0, x1, y1],
+        level: 3,
+        layer: None,
+    })?;
+    mesh.balance()?;
+    let net = mesh.net()?;
+
+    // 10 A from the left end to the right one, solved on the cells.
+    let end = |side| Spot::End {
+        layer: 1,
+        component: 0,
+        side,
+    };
+    let terminals = [
+        Terminal::new("in", end(Side::West), Drive::Amperes(10.0)),
+        Terminal::new("out", end(Side::East), Drive::Volts(0.0)),
+    ];
+    let held = mesh.held(&net, &terminals);
+    let solution = System::of_cells(&net)?.solve(&held)?;
+
+    let mut out = stdout();
     writeln!(
         out,
-        "{leaves} leaves, {} nodes, {} edges",
+        "{} leaves, {} nodes, {} edges",
+        net.cells.len(),
         net.nodes.len(),
         net.edges.len()
     )?;
-
-    let found = table.check_by_layer(net.rows(), outlines)?;
-    writeln!(out, "a node that isn't joined along a side: {found:?}")?;
-
-    let system = System::of_cells(net.rows())?;
-    let volts = system.solve(&across(&net.nodes))?;
-    let squares = 1.0 / (system.watts(&volts) * SHEET);
-    writeln!(out, "{squares:.3} squares from the bottom to the top")?;
-    let (cell, watts) = hottest(&net, &volts)?;
-    // Cell i of the net is the i-th leaf of the order.
-    let mut order = vec![0; leaves];
-    table.leaf_order(&mut order)?;
-    let slot = &table.row()[SLOT * order[cell] as usize..][..SLOT];
-    let area = (slot[2] - slot[0]) as f64 * TICK * (slot[3] - slot[1]) as f64 * TICK;
-    let amperes = (watts / (area * SHEET)).sqrt();
-    writeln!(
-        out,
-        "most power: leaf {} with {watts:.1} W, {amperes:.3e} A a metre",
-        order[cell]
-    )?;
-    Ok(())
-}
-
-/// The base cells, the one in the middle band and one of its quarters split, balanced.
-fn meshed<'a>(outlines: Outlines, row: &'a mut [i64]) -> Result<(usize, Table<'a>), Refusal> {
-    let settings = Settings {
-        max_level: 2,
-        cap: 256,
-        target: 16,
-    };
-    let mut table = Table::build(settings, &[], outlines, row)?;
-    for id in 0..table.head().count {
-        if table.row()[SLOT * id + Y0] == 16 {
-            table.refine(id)?;
-        }
+    for at in &solution.terminals {
+        let (name, millivolts) = (&at.terminal, 1e3 * at.volts);
+        writeln!(out, "{name}: {millivolts:.3} mV, {:.3} A", at.amperes)?;
     }
-    table.refine(table.head().count - 4)?;
-    Ok((table.balance()?, table))
-}
+    writeln!(out, "{:.4} W in all", solution.watts())?;
+    let cells = mesh.leaves().zip(&solution.cells);
+    let hottest = cells.max_by(|(_, a), (_, b)| a.watts.total_cmp(&b.watts));
+    if let Some((leaf, flow)) = hottest {
+        let (watts, amperes) = (flow.watts, leaf.sheet_current(flow.watts) / 1e3);
+        let [x, y] = [leaf.rect[0], leaf.rect[1]].map(|at| pitch.millimetres(at));
+        writeln!(
+            out,
+            "most power: leaf {} at ({x:.3} mm, {y:.3} mm), {:.3} mW, {amperes:.1} A/mm",
+            leaf.id,
+            1e3 * watts
+        )?;
+    }
 
-/// The cell of the most power, and how many watts it has.
-fn hottest(net: &Net, volts: &[f64]) -> Result<(usize, f64), Refusal> {
-    let mut watts = vec![0.0; net.cells.len()];
-    power(net.rows(), volts, &mut watts)?;
-    let most = |a: (usize, f64), b: (usize, f64)| if b.1 > a.1 { b } else { a };
-    Ok(watts.into_iter().enumerate().fold((0, 0.0), most))
+    if let Some(file) = env::args().nth(1) {
+        let watts: Vec<f64> = solution.cells.iter().map(|cell| cell.watts).collect();
+        let picture = Picture::of_mesh("A neck between two pads", &mesh, net.rows())?
+            .by_value("power density in W/mm2", &densities(&mesh, &watts));
+        fs::write(&file, picture.svg()).map_err(|why| format!("{file}: {why}"))?;
+    }
+    Ok(())
 }

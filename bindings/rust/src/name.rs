@@ -74,8 +74,8 @@ impl Quadrant {
 ///     Ok(())
 /// }
 ///
-/// fn leaves(mesh: &Mesh) -> Result<BTreeSet<CellName>, Refusal> {
-///     Ok(mesh.order()?.into_iter().filter_map(|id| mesh.name(id)).collect())
+/// fn leaves(mesh: &Mesh) -> BTreeSet<CellName> {
+///     mesh.order().into_iter().filter_map(|id| mesh.name(id)).collect()
 /// }
 ///
 /// // Four cells in a row, and the marks of two weeks.
@@ -90,7 +90,7 @@ impl Quadrant {
 /// let mut weekly = bare.clone();
 /// split(&mut weekly, &last_marks)?;
 /// assert_eq!(weekly.balance()?, 1);
-/// let last_leaves = leaves(&weekly)?;
+/// let last_leaves = leaves(&weekly);
 /// split(&mut weekly, &new_marks)?;
 /// weekly.balance()?;
 ///
@@ -100,7 +100,7 @@ impl Quadrant {
 /// fresh.balance()?;
 ///
 /// // The same map, though its cells have other ids.
-/// assert_eq!(leaves(&weekly)?, leaves(&fresh)?);
+/// assert_eq!(leaves(&weekly), leaves(&fresh));
 /// assert_eq!(weekly.head, fresh.head);
 /// let name = "3 SW".parse()?;
 /// assert_eq!((weekly.id_of(&name), fresh.id_of(&name)), (Some(16), Some(12)));

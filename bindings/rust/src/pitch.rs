@@ -131,6 +131,15 @@ impl Pitch {
         Ok([self.ticks(x)?, self.ticks(y)?])
     }
 
+    /// All points of a ring in ticks.
+    ///
+    /// # Errors
+    ///
+    /// Those of [`Pitch::ticks`].
+    pub fn ring(self, points: &[[f64; 2]]) -> Result<Vec<Point>, Misfit> {
+        points.iter().map(|&at| self.point(at)).collect()
+    }
+
     /// The nearest tick to a length that needn't be a multiple of the pitch, as that of a link.
     ///
     /// # Errors

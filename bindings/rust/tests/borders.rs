@@ -238,13 +238,14 @@ fn sample_boards() {
         ("vias.txt", 6_000),
     ] {
         let board = text::parse_whole(&sample(name)).expect("a board").board;
-        let mut mesh = Mesh::unjudged(&board).expect("a mesh");
-        let all = mesh.borders().expect("a table");
+        let mesh = Mesh::unjudged(&board).expect("a mesh");
+        let all = mesh.borders();
         assert!(all.len() >= least, "{name}: {}", all.len());
         let printed = printed::show(&board).expect("a net");
         let printed = printed::read(&printed).expect("leafnet's text");
         assert_eq!(printed.borders(), Ok(all.clone()), "{name}");
-        let table = Table::of(&mut mesh.table, mesh.head).expect("a table");
+        let mut row = mesh.row().to_vec();
+        let table = Table::of(&mut row, mesh.head()).expect("a table");
         assert_eq!(of_table(&table), all, "{name}");
     }
 }
@@ -264,16 +265,17 @@ fn more_than_ten_thousand_leaves() {
         target: 64,
     };
     let mut mesh = Mesh::new(settings, &[[2, 128]], polygons).expect("base cells");
-    while mesh.head.leaves < 10_400 {
-        let before = mesh.head.leaves;
+    while mesh.head().leaves < 10_400 {
+        let before = mesh.head().leaves;
         for _ in 0..100 {
             // Of a split cell and at the deepest level it is refused.
-            let _ = mesh.refine(dice.below(mesh.head.count as u64) as usize);
+            let _ = mesh.refine(dice.below(mesh.head().count as u64) as usize);
         }
-        assert!(mesh.head.leaves > before);
+        assert!(mesh.head().leaves > before);
         mesh.balance().expect("room");
     }
-    let table = Table::of(&mut mesh.table, mesh.head).expect("a table");
+    let mut row = mesh.row().to_vec();
+    let table = Table::of(&mut row, mesh.head()).expect("a table");
     let all = of_table(&table);
     assert!(all.len() > 20_000, "{}", all.len());
     let lengths: std::collections::BTreeSet<u64> =
@@ -312,21 +314,20 @@ fn what_is_no_table_has_no_borders() {
     };
     let board = text::parse(&sample("neck.txt")).expect("a board");
     let mesh = Mesh::of_board(&board).expect("a mesh");
-    assert!(mesh.borders().is_ok());
-    let with = |change: &dyn Fn(&mut Mesh)| {
-        let mut changed = mesh.clone();
-        change(&mut changed);
-        assert_eq!(changed.borders(), Err(refused));
-        let table = Table::of(&mut changed.table, changed.head);
+    assert!(!mesh.borders().is_empty());
+    let with = |change: &dyn Fn(&mut Vec<i64>, &mut Head)| {
+        let (mut row, mut head) = (mesh.row().to_vec(), mesh.head());
+        change(&mut row, &mut head);
+        let table = Table::of(&mut row, head);
         assert_eq!(table.expect_err("no table"), refused);
     };
-    with(&|mesh| mesh.table[columns::X1] += 1);
-    with(&|mesh| mesh.table[columns::X0] = mesh.table[columns::X1]);
-    with(&|mesh| mesh.table.truncate(SLOT));
-    with(&|mesh| mesh.table.clear());
-    with(&|mesh| mesh.head.leaves += 1);
-    with(&|mesh| mesh.head.count += 1);
-    with(&|mesh| mesh.head.count = usize::MAX);
-    with(&|mesh| (mesh.head.count, mesh.head.leaves) = (usize::MAX, usize::MAX));
-    with(&|mesh| mesh.head.max_level = 13);
+    with(&|row, _| row[columns::X1] += 1);
+    with(&|row, _| row[columns::X0] = row[columns::X1]);
+    with(&|row, _| row.truncate(SLOT));
+    with(&|row, _| row.clear());
+    with(&|_, head| head.leaves += 1);
+    with(&|_, head| head.count += 1);
+    with(&|_, head| head.count = usize::MAX);
+    with(&|_, head| (head.count, head.leaves) = (usize::MAX, usize::MAX));
+    with(&|_, head| head.max_level = 13);
 }

@@ -369,12 +369,6 @@ fn another_number_of_leaves_is_refused_by_every_call() {
         max_level,
     } = table.head();
     let before = table.row().to_vec();
-    let none = Outlines {
-        layers: &[],
-        components: &[],
-        sheets: &[],
-        ..outlines()
-    };
     for wrong in wrong(leaves) {
         let mut row = before.clone();
         let (at, length) = (row.as_mut_ptr(), row.len());
@@ -434,38 +428,5 @@ fn another_number_of_leaves_is_refused_by_every_call() {
         let mut row = before.clone();
         let refused = Table::of(&mut row, head).expect_err("another number of leaves");
         assert_eq!((refused.reason, refused.place), (Reason::BadTable, 0));
-        // Before polygons and their values are looked at.
-        for outlines in [outlines(), none] {
-            stale_mesh(&before, head, outlines, &net);
-        }
     }
-}
-
-/// A mesh whose head was written over: all calls refuse it, and no row is made by its number.
-fn stale_mesh(row: &[i64], head: Head, outlines: Outlines, net: &Net) {
-    let mut mesh = Mesh {
-        table: row.to_vec(),
-        head,
-        settings: SETTINGS,
-        list: vec![],
-        polygons: Polygons {
-            layers: outlines.layers.to_vec(),
-            components: outlines.components.to_vec(),
-            sheets: outlines.sheets.to_vec(),
-            ..Polygons::default()
-        },
-    };
-    let bad = Refusal {
-        reason: Reason::BadTable,
-        place: 0,
-    };
-    assert_eq!(mesh.order(), Err(bad));
-    assert_eq!(mesh.borders(), Err(bad));
-    assert_eq!(mesh.unjudged_net(), Err(bad));
-    assert_eq!(mesh.net(), Err(Unmeshed::Refused(bad)));
-    assert_eq!(mesh.edges_of_links(Links::default()), Err(bad));
-    assert_eq!(mesh.check(net.rows()), Err(bad));
-    assert_eq!(mesh.refine(1), Err(bad));
-    assert_eq!(mesh.balance(), Err(bad));
-    assert_eq!((&mesh.table[..], mesh.head), (row, head));
 }

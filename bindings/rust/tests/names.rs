@@ -71,13 +71,14 @@ fn sample_boards() {
         if path.extension().is_some_and(|kind| kind == "txt") {
             let words = fs::read_to_string(&path).expect("text");
             let board = text::parse_whole(&words).expect("a board").board;
-            let mut mesh = Mesh::unjudged(&board).expect("a mesh");
-            let names: Vec<_> = (0..=mesh.head.count).map(|id| mesh.name(id)).collect();
+            let mesh = Mesh::unjudged(&board).expect("a mesh");
+            let names: Vec<_> = (0..=mesh.head().count).map(|id| mesh.name(id)).collect();
             for (id, name) in names.iter().enumerate() {
                 let found = name.as_ref().and_then(|name| mesh.id_of(name));
-                assert_eq!(found, (id < mesh.head.count).then_some(id));
+                assert_eq!(found, (id < mesh.head().count).then_some(id));
             }
-            let table = Table::of(&mut mesh.table, mesh.head).expect("a table");
+            let mut row = mesh.row().to_vec();
+            let table = Table::of(&mut row, mesh.head()).expect("a table");
             longest = longest.max(hold_names(&table));
             let of_table = (0..names.len()).map(|id| table.name(id));
             assert!(of_table.eq(names));
@@ -181,18 +182,6 @@ fn what_is_no_name() {
     }
 }
 
-/// A mesh's table may be changed by hand. Two cells that name each other as parents have no way up without an end.
-#[test]
-fn a_ring_of_parents_ends() {
-    let board = text::parse(&sample("neck.txt")).expect("a board");
-    let mut mesh = Mesh::unjudged(&board).expect("a mesh");
-    let child = mesh.slot(8)[columns::FIRST_CHILD];
-    mesh.table[SLOT * 8 + columns::PARENT] = child;
-    let lost = Table::of(&mut mesh.table, mesh.head).expect_err("no table");
-    assert_eq!(lost.reason, Reason::BadTable);
-    assert_eq!(mesh.name(child as usize), Some(named("8 SW")));
-}
-
 fn leaf_names(table: &Table) -> BTreeSet<CellName> {
     let mut ids = vec![0; table.leaf_count()];
     table.leaves(&mut ids).expect("room");
@@ -240,7 +229,7 @@ impl Case {
         let board = text::parse(&sample("shunt.txt")).expect("a board");
         let polygons = board.polygons().expect("polygons");
         let bare = Mesh::new(board.settings(), &board.layers, polygons).expect("base cells");
-        assert!(bare.head.leaves > 1_500);
+        assert!(bare.head().leaves > 1_500);
         Case {
             bare,
             even_out: |table| table.balance(),
@@ -264,15 +253,16 @@ impl Case {
         };
         let bare = Mesh::new(settings, &[], polygons).expect("base cells");
         Case {
-            roots: 0..bare.head.count,
+            roots: 0..bare.head().count,
             even_out: |table| table.conform(),
             bare,
         }
     }
 
     fn bare_table<'a>(&self, row: &'a mut Vec<i64>) -> Table<'a> {
-        row.clone_from(&self.bare.table);
-        Table::of(row, self.bare.head).expect("base cells")
+        row.clear();
+        row.extend_from_slice(self.bare.row());
+        Table::of(row, self.bare.head()).expect("base cells")
     }
 
     fn even_out(&self, table: &mut Table) -> usize {

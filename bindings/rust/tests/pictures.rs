@@ -85,14 +85,14 @@ fn thirteen_levels_have_thirteen_colours() {
 fn a_board_of_two_layers_has_two_panels() {
     let mesh = mesh_of("shunt.txt");
     let svg = picture_of(&mesh);
-    let leaves = mesh.order().expect("leaves").len();
+    let leaves = mesh.order().len();
     assert!(leaves >= 1_500);
     assert_eq!(svg.matches("<title>leaf ").count(), leaves);
     for words in [">A board<", ">layer 1<", ">layer 2<", ">5 mm<", ">level 2<"] {
         assert!(svg.contains(words), "{words}");
     }
     let net = mesh.net().expect("a net");
-    let hanging = sides::hanging(net.rows()).len();
+    let hanging = sides::hanging(net.rows()).expect("a sound net").len();
     // One more in the legend.
     assert_eq!(
         svg.matches("fill=\"#ffffff\" stroke=\"#000000\"").count(),
@@ -128,8 +128,8 @@ fn values_have_a_logarithmic_bar() {
     ] {
         assert_uncut(&picture.clone().by_value("W/mm2", &values).svg());
     }
-    let even = densities(&mesh, &vec![1.0; net.cells.len()]).expect("densities");
-    for (&id, value) in mesh.order().expect("leaves").iter().zip(even) {
+    let even = densities(&mesh, &vec![1.0; net.cells.len()]);
+    for (&id, value) in mesh.order().iter().zip(even) {
         // Base cells of 2 by 2 mm.
         assert!(
             (value - 0.25 * 4_f64.powi(mesh.level(id) as i32)).abs() < 1e-6,
@@ -287,7 +287,7 @@ fn figures_of(svg: &str) -> Vec<[f64; 4]> {
 }
 
 fn is_across(mesh: &Mesh, border: &LeafBorder) -> bool {
-    let layer = |id: usize| mesh.polygons.layers[mesh.polygon(id)];
+    let layer = |id: usize| mesh.polygons().layers[mesh.polygon(id)];
     layer(border.first) != layer(border.second)
 }
 
@@ -312,7 +312,7 @@ fn borders_are_lines_with_their_lengths() {
             .expect("a board")
             .board;
         let mesh = Mesh::of_board(&board).expect("a mesh");
-        let borders = mesh.borders().expect("borders");
+        let borders = mesh.borders();
         let svg = picture_with_borders(&mesh);
         let lines = lines_of(&svg);
         let across = borders.iter().filter(|one| is_across(&mesh, one)).count();

@@ -2,7 +2,7 @@
 
 use leafmesh::drawing::Picture;
 use leafmesh::printed::{read, show};
-use leafmesh::solving::{across, System};
+use leafmesh::solving::{Drive, Held, System};
 use leafmesh::{text, NetRows};
 
 const BOARD: &str = "level 2\ntarget 8\npolygon 1 0 1\n0 0\n8 0\n8 16\n0 16\nsplit 0\n\
@@ -20,7 +20,12 @@ fn used(text: &str) -> bool {
         edges: &printed.edges,
         cells: &[],
     };
-    let _ = System::of_net(net).solve(&across(&printed.nodes));
+    let held = Held {
+        terminal: "first".to_string(),
+        nodes: vec![0],
+        drive: Drive::Volts(1.0),
+    };
+    let _ = System::of_net(net).and_then(|system| system.solve(&[held]));
     let board = text::parse(BOARD).expect("a board");
     Picture::of_printed("any", &printed, Some(&board)).is_ok()
 }

@@ -206,7 +206,7 @@ fn parts(edge: &Edge) -> ([usize; 2], f64) {
 #[test]
 fn a_split_square_and_its_weights() {
     let (mesh, net) = meshed("level 1\ntarget 8\npolygon 1 0 1\n0 0\n8 0\n8 16\n0 16\nsplit 0\n");
-    assert_eq!(mesh.order(), Ok(vec![1, 2, 3, 4, 5]));
+    assert_eq!(mesh.order(), [1, 2, 3, 4, 5]);
     let places: Vec<[i64; 2]> = net.nodes.iter().map(|node| [node.x, node.y]).collect();
     let expected = [
         [0, 8],
@@ -259,9 +259,10 @@ const TWO_SQUARES: &str =
 
 /// The links that the two squares have, in rows of just enough length; in one less they are refused.
 fn links_of(links: Links) -> Vec<([usize; 2], f64)> {
-    let mut mesh = meshed(TWO_SQUARES).0;
-    let outlines = mesh.polygons.outlines();
-    let table = Table::of(&mut mesh.table, mesh.head).expect("a table");
+    let mesh = meshed(TWO_SQUARES).0;
+    let outlines = mesh.polygons().outlines();
+    let mut row = mesh.row().to_vec();
+    let table = Table::of(&mut row, mesh.head()).expect("a table");
     let rows = table.edge_rows(outlines, links).expect("in range");
     let mut net = Net {
         nodes: vec![Node::default(); 8],
@@ -436,8 +437,9 @@ fn layers_over_each_other() {
     let square = "0 0\n8 0\n8 8\n0 8\n";
     let text =
         format!("level 1\ntarget 8\npolygon 1 0 1\n{square}polygon 2 0 1\n{square}split 0\n");
-    let (mut mesh, net) = meshed(&text);
-    let table = Table::of(&mut mesh.table, mesh.head).expect("a table");
+    let (mesh, net) = meshed(&text);
+    let mut row = mesh.row().to_vec();
+    let table = Table::of(&mut row, mesh.head()).expect("a table");
     let named = table.check_network_conforming(net.rows());
     assert_eq!(
         named,
@@ -454,7 +456,7 @@ fn layers_over_each_other() {
         y: 0,
     };
     assert_eq!(net.nodes[1], named);
-    assert_eq!(mesh.check(net.rows()), Ok(None));
+    assert_eq!(mesh.check_by_layer(net.rows()), Ok(None));
 }
 
 #[test]

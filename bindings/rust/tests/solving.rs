@@ -1,23 +1,60 @@
-//! The worked solver: on boards with a known resistance, and where cells don't fit together.
+//! The solver: on copper with a known resistance, against a fine grid, and what it refuses.
 
-use leafmesh::sides::Inside;
-use leafmesh::solving::{across, across_linked, System};
-use leafmesh::{sides, text, Edge, Mesh, Net};
+use leafmesh::sides::{self, Inside};
+use leafmesh::solving::{Drive, Held, Solution, Spot, System, Terminal, Unsolved};
+use leafmesh::{columns, text, Edge, Leaf, Mesh, Net, Reason, Region, Side};
 
-fn net_of(board: &str) -> Net {
+fn meshed(board: &str) -> (Mesh, Net) {
     let board = text::parse(board).expect("a board");
     let mesh = Mesh::unjudged(&board).expect("a mesh");
-    mesh.unjudged_net().expect("a net")
+    let net = mesh.unjudged_net().expect("a net");
+    (mesh, net)
 }
 
-fn ohms(system: &System, net: &Net) -> f64 {
-    let volts = system.solve(&across(&net.nodes)).expect("a solution");
-    1.0 / system.watts(&volts)
+fn end(side: Side, drive: Drive) -> Terminal {
+    let spot = Spot::End {
+        layer: 1,
+        component: 0,
+        side,
+    };
+    Terminal::new(&format!("{side:?}"), spot, drive)
+}
+
+/// 1 V from one side to the other.
+fn one_volt(from: Side, to: Side) -> [Terminal; 2] {
+    [end(from, Drive::Volts(1.0)), end(to, Drive::Volts(0.0))]
+}
+
+fn on_cells(mesh: &Mesh, net: &Net, terminals: &[Terminal]) -> Solution {
+    let system = System::of_cells(net).expect("aligned");
+    system
+        .solve(&mesh.held(net, terminals))
+        .expect("a solution")
+}
+
+fn ohms(solution: &Solution) -> f64 {
+    let [from, to] = &solution.terminals[..] else {
+        panic!("two terminals");
+    };
+    (from.volts - to.volts) / from.amperes
+}
+
+/// What the terminals give is what the cells and the links take.
+fn assert_in_balance(solution: &Solution) {
+    let share = solution.watts() / solution.given() - 1.0;
+    assert!(share.abs() < 1e-9, "off by {share:e}");
+    let left: f64 = solution.terminals.iter().map(|one| one.amperes).sum();
+    let most = solution
+        .terminals
+        .iter()
+        .map(|one| one.amperes.abs())
+        .fold(0.0, f64::max);
+    assert!(left.abs() < 1e-9 * most, "{left} A are left");
 }
 
 /// The first node inside a side that isn't at its middle.
 fn off_middle(net: &Net) -> Option<Inside> {
-    let all = sides::inside(net.rows());
+    let all = sides::inside(net.rows()).expect("a sound net");
     all.into_iter().find(|one| !one.middle)
 }
 
@@ -29,36 +66,353 @@ const CORNER: &str = "level 3\ntarget 16\npolygon 1 0 1\n0 0\n32 0\n32 64\n0 64\
 #[test]
 fn cells_have_the_resistance_of_their_copper() {
     for board in [STRIP, CORNER] {
-        let net = net_of(board);
-        assert!(!sides::hanging(net.rows()).is_empty());
-        assert!((ohms(&System::of_cells(net.rows()).expect("aligned"), &net) - 2.0).abs() < 1e-9);
-        assert!((ohms(&System::of_net(net.rows()), &net) - 2.0).abs() > 0.1);
+        let (mesh, net) = meshed(board);
+        assert!(!sides::hanging(net.rows()).expect("a sound net").is_empty());
+        let terminals = one_volt(Side::North, Side::South);
+        let solution = on_cells(&mesh, &net, &terminals);
+        assert!((ohms(&solution) - 2.0).abs() < 1e-9);
+        assert_in_balance(&solution);
+        let own = System::of_net(net.rows()).expect("a sound net");
+        let own = own.solve(&mesh.held(&net, &terminals)).expect("a solution");
+        assert!((ohms(&own) - 2.0).abs() > 0.1);
+        assert_in_balance(&own);
     }
 }
 
-/// An even slope is met at every node, those that hang included.
+/// The patch test: what is linear in x and y is met at every node, those that hang included, and in every cell the current
+/// and the power are the even ones. All nodes on the outline are held, each at its own potential.
 #[test]
-fn an_even_current_has_an_even_slope() {
-    let net = net_of(CORNER);
-    let system = System::of_cells(net.rows()).expect("aligned");
-    let volts = system.solve(&across(&net.nodes)).expect("a solution");
-    for (volt, node) in volts.iter().zip(&net.nodes) {
-        assert!(
-            (volt - node.y as f64 / 64.0).abs() < 1e-9,
-            "node {node:?} at {volt}"
-        );
+fn an_even_slope_passes_the_patch_test() {
+    let (mesh, net) = meshed(CORNER);
+    let volts_at = |x: i64, y: i64| 0.25 + 3.0 * x as f64 - 1.5 * y as f64;
+    let outline = |x: i64, y: i64| x == 0 || x == 32 || y == 0 || y == 64;
+    let nodes = net.nodes.iter().enumerate();
+    let held: Vec<Held> = nodes
+        .filter(|(_, node)| outline(node.x, node.y))
+        .map(|(at, node)| Held {
+            terminal: at.to_string(),
+            nodes: vec![at],
+            drive: Drive::Volts(volts_at(node.x, node.y)),
+        })
+        .collect();
+    let system = System::of_cells(&net).expect("aligned");
+    let solution = system.solve(&held).expect("a solution");
+    for (volts, node) in solution.volts.iter().zip(&net.nodes) {
+        let off = volts - volts_at(node.x, node.y);
+        assert!(off.abs() < 1e-9, "{node:?} is off by {off}");
     }
+    // Volts a metre, at one ohm a square.
+    let [jx, jy] = [-3.0, 1.5].map(|slope| slope / leafmesh::TICK);
+    for (leaf, flow) in mesh.leaves().zip(&solution.cells) {
+        let watts = (jx * jx + jy * jy) * leaf.area();
+        assert!((flow.current[0] / jx - 1.0).abs() < 1e-9);
+        assert!((flow.current[1] / jy - 1.0).abs() < 1e-9);
+        assert!((flow.watts / watts - 1.0).abs() < 1e-9);
+    }
+}
+
+/// The library's power takes the slope at a cell's centre, so that it is that of the element where the slope is even and
+/// never more.
+#[test]
+fn the_power_at_the_centre_is_at_most_the_element_s() {
+    let (mut mesh, _) = meshed(NECK);
+    mesh.refine_region(AROUND).expect("room");
+    mesh.balance().expect("room");
+    let net = mesh.net().expect("a net");
+    let solution = on_cells(&mesh, &net, &one_volt(Side::West, Side::East));
+    let centres = mesh.power(net.rows(), &solution.volts).expect("a power");
+    let mut less = 0;
+    for (centre, flow) in centres.iter().zip(&solution.cells) {
+        assert!(*centre <= flow.watts * (1.0 + 1e-12));
+        less += usize::from(*centre < 0.999 * flow.watts);
+    }
+    assert!(less > 10);
+    let sum: f64 = centres.iter().sum();
+    assert!(sum < solution.watts() && sum > 0.9 * solution.watts());
+}
+
+/// Pads of 48 by 48 and a neck of 16 by 8 that lies across.
+const NECK: &str =
+    "level 4\ntarget 8\npolygon 1 0 0.5\n0 0\n48 0\n48 16\n64 16\n64 0\n112 0\n112 48\n64 48\n\
+    64 24\n48 24\n48 48\n0 48\n";
+const AROUND: Region = Region {
+    rect: [44, 12, 68, 28],
+    level: 2,
+    layer: None,
+};
+
+/// The same outline 64 times as large, which no level 0 of the other can be.
+fn large_neck(split: u32) -> String {
+    let scaled = |line: &str| -> String {
+        let numbers: Option<Vec<i64>> = line.split(' ').map(|word| word.parse().ok()).collect();
+        match numbers.as_deref() {
+            Some([x, y]) => format!("{} {}", 64 * x, 64 * y),
+            _ => line.to_string(),
+        }
+    };
+    let ring: Vec<String> = NECK.lines().skip(3).map(scaled).collect();
+    format!(
+        "level 0\ntarget {}\npolygon 1 0 0.5\n{}\n",
+        512 >> split,
+        ring.join("\n")
+    )
+}
+
+/// Refined round by round by the power of its cells, the neck comes to the resistance of a uniform grid with far fewer
+/// leaves.
+#[test]
+fn a_neck_refined_by_heat_comes_to_a_fine_grid_s_resistance() {
+    let terminals = one_volt(Side::West, Side::East);
+    let (fine_mesh, fine) = meshed(&large_neck(3));
+    let squares = ohms(&on_cells(&fine_mesh, &fine, &terminals));
+    let (mut mesh, mut net) = meshed(NECK);
+    let mut off = Vec::new();
+    for _ in 0..6 {
+        let solution = on_cells(&mesh, &net, &terminals);
+        assert_in_balance(&solution);
+        off.push((ohms(&solution) / squares - 1.0).abs());
+        let watts: Vec<f64> = solution.cells.iter().map(|cell| cell.watts).collect();
+        mesh.refine_hottest(&watts, 0.2).expect("room");
+        net = mesh.net().expect("a net");
+    }
+    assert!(fine.cells.len() > 4_000 && net.cells.len() < 900);
+    assert!(off[0] > 0.03 && off[5] < 0.005, "{off:?}");
+}
+
+/// The neck is the hottest copper, though the current goes across.
+#[test]
+fn the_neck_that_lies_across_is_the_hottest() {
+    let (mut mesh, _) = meshed(NECK);
+    mesh.refine_region(AROUND).expect("room");
+    mesh.balance().expect("room");
+    let net = mesh.net().expect("a net");
+    let solution = on_cells(&mesh, &net, &one_volt(Side::West, Side::East));
+    let density = |(leaf, flow): (Leaf, &leafmesh::solving::Flow)| (flow.watts / leaf.area(), leaf);
+    let mut all: Vec<(f64, Leaf)> = mesh.leaves().zip(&solution.cells).map(density).collect();
+    all.sort_by(|a, b| b.0.total_cmp(&a.0));
+    for (_, leaf) in &all[..20] {
+        let [x0, y0, x1, y1] = leaf.rect;
+        assert!(x0 >= 44 && x1 <= 68 && y0 >= 12 && y1 <= 28, "{leaf:?}");
+    }
+}
+
+/// A current brings the potential about that brings the current about.
+#[test]
+fn volts_and_amperes_are_two_sides_of_one_terminal() {
+    let (mesh, net) = meshed(CORNER);
+    let by_volts = on_cells(&mesh, &net, &one_volt(Side::North, Side::South));
+    let amperes = by_volts.terminals[0].amperes;
+    assert!((amperes - 0.5).abs() < 1e-9);
+    let terminals = [
+        end(Side::North, Drive::Amperes(amperes)),
+        end(Side::South, Drive::Volts(0.0)),
+    ];
+    let by_amperes = on_cells(&mesh, &net, &terminals);
+    assert_in_balance(&by_amperes);
+    for (a, b) in by_volts.volts.iter().zip(&by_amperes.volts) {
+        assert!((a - b).abs() < 1e-9);
+    }
+    // Three terminals, two of them with currents.
+    let corner = Spot::Rect {
+        layer: 1,
+        component: 0,
+        rect: [0, 32, 0, 48],
+    };
+    let three = [
+        end(Side::North, Drive::Amperes(2.0)),
+        Terminal::new("tap", corner, Drive::Amperes(-0.5)),
+        end(Side::South, Drive::Volts(1.0)),
+    ];
+    let solution = on_cells(&mesh, &net, &three);
+    assert_in_balance(&solution);
+    assert!((solution.terminals[2].amperes + 1.5).abs() < 1e-9);
+}
+
+/// What each spot takes.
+#[test]
+fn spots_take_their_nodes() {
+    let (mesh, net) = meshed(STRIP);
+    let places = |spot: Spot| -> Vec<[i64; 2]> {
+        let held = mesh.held(&net, &[Terminal::new("any", spot, Drive::Volts(0.0))]);
+        held[0]
+            .nodes
+            .iter()
+            .map(|&at| [net.nodes[at].x, net.nodes[at].y])
+            .collect()
+    };
+    let at = |layer, component, side| Spot::End {
+        layer,
+        component,
+        side,
+    };
+    let sorted = |spot: Spot| {
+        let mut all = places(spot);
+        all.sort_unstable();
+        all
+    };
+    assert_eq!(sorted(at(1, 0, Side::North)), [[0, 16], [8, 16]]);
+    assert_eq!(sorted(at(1, 0, Side::South)), [[0, 0], [4, 0], [8, 0]]);
+    assert_eq!(
+        sorted(at(1, 0, Side::West)),
+        [[0, 0], [0, 4], [0, 8], [0, 16]]
+    );
+    assert_eq!(
+        sorted(at(1, 0, Side::East)),
+        [[8, 0], [8, 4], [8, 8], [8, 16]]
+    );
+    assert!(places(at(2, 0, Side::East)).is_empty() && places(at(1, 1, Side::East)).is_empty());
+    let rect = |rect| Spot::Rect {
+        layer: 1,
+        component: 0,
+        rect,
+    };
+    assert_eq!(sorted(rect([0, 4, 7, 8])), [[0, 4], [0, 8], [4, 4], [4, 8]]);
+    assert_eq!(sorted(rect([4, 8, 4, 8])), [[4, 8]]);
+    assert!(places(rect([1, 1, 3, 3])).is_empty());
+    assert_eq!(places(Spot::Pad { polygon: 0 }).len(), net.nodes.len());
+    assert!(places(Spot::Pad { polygon: 1 }).is_empty());
+}
+
+#[test]
+fn terminals_that_cannot_be_held_are_refused() {
+    let (mesh, net) = meshed(STRIP);
+    let system = System::of_cells(&net).expect("aligned");
+    let why = |terminals: &[Terminal]| {
+        let held = mesh.held(&net, terminals);
+        system.solve(&held).expect_err("no solution")
+    };
+    assert_eq!(why(&[]), Unsolved::NoTerminal);
+    let rect = |rect| Spot::Rect {
+        layer: 1,
+        component: 0,
+        rect,
+    };
+    let named = |name: &str, spot, drive| Terminal::new(name, spot, drive);
+    let volt = Drive::Volts(1.0);
+    let no_node = Unsolved::NoNode {
+        terminal: "tap".to_string(),
+    };
+    assert_eq!(why(&[named("tap", rect([1, 1, 3, 3]), volt)]), no_node);
+    // A node that hangs follows its side's ends.
+    assert_eq!(why(&[named("tap", rect([4, 8, 4, 8]), volt)]), no_node);
+    let shared = why(&[end(Side::West, volt), end(Side::South, Drive::Volts(0.0))]);
+    let names = ["West", "South"].map(str::to_string);
+    assert!(matches!(shared, Unsolved::Shared { ref terminals, .. } if *terminals == names));
+    assert_eq!(shared.terminal(), Some("South"));
+    for bad in [f64::NAN, f64::INFINITY, 1_048_577.0, -1_048_577.0] {
+        let refused = why(&[end(Side::West, Drive::Volts(bad))]);
+        assert!(matches!(refused, Unsolved::OutOfRange { .. }), "{bad}");
+    }
+    let refused = why(&[end(Side::West, Drive::Amperes(f64::NAN))]);
+    assert!(matches!(refused, Unsolved::OutOfRange { .. }));
+    let drifting = why(&[end(Side::West, Drive::Amperes(1.0))]);
+    assert!(matches!(drifting, Unsolved::NoPotential { ref terminal } if terminal == "West"));
+    let held = Held {
+        terminal: "far".to_string(),
+        nodes: vec![0, 99],
+        drive: volt,
+    };
+    let far = Unsolved::NoSuchNode {
+        terminal: "far".to_string(),
+        node: 99,
+    };
+    assert_eq!(system.solve(&[held]), Err(far));
+}
+
+/// A current into copper that nothing joins to a potential has none to come from; without terminals it stays at 0 V.
+#[test]
+fn copper_that_is_not_joined() {
+    let two = "level 1\ntarget 8\npolygon 1 0 1\n0 0\n8 0\n8 8\n0 8\npolygon 1 1 1\n16 0\n24 0\n24 8\n16 8\n";
+    let (mesh, net) = meshed(two);
+    let system = System::of_cells(&net).expect("aligned");
+    let [a, b] = one_volt(Side::West, Side::East);
+    let solution = system
+        .solve(&mesh.held(&net, &[a.clone(), b.clone()]))
+        .expect("a solution");
+    for (node, volts) in net.nodes.iter().zip(&solution.volts) {
+        assert!(node.component == 0 || *volts == 0.0);
+    }
+    assert_eq!(solution.cells[1].watts, 0.0);
+    let pad = Terminal::new("pad", Spot::Pad { polygon: 1 }, Drive::Amperes(1.0));
+    let refused = system
+        .solve(&mesh.held(&net, &[a, b, pad]))
+        .expect_err("it drifts");
+    assert_eq!(refused.terminal(), Some("pad"));
 }
 
 #[test]
 fn bands_that_do_not_meet_are_no_elements() {
-    let net = net_of("level 0\ntarget 6\npolygon 1 0 1\n0 0\n6 0\n6 2\n8 2\n8 4\n0 4\n");
+    let (_, net) = meshed("level 0\ntarget 6\npolygon 1 0 1\n0 0\n6 0\n6 2\n8 2\n8 4\n0 4\n");
     let loose = off_middle(&net).expect("a node inside a side");
-    let why = System::of_cells(net.rows()).expect_err("no fit");
-    assert_eq!(why.node, loose.node);
+    let why = System::of_cells(&net).expect_err("no fit");
+    assert_eq!(why, Unsolved::NoFit { node: loose.node });
     let node = net.nodes[loose.node];
     assert_eq!([node.x, node.y], [4, 2]);
-    assert_eq!(off_middle(&net_of(STRIP)), None);
+    assert_eq!(off_middle(&meshed(STRIP).1), None);
+}
+
+/// Every number of a net out of place: refused, or solved, and nothing panics.
+#[test]
+fn nets_that_are_not_sound_are_refused() {
+    let (_, net) = meshed(STRIP);
+    let bad = |change: &dyn Fn(&mut Net)| {
+        let mut net = net.clone();
+        change(&mut net);
+        let refused = sides::inside(net.rows()).expect_err("not sound");
+        assert_eq!(
+            System::of_net(net.rows()).err(),
+            Some(Unsolved::Refused(refused))
+        );
+        assert_eq!(
+            System::of_cells(&net).err(),
+            Some(Unsolved::Refused(refused))
+        );
+        assert_eq!(sides::hanging(net.rows()), Err(refused));
+        assert_eq!(sides::along(net.rows(), 0, Side::South), Err(refused));
+        refused.reason
+    };
+    assert_eq!(bad(&|net| net.edges[0].from = 99), Reason::BadTable);
+    assert_eq!(
+        bad(&|net| net.cells[0].corners[columns::NE] = usize::MAX),
+        Reason::BadTable
+    );
+    assert_eq!(
+        bad(&|net| net.cells[0].corners.swap(0, 1)),
+        Reason::BadTable
+    );
+    assert_eq!(bad(&|net| net.nodes[3].x = i64::MIN), Reason::BadTable);
+    assert_eq!(bad(&|net| net.cells[0].sheet = 0.0), Reason::OutOfRange);
+    assert_eq!(
+        bad(&|net| net.cells[0].sheet = f64::NAN),
+        Reason::OutOfRange
+    );
+    let mut net = net.clone();
+    net.edges[3].conductance = -1.0;
+    let why = System::of_net(net.rows()).expect_err("a conductance below 0");
+    assert_eq!(why, Unsolved::BadConductance { edge: 3 });
+    // Cells take no edge that isn't a link; more links than edges are all of them.
+    assert!(System::of_cells(&net).is_ok());
+    net.links = 99;
+    let why = System::of_cells(&net).expect_err("a conductance below 0");
+    assert_eq!(why, Unsolved::BadConductance { edge: 3 });
+}
+
+#[test]
+fn nodes_along_a_side() {
+    let (_, net) = meshed(STRIP);
+    let places = |side| -> Vec<[i64; 2]> {
+        let nodes = sides::along(net.rows(), 0, side).expect("a sound net");
+        nodes
+            .into_iter()
+            .map(|at| [net.nodes[at].x, net.nodes[at].y])
+            .collect()
+    };
+    // Cell 0 is the upper leaf, which the lower root's quarters meet.
+    assert_eq!(places(Side::South), [[0, 8], [4, 8], [8, 8]]);
+    assert_eq!(places(Side::North), [[0, 16], [8, 16]]);
+    assert_eq!(places(Side::West), [[0, 8], [0, 16]]);
+    assert_eq!(places(Side::East), [[8, 8], [8, 16]]);
+    assert_eq!(sides::along(net.rows(), 99, Side::East), Ok(Vec::new()));
 }
 
 /// Two strips one above the other on layers 1 and 2, each one square long twice, joined where one ends and the other
@@ -71,12 +425,23 @@ fn what_a_via_joins_is_one_resistance() {
         let whole = text::parse_whole(text).expect("a board");
         let mesh = Mesh::of_board(&whole.board).expect("a mesh");
         let net = mesh.linked_net(whole.links.rows()).expect("a net");
-        let held = across_linked(&net.nodes, net.links());
-        let system = System::of_linked_cells(&net).expect("aligned");
-        let volts = system.solve(&held).expect("a solution");
-        let amperes = |link: &Edge| link.conductance * (volts[link.to] - volts[link.from]);
-        let through: f64 = net.links().iter().map(amperes).sum();
-        (net.links, 1.0 / system.watts(&volts), through)
+        let top = Spot::End {
+            layer: 2,
+            component: 0,
+            side: Side::North,
+        };
+        let terminals = [
+            end(Side::South, Drive::Volts(1.0)),
+            Terminal::new("top", top, Drive::Volts(0.0)),
+        ];
+        let solution = on_cells(&mesh, &net, &terminals);
+        let through: f64 = solution.edges.iter().sum();
+        assert_in_balance(&solution);
+        let amperes =
+            |edge: &Edge| edge.conductance * (solution.volts[edge.from] - solution.volts[edge.to]);
+        let own: Vec<f64> = net.links().iter().map(amperes).collect();
+        assert_eq!(own, solution.edges);
+        (net.links, ohms(&solution), through)
     };
     let (links, ohms, through) = solved(&via(4));
     assert_eq!(links, 4);
@@ -85,8 +450,4 @@ fn what_a_via_joins_is_one_resistance() {
     let (links, ohms, through) = solved(&via(0));
     assert_eq!(links, 1);
     assert!(ohms > 4.6 && (through * ohms - 1.0).abs() < 1e-9);
-    // Not joined, each strip has its own volt.
-    let (links, ohms, _) = solved(strips);
-    assert_eq!(links, 0);
-    assert!((ohms - 1.0).abs() < 1e-9);
 }

@@ -403,7 +403,7 @@ fn bands_that_do_not_meet_are_told_by_their_polygon() {
     let text = text::parse(bands).expect("a board");
     let mesh = Mesh::unjudged(&text).expect("a mesh");
     let made = mesh.unjudged_net().expect("a net");
-    let printed = printed::show_mesh(&text, &mesh, &made).expect("a text");
+    let printed = printed::show_mesh(&text, &mesh, &made);
     for tool in [DRAW, RELAX] {
         let said = refused(tool, &[], printed.as_bytes());
         assert!(

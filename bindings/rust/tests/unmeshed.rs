@@ -85,18 +85,18 @@ fn leaves_two_levels_apart_have_a_net_and_no_elements() {
     mesh.refine(0).expect("a leaf");
     mesh.refine(7).expect("its south-eastern quarter");
     let net = mesh.net().expect("joined sides");
-    let why = System::of_cells(net.rows()).expect_err("no fit");
+    let why = System::of_cells(&net).expect_err("no fit");
     assert!(why.to_string().contains("balance the table"), "{why}");
     mesh.balance().expect("room");
     let net = mesh.net().expect("balanced");
-    assert_eq!(mesh.check(net.rows()), Ok(None));
-    assert!(System::of_cells(net.rows()).is_ok());
+    assert_eq!(mesh.check_by_layer(net.rows()), Ok(None));
+    assert!(System::of_cells(&net).is_ok());
     // No edge at all: the first node inside a side is named.
     let without = leafmesh::NetRows {
         edges: &[],
         ..net.rows()
     };
-    assert!(mesh.check(without).expect("sound rows").is_some());
+    assert!(mesh.check_by_layer(without).expect("sound rows").is_some());
 }
 
 #[test]

@@ -56,7 +56,7 @@ fn held(
     let nodes = net.nodes.iter().map(|n| (n.layer, n.component, n.x, n.y));
     let edges = net.edges.iter().map(|e| (e.from, e.to, e.conductance.to_bits()));
     let cells = net.cells.iter().map(|c| (c.corners, c.r_sheet.to_bits()));
-    let same = table == mesh.table
+    let same = table == mesh.row()
         && nodes.eq(made.nodes.iter().map(|n| (n.layer, n.component, n.x, n.y)))
         && edges.eq(made.edges.iter().map(|e| (e.from, e.to, e.conductance.to_bits())))
         && cells.eq(made.cells.iter().map(|c| (c.corners, c.sheet.to_bits())));
@@ -64,21 +64,21 @@ fn held(
         return Err(format!("{words}: another net than the original's").into());
     }
     let net = 4 * net.nodes.len() + 3 * net.edges.len() + 5 * net.cells.len();
-    Ok(SLOT * mesh.head.count + net)
+    Ok(SLOT * mesh.head().count + net)
 }
 
 /// The table and the net that the original makes of a mesh's board, split in rounds, each balanced.
 fn original(mesh: &Mesh, rounds: &[Vec<usize>]) -> Answer<(Vec<i64>, Net)> {
-    let polygons = &mesh.polygons;
+    let polygons = mesh.polygons();
     let sheets = Sheets {
         layer: &polygons.layers,
         component: &polygons.components,
         r_sheet: &polygons.sheets,
     };
     let outlines = Outlines { sheets, point_count: &polygons.counts, points: &polygons.points };
-    let max_level = mesh.settings.max_level;
-    let target = mesh.settings.target as i64;
-    let settings = Settings { max_level, cap: mesh.settings.cap, target, layers: &[] };
+    let max_level = mesh.settings().max_level;
+    let target = mesh.settings().target as i64;
+    let settings = Settings { max_level, cap: mesh.settings().cap, target, layers: &[] };
     let mut table = vec![0; SLOT * SLOTS];
     let mut head = build(&settings, &outlines, &mut table)?;
     for splits in rounds {

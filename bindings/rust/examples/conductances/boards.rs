@@ -1,8 +1,8 @@
 //! The boards of docs/CONDUCTANCES.md: each with what its copper does, and what the net and its cells say.
 
 use leafmesh::columns::{NE, SW};
-use leafmesh::solving::{across, System};
-use leafmesh::{power, text, Cell, Mesh, Net, NetRows};
+use leafmesh::solving::{Drive, Spot, System, Terminal, Unsolved};
+use leafmesh::{text, Cell, Mesh, Net, Side};
 use std::error::Error;
 
 /// What is measured with 1 V from the bottom to the top of component 0.
@@ -133,45 +133,54 @@ pub fn meshed(case: Case) -> Result<Meshed, Box<dyn Error>> {
     Ok(Meshed { case, mesh, net })
 }
 
+/// 1 V from the bottom to the top of component 0.
+fn terminals() -> [Terminal; 2] {
+    let end = |side| Spot::End {
+        layer: 1,
+        component: 0,
+        side,
+    };
+    [
+        Terminal::new("bottom", end(Side::South), Drive::Volts(0.0)),
+        Terminal::new("top", end(Side::North), Drive::Volts(1.0)),
+    ]
+}
+
 /// The figure by a system made of the net: its conductances, or its cells.
-fn figure(figure: Figure, net: NetRows, system: &System) -> Result<f64, Box<dyn Error>> {
-    let mut held = across(net.nodes);
-    for (volt, node) in held.iter_mut().zip(net.nodes) {
-        *volt = volt.filter(|_| node.component == 0);
-    }
-    let volts = system.solve(&held)?;
-    let amperes = system.watts(&volts);
-    match figure {
+fn figure(meshed: &Meshed, system: &System) -> Result<f64, Box<dyn Error>> {
+    let Meshed { case, mesh, net } = meshed;
+    let solution = system.solve(&mesh.held(net, &terminals()))?;
+    let amperes = solution.watts();
+    match case.figure {
         Figure::Resistance => Ok(1.0 / amperes),
-        Figure::Density => Ok(largest_density(net, &volts)? / (amperes * amperes)),
+        Figure::Density => {
+            let watts = mesh.power(net.rows(), &solution.volts)?;
+            Ok(largest_density(net, &watts) / (amperes * amperes))
+        }
     }
 }
 
 /// Of all cells the largest power over area, times the square of the board's width.
-fn largest_density(net: NetRows, volts: &[f64]) -> Result<f64, Box<dyn Error>> {
-    let mut watts = vec![0.0; net.cells.len()];
-    power(net, volts, &mut watts)?;
+fn largest_density(net: &Net, watts: &[f64]) -> f64 {
     let width = net.nodes.iter().map(|node| node.x).max().unwrap_or(0) as f64;
     let density = |(cell, watts): (&Cell, &f64)| {
         let [low, high] = [SW, NE].map(|corner| net.nodes[cell.corners[corner]]);
         let area = (high.x - low.x) as f64 * (high.y - low.y) as f64;
         watts / area * width * width
     };
-    let cells = net.cells.iter().zip(&watts);
-    Ok(cells.map(density).fold(0.0, f64::max))
+    net.cells.iter().zip(watts).map(density).fold(0.0, f64::max)
 }
 
 pub fn by_net(meshed: &Meshed) -> Result<f64, Box<dyn Error>> {
-    let net = meshed.net.rows();
-    figure(meshed.case.figure, net, &System::of_net(net))
+    figure(meshed, &System::of_net(meshed.net.rows())?)
 }
 
 /// None where the cells don't fit together.
 pub fn by_cells(meshed: &Meshed) -> Result<Option<f64>, Box<dyn Error>> {
-    let net = meshed.net.rows();
-    match System::of_cells(net) {
-        Ok(system) => figure(meshed.case.figure, net, &system).map(Some),
-        Err(_) => Ok(None),
+    match System::of_cells(&meshed.net) {
+        Ok(system) => figure(meshed, &system).map(Some),
+        Err(Unsolved::NoFit { .. }) => Ok(None),
+        Err(why) => Err(why.into()),
     }
 }
 
@@ -193,7 +202,7 @@ pub fn table(all: &[Meshed]) -> Result<String, Box<dyn Error>> {
     for meshed in all {
         let (copper, net) = (of_copper(meshed.case)?, by_net(meshed)?);
         let cells = by_cells(meshed)?.map_or("no fit".to_string(), |value| format!("{value:.3}"));
-        let (words, leaves) = (meshed.case.words, meshed.mesh.order()?.len());
+        let (words, leaves) = (meshed.case.words, meshed.net.cells.len());
         lines += &format!("| {words} | {leaves} | {copper:.3} | {net:.3} | {cells} |\n");
     }
     Ok(lines)

@@ -6,8 +6,19 @@ mod boards;
 
 use std::error::Error;
 use std::io::{stdout, Write};
+use std::process::ExitCode;
 
-fn main() -> Result<(), Box<dyn Error>> {
+fn main() -> ExitCode {
+    match run() {
+        Ok(()) => ExitCode::SUCCESS,
+        Err(why) => {
+            eprintln!("conductances: {why}");
+            ExitCode::FAILURE
+        }
+    }
+}
+
+fn run() -> Result<(), Box<dyn Error>> {
     let all: Result<Vec<_>, _> = boards::CASES.into_iter().map(boards::meshed).collect();
     write!(stdout(), "{}", boards::table(&all?)?)?;
     Ok(())

@@ -7,8 +7,19 @@ mod rounds;
 
 use std::error::Error;
 use std::io::{stdout, Write};
+use std::process::ExitCode;
 
-fn main() -> Result<(), Box<dyn Error>> {
+fn main() -> ExitCode {
+    match run() {
+        Ok(()) => ExitCode::SUCCESS,
+        Err(why) => {
+            eprintln!("hottest: {why}");
+            ExitCode::FAILURE
+        }
+    }
+}
+
+fn run() -> Result<(), Box<dyn Error>> {
     write!(stdout(), "{}", rounds::table(&rounds::rounds()?)?)?;
     Ok(())
 }

@@ -1,7 +1,7 @@
 //! A neck 0.2 mm wide that lies across, between two pads, refined round by round where the net's power is largest.
 
-use leafmesh::solving::System;
-use leafmesh::{power, Mesh, Net, NetRows, Pitch, Polygons, Settings};
+use leafmesh::solving::{Drive, Solution, Spot, System, Terminal};
+use leafmesh::{Mesh, Net, Pitch, Polygons, Settings, Side};
 use std::error::Error;
 
 /// In millimetres.
@@ -43,15 +43,13 @@ pub fn rounds() -> Result<Vec<Round>, Box<dyn Error>> {
     for _ in 0..=ROUNDS {
         mesh.balance()?;
         let net = mesh.net()?;
-        let next = hottest(&mesh, net.rows())?;
+        let next = hottest(&mesh, &net)?;
         rounds.push(Round {
             splits,
             mesh: mesh.clone(),
             net,
         });
-        for &id in &next {
-            mesh.refine(id)?;
-        }
+        mesh.refine_many(next.iter().copied())?;
         splits = next;
     }
     Ok(rounds)
@@ -64,40 +62,42 @@ fn base_cells() -> Result<Mesh, Box<dyn Error>> {
         cap: 256,
         target: pitch.target(),
     };
-    let ring: Result<Vec<_>, _> = OUTLINE.into_iter().map(|at| pitch.point(at)).collect();
     let mut polygons = Polygons::default();
-    polygons.push(1, 0, 1.0, &ring?);
+    polygons.push(1, 0, 1.0, &pitch.ring(&OUTLINE)?);
     Ok(Mesh::new(settings, &[], polygons)?)
 }
 
 /// The leaves of the largest power by the net, those at the last level left out.
-fn hottest(mesh: &Mesh, net: NetRows) -> Result<Vec<usize>, Box<dyn Error>> {
-    let (_, watts) = watts(net, &System::of_net(net))?;
-    let mut by_heat: Vec<(f64, usize)> = watts.into_iter().zip(mesh.order()?).collect();
+fn hottest(mesh: &Mesh, net: &Net) -> Result<Vec<usize>, Box<dyn Error>> {
+    let watts = mesh.power(net.rows(), &by_net(mesh, net)?.volts)?;
+    let mut by_heat: Vec<_> = watts.into_iter().zip(mesh.leaves()).collect();
     by_heat.sort_by(|a, b| b.0.total_cmp(&a.0));
     by_heat.truncate(by_heat.len() / ONE_IN);
-    let ids = by_heat.into_iter().map(|(_, id)| id);
-    Ok(ids.filter(|&id| mesh.level(id) < MAX_LEVEL).collect())
+    by_heat.retain(|(_, leaf)| leaf.level < MAX_LEVEL);
+    Ok(by_heat.into_iter().map(|(_, leaf)| leaf.id).collect())
 }
 
 /// 1 V from the left to the right.
-fn across(net: NetRows) -> Vec<Option<f64>> {
-    let along = || net.nodes.iter().map(|node| node.x);
-    let (low, high) = (along().min(), along().max());
-    let held = |x: i64| match Some(x) {
-        at if at == low => Some(0.0),
-        at if at == high => Some(1.0),
-        _ => None,
+fn terminals() -> [Terminal; 2] {
+    let end = |side| Spot::End {
+        layer: 1,
+        component: 0,
+        side,
     };
-    along().map(held).collect()
+    [
+        Terminal::new("left", end(Side::West), Drive::Volts(0.0)),
+        Terminal::new("right", end(Side::East), Drive::Volts(1.0)),
+    ]
 }
 
-/// Watts in all, as the system has them, and of each cell, as the library works them out.
-fn watts(net: NetRows, system: &System) -> Result<(f64, Vec<f64>), Box<dyn Error>> {
-    let volts = system.solve(&across(net))?;
-    let mut watts = vec![0.0; net.cells.len()];
-    power(net, &volts, &mut watts)?;
-    Ok((system.watts(&volts), watts))
+/// By the net's conductances.
+fn by_net(mesh: &Mesh, net: &Net) -> Result<Solution, Box<dyn Error>> {
+    Ok(System::of_net(net.rows())?.solve(&mesh.held(net, &terminals()))?)
+}
+
+/// By the elements on its cells.
+fn by_cells(mesh: &Mesh, net: &Net) -> Result<Solution, Box<dyn Error>> {
+    Ok(System::of_cells(net)?.solve(&mesh.held(net, &terminals()))?)
 }
 
 /// The table of the page: a line a round.
@@ -106,15 +106,15 @@ pub fn table(rounds: &[Round]) -> Result<String, Box<dyn Error>> {
         "| Round | leaves | net's hottest cell: its power by the net / by elements | power of all cells / V²G |\n\
          |---|---|---|---|\n",
     );
-    for (number, round) in rounds.iter().enumerate() {
-        let net = round.net.rows();
-        let (all, by_net) = watts(net, &System::of_net(net))?;
-        let (_, by_cells) = watts(net, &System::of_cells(net)?)?;
-        let hotter = |a: &usize, b: &usize| by_net[*a].total_cmp(&by_net[*b]);
-        let hottest = (0..by_net.len()).max_by(hotter).ok_or("no cells")?;
-        let times = by_net[hottest] / by_cells[hottest];
-        let share = by_net.iter().sum::<f64>() / all;
-        let leaves = by_net.len();
+    for (number, Round { mesh, net, .. }) in rounds.iter().enumerate() {
+        let own = by_net(mesh, net)?;
+        let net_watts = mesh.power(net.rows(), &own.volts)?;
+        let cell_watts = mesh.power(net.rows(), &by_cells(mesh, net)?.volts)?;
+        let hotter = |a: &usize, b: &usize| net_watts[*a].total_cmp(&net_watts[*b]);
+        let hottest = (0..net_watts.len()).max_by(hotter).ok_or("no cells")?;
+        let times = net_watts[hottest] / cell_watts[hottest];
+        let share = net_watts.iter().sum::<f64>() / own.watts();
+        let leaves = net_watts.len();
         lines += &format!("| {number} | {leaves} | {times:.2} | {share:.3} |\n");
     }
     Ok(lines)

@@ -6,21 +6,32 @@
 //! layers-power.svg (power density at 10 A), and layers.vtk for ParaView; without a folder it prints only.
 
 use leafmesh::drawing::{densities, Picture};
-use leafmesh::solving::{across_linked, System};
+use leafmesh::solving::{Drive, Held, Solution, Spot, System, Terminal};
 use leafmesh::text::{self, Whole};
 use leafmesh::vtk::{self, Field};
-use leafmesh::{power, Edge, Link, Links, Mesh, Net, Refusal};
+use leafmesh::{Link, Links, Mesh, Net, Refusal, Side};
 use std::env;
 use std::error::Error;
 use std::fs;
 use std::io::{stdout, Write};
 use std::path::Path;
+use std::process::ExitCode;
 
 const BOARD: &str = include_str!("../../../../boards/vias.txt");
-/// From the bottom edge of layer 1 to the top edge of layer 2, for currents and pictures.
+/// From the bottom edge of layer 1 to the top edge of layer 2.
 const AMPERES: f64 = 10.0;
 
-fn main() -> Result<(), Box<dyn Error>> {
+fn main() -> ExitCode {
+    match run() {
+        Ok(()) => ExitCode::SUCCESS,
+        Err(why) => {
+            eprintln!("layers: {why}");
+            ExitCode::FAILURE
+        }
+    }
+}
+
+fn run() -> Result<(), Box<dyn Error>> {
     let mut out = stdout();
     let Whole { board, links, .. } = text::parse_whole(BOARD)?;
     let links = links.rows();
@@ -35,24 +46,23 @@ fn main() -> Result<(), Box<dyn Error>> {
         net.links
     )?;
 
-    let held = across_linked(&net.nodes, net.links());
-    let mut solved = |name: &str, system: System| -> Result<(f64, Vec<f64>), Box<dyn Error>> {
-        let volts = system.solve(&held)?;
-        let ohms = 1.0 / system.watts(&volts);
+    let held = mesh.held(&net, &terminals());
+    let mut solved = |name: &str, system: System, held: &[Held]| -> Result<_, Box<dyn Error>> {
+        let solution = system.solve(held)?;
+        let into = &solution.terminals[0];
+        let ohms = into.volts / into.amperes;
         writeln!(
             out,
             "{:.4} mOhm from the bottom to the top, by {name}",
             1e3 * ohms
         )?;
-        Ok((ohms, volts))
+        Ok(solution)
     };
-    solved("the net's conductances", System::of_net(net.rows()))?;
-    let (ohms, shares) = solved("bilinear elements", System::of_linked_cells(&net)?)?;
+    solved("the net's conductances", System::of_net(net.rows())?, &held)?;
+    let solution = solved("bilinear elements", System::of_cells(&net)?, &held)?;
 
-    // As many volts as the current needs.
-    let volts: Vec<f64> = shares.iter().map(|share| share * ohms * AMPERES).collect();
     writeln!(out, "at {AMPERES} A, by bilinear elements:")?;
-    let currents = currents_of(&mesh, &net, links, &volts)?;
+    let currents = currents_of(&mesh, links, &solution)?;
     for one in &currents {
         let (link, edges, amperes) = (words(one.link), one.edges, one.amperes);
         writeln!(out, "{link:<10} {edges:4} edges {amperes:8.4} A")?;
@@ -68,9 +78,22 @@ fn main() -> Result<(), Box<dyn Error>> {
         "{vias:.4} A through all vias, {switches:.4} A through all switches"
     )?;
     match env::args().nth(1) {
-        Some(folder) => put(Path::new(&folder), &mesh, &net, links, &volts),
+        Some(folder) => put(Path::new(&folder), &mesh, &net, links, &solution),
         None => Ok(()),
     }
+}
+
+/// The current goes in along the bottom of layer 1 and comes out along the top of layer 2's bar.
+fn terminals() -> [Terminal; 2] {
+    let end = |layer, component, side| Spot::End {
+        layer,
+        component,
+        side,
+    };
+    [
+        Terminal::new("in", end(1, 0, Side::South), Drive::Amperes(AMPERES)),
+        Terminal::new("out", end(2, 1, Side::North), Drive::Volts(0.0)),
+    ]
 }
 
 fn words(link: Link) -> String {
@@ -81,28 +104,22 @@ fn words(link: Link) -> String {
     }
 }
 
-/// Of a link how many edges it makes, and the current from their second ends to their first.
+/// Of a link how many edges it makes, and the current from their first ends to their second.
 struct Current {
     link: Link,
     edges: usize,
     amperes: f64,
 }
 
-fn currents_of(
-    mesh: &Mesh,
-    net: &Net,
-    links: Links,
-    volts: &[f64],
-) -> Result<Vec<Current>, Refusal> {
-    let amperes = |edge: &Edge| edge.conductance * (volts[edge.to] - volts[edge.from]);
-    let mut rest = net.links();
+fn currents_of(mesh: &Mesh, links: Links, solution: &Solution) -> Result<Vec<Current>, Refusal> {
+    let mut rest = &solution.edges[..];
     let mut currents = Vec::new();
     for ((link, _), edges) in links.each().zip(mesh.edges_of_links(links)?) {
         let (own, behind) = rest.split_at(edges);
         currents.push(Current {
             link,
             edges,
-            amperes: own.iter().map(amperes).sum(),
+            amperes: own.iter().sum(),
         });
         rest = behind;
     }
@@ -114,23 +131,27 @@ fn put(
     mesh: &Mesh,
     net: &Net,
     links: Links,
-    volts: &[f64],
+    solution: &Solution,
 ) -> Result<(), Box<dyn Error>> {
-    let mut watts = vec![0.0; net.cells.len()];
-    power(net.rows(), volts, &mut watts)?;
-    let densities = densities(mesh, &watts)?;
+    let watts: Vec<f64> = solution.cells.iter().map(|cell| cell.watts).collect();
+    let densities = densities(mesh, &watts);
     let fields = [
         Field::Cells("W_per_mm2", &densities),
-        Field::Nodes("volts", volts),
+        Field::Nodes("volts", &solution.volts),
     ];
     let picture = |title: &str| Picture::of_mesh(title, mesh, net.rows());
     let levels = picture("Two plates joined by vias: leaves by level")?;
     let heat = picture("Two plates joined by vias: power density at 10 A")?;
     let heat = heat.by_value("power density in W/mm2", &densities);
     let svg = |picture: Picture| picture.with_links(net, links).svg();
-    fs::write(folder.join("layers.svg"), svg(levels))?;
-    fs::write(folder.join("layers-power.svg"), svg(heat))?;
     let file = vtk::of_linked_mesh(mesh, net, &fields)?;
-    fs::write(folder.join("layers.vtk"), file)?;
+    fs::create_dir_all(folder).map_err(|why| format!("{}: {why}", folder.display()))?;
+    let keep = |name: &str, text: String| {
+        let file = folder.join(name);
+        fs::write(&file, text).map_err(|why| format!("{}: {why}", file.display()))
+    };
+    keep("layers.svg", svg(levels))?;
+    keep("layers-power.svg", svg(heat))?;
+    keep("layers.vtk", file)?;
     Ok(())
 }

@@ -9,11 +9,12 @@
 mod pictures;
 mod uniform;
 
-use leafmesh::solving::{across, System};
-use leafmesh::{power, Mesh, Net, Pitch, Polygons, Refusal, Settings};
+use leafmesh::solving::{Drive, Solution, Spot, System, Terminal};
+use leafmesh::{Mesh, Net, Pitch, Polygons, Settings, Side};
 use std::env;
 use std::error::Error;
 use std::io::{stdout, Write};
+use std::process::ExitCode;
 
 /// In millimetres.
 const PITCH: f64 = 1.0;
@@ -24,7 +25,7 @@ const SHEET: f64 = 0.5e-3;
 const AMPERES: f64 = 10.0;
 const ROUNDS: usize = 7;
 /// A round splits so many of the leaves, those of the largest power.
-const ONE_IN: usize = 6;
+const SHARE: f64 = 1.0 / 6.0;
 /// Squares of the uniform grid along one pitch.
 const FINE: usize = 32;
 
@@ -44,7 +45,17 @@ const OUTLINE: [[f64; 2]; 12] = [
     [0.0, 6.0],
 ];
 
-fn main() -> Result<(), Box<dyn Error>> {
+fn main() -> ExitCode {
+    match run() {
+        Ok(()) => ExitCode::SUCCESS,
+        Err(why) => {
+            eprintln!("neck: {why}");
+            ExitCode::FAILURE
+        }
+    }
+}
+
+fn run() -> Result<(), Box<dyn Error>> {
     let mut out = stdout();
     let squares = uniform::squares(&OUTLINE, PITCH / FINE as f64)?;
     writeln!(
@@ -55,8 +66,9 @@ fn main() -> Result<(), Box<dyn Error>> {
     let mut mesh = base_cells()?;
     for round in 0..=ROUNDS {
         let net = mesh.net()?;
-        let (cells, volts) = solved(&System::of_cells(net.rows())?, &net)?;
-        let (edges, _) = solved(&System::of_net(net.rows()), &net)?;
+        let solution = solved(&mesh, &net, &System::of_cells(&net)?)?;
+        let by_net = solved(&mesh, &net, &System::of_net(net.rows())?)?;
+        let [cells, edges] = [&solution, &by_net].map(squares_of);
         let off = |own: f64| 100.0 * (own / squares - 1.0);
         writeln!(
             out,
@@ -66,9 +78,10 @@ fn main() -> Result<(), Box<dyn Error>> {
             off(edges)
         )?;
         if round < ROUNDS {
-            refine_hottest(&mut mesh, &net, &volts)?;
+            let watts: Vec<f64> = solution.cells.iter().map(|cell| cell.watts).collect();
+            mesh.refine_hottest(&watts, SHARE)?;
         } else if let Some(folder) = env::args().nth(1) {
-            pictures::put(&folder, &mesh, &net, &volts, AMPERES * cells * SHEET)?;
+            pictures::put(&folder, &mesh, &net, &solution)?;
         }
     }
     Ok(())
@@ -82,31 +95,27 @@ fn base_cells() -> Result<Mesh, Box<dyn Error>> {
         cap: 256,
         target: pitch.target(),
     };
-    let ring: Result<Vec<_>, _> = OUTLINE.into_iter().map(|at| pitch.point(at)).collect();
     let mut polygons = Polygons::default();
-    polygons.push(1, 0, SHEET, &ring?);
+    polygons.push(1, 0, SHEET, &pitch.ring(&OUTLINE)?);
     Ok(Mesh::new(settings, &[], polygons)?)
 }
 
-/// The resistance in squares, and the potentials at 1 V from the bottom to the top.
-fn solved(system: &System, net: &Net) -> Result<(f64, Vec<f64>), Box<dyn Error>> {
-    let volts = system.solve(&across(&net.nodes))?;
-    Ok((1.0 / (system.watts(&volts) * SHEET), volts))
+/// A current from the bottom to the top.
+fn solved(mesh: &Mesh, net: &Net, system: &System) -> Result<Solution, Box<dyn Error>> {
+    let end = |side| Spot::End {
+        layer: 1,
+        component: 0,
+        side,
+    };
+    let terminals = [
+        Terminal::new("in", end(Side::South), Drive::Amperes(AMPERES)),
+        Terminal::new("out", end(Side::North), Drive::Volts(0.0)),
+    ];
+    Ok(system.solve(&mesh.held(net, &terminals))?)
 }
 
-/// Splits the leaves of the largest power, and balances.
-fn refine_hottest(mesh: &mut Mesh, net: &Net, volts: &[f64]) -> Result<(), Refusal> {
-    let mut watts = vec![0.0; net.cells.len()];
-    power(net.rows(), volts, &mut watts)?;
-    // Cell i of the net is the i-th leaf of the order.
-    let mut by_heat: Vec<(f64, usize)> = watts.into_iter().zip(mesh.order()?).collect();
-    by_heat.sort_by(|a, b| b.0.total_cmp(&a.0));
-    by_heat.truncate(by_heat.len() / ONE_IN);
-    for (_, id) in by_heat {
-        if mesh.level(id) < MAX_LEVEL {
-            mesh.refine(id)?;
-        }
-    }
-    mesh.balance()?;
-    Ok(())
+/// The resistance in squares.
+fn squares_of(solution: &Solution) -> f64 {
+    let into = &solution.terminals[0];
+    into.volts / into.amperes / SHEET
 }

@@ -1,7 +1,7 @@
 //! The reference: the same outline in equal squares, without the library.
 
-use leafmesh::solving::{across, System};
-use leafmesh::{Cell, NetRows, Node};
+use leafmesh::solving::{Drive, Held, System};
+use leafmesh::{Cell, Net, Node};
 use std::collections::BTreeMap;
 use std::error::Error;
 
@@ -32,12 +32,21 @@ pub fn squares(outline: &[[f64; 2]], side: f64) -> Result<f64, Box<dyn Error>> {
             });
         }
     }
-    let system = System::of_cells(NetRows {
-        nodes: &nodes,
-        edges: &[],
-        cells: &cells,
-    })?;
-    Ok(1.0 / system.watts(&system.solve(&across(&nodes))?))
+    let row = |y: i64, volts: f64| {
+        let own = nodes.iter().enumerate().filter(|(_, node)| node.y == y);
+        Held {
+            terminal: format!("row {y}"),
+            nodes: own.map(|(number, _)| number).collect(),
+            drive: Drive::Volts(volts),
+        }
+    };
+    let held = [row(0, 0.0), row(most(1), 1.0)];
+    let net = Net {
+        nodes,
+        cells,
+        ..Net::default()
+    };
+    Ok(1.0 / System::of_cells(&net)?.solve(&held)?.watts())
 }
 
 /// Whether the square from (x, y) to (x + 1, y + 1) is copper: an odd number of edges stand to its right.

@@ -13,14 +13,10 @@
 //! let board = text::parse("level 2\ntarget 8\npolygon 1 0 1\n0 0\n8 0\n8 16\n0 16\nsplit 0\n")?;
 //! let mesh = Mesh::of_board(&board)?;
 //! let net = mesh.net()?;
-//! let terminal = |name: &str, side, drive| Terminal {
-//!     name: name.to_string(),
-//!     spot: Spot::End { layer: 1, component: 0, side },
-//!     drive,
-//! };
+//! let end = |side| Spot::End { layer: 1, component: 0, side };
 //! let terminals = [
-//!     terminal("in", Side::North, Drive::Amperes(3.0)),
-//!     terminal("out", Side::South, Drive::Volts(0.0)),
+//!     Terminal::new("in", end(Side::North), Drive::Amperes(3.0)),
+//!     Terminal::new("out", end(Side::South), Drive::Volts(0.0)),
 //! ];
 //! let solution = System::of_cells(&net)?.solve(&mesh.held(&net, &terminals))?;
 //!

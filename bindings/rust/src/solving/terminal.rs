@@ -63,6 +63,17 @@ pub struct Held {
     pub drive: Drive,
 }
 
+impl Terminal {
+    /// By name, place and drive.
+    pub fn new(name: &str, spot: Spot, drive: Drive) -> Self {
+        Terminal {
+            name: name.to_string(),
+            spot,
+            drive,
+        }
+    }
+}
+
 impl Drive {
     /// Whether it is a number, and a potential that [`power`](crate::power) takes.
     pub fn is_in_range(self) -> bool {
