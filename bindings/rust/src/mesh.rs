@@ -6,7 +6,7 @@ use crate::sides::has_side;
 use crate::unmeshed::{refused, Idle, Loose, TooLong, Unmeshed};
 use crate::{
     contact, power, Board, Border, CellName, Hanging, Head, LeafBorder, Links, Net, NetRows,
-    Outlines, Point, Reason, Rect, Refusal, Settings, Table, NO_CELL, SLOT, SLOTS, TICK,
+    Outlines, Point, Reason, Rect, Refusal, Settings, Table, MAX_LEVEL, NO_CELL, SLOT, SLOTS, TICK,
 };
 
 /// Polygons by rows, owned: what [`Table::build`] and [`Table::network`] take as [`Outlines`].
@@ -265,12 +265,12 @@ impl Mesh {
     ///
     /// # Errors
     ///
-    /// [`Reason::FinestLevel`] where the region's level is deeper than the mesh's, [`Reason::NoRoom`]; the mesh is as it
-    /// was before.
+    /// [`Reason::FinestLevel`] where a leaf in it is at the mesh's deepest level and the region asks for a deeper one,
+    /// [`Reason::NoRoom`]; the mesh is as it was before.
     pub fn refine_region(&mut self, region: Region) -> Result<usize, Refusal> {
         self.all_or_nothing(|mesh| {
             let before = mesh.head.count;
-            for level in 0..region.level {
+            for level in 0..region.level.min(MAX_LEVEL + 1) {
                 let is_coarse = |leaf: &Leaf| leaf.level == level && region.covers(leaf);
                 let ids: Vec<usize> = mesh
                     .leaves()
