@@ -577,21 +577,37 @@ impl Mesh {
     }
 
     /// Where a cell lies, in ticks.
+    ///
+    /// # Panics
+    ///
+    /// As [`Mesh::slot`].
     pub fn rect(&self, id: usize) -> Rect {
         self.lent().rect(id)
     }
 
     /// The level of a cell: 0 of a base cell.
+    ///
+    /// # Panics
+    ///
+    /// As [`Mesh::slot`].
     pub fn level(&self, id: usize) -> u64 {
         self.slot(id)[LEVEL] as u64
     }
 
     /// The index of its polygon.
+    ///
+    /// # Panics
+    ///
+    /// As [`Mesh::slot`].
     pub fn polygon(&self, id: usize) -> usize {
         self.slot(id)[POLYGON] as usize
     }
 
     /// Whether it isn't split.
+    ///
+    /// # Panics
+    ///
+    /// As [`Mesh::slot`].
     pub fn is_leaf(&self, id: usize) -> bool {
         self.lent().first_child(id).is_none()
     }
