@@ -3,7 +3,7 @@
 //!
 //! `cargo run --example outline_to_net FILE.svg` leaves a picture there; without a file it prints only.
 
-use leafmesh::drawing::{densities, Picture};
+use leafmesh::drawing::{Picture, Quantity};
 use leafmesh::solving::{Drive, Spot, System, Terminal};
 use leafmesh::{Mesh, Pitch, Polygons, Region, Settings, Side};
 use std::env;
@@ -100,9 +100,9 @@ fn run() -> Result<(), Box<dyn Error>> {
     }
 
     if let Some(file) = env::args().nth(1) {
-        let watts: Vec<f64> = solution.cells.iter().map(|cell| cell.watts).collect();
         let picture = Picture::of_mesh("A neck between two pads", &mesh, net.rows())?
-            .by_value("power density in W/mm2", &densities(&mesh, &watts));
+            .by_flow(&mesh, &solution, Quantity::PowerDensity)
+            .with_terminals(&net.nodes, &held, &solution.terminals);
         fs::write(&file, picture.svg()).map_err(|why| format!("{file}: {why}"))?;
     }
     Ok(())
