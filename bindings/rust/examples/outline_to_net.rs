@@ -86,14 +86,12 @@ fn run() -> Result<(), Box<dyn Error>> {
         writeln!(out, "{name}: {millivolts:.3} mV, {:.3} A", at.amperes)?;
     }
     writeln!(out, "{:.4} W in all", solution.watts())?;
-    let cells = mesh.leaves().zip(&solution.cells);
-    let hottest = cells.max_by(|(_, a), (_, b)| a.watts.total_cmp(&b.watts));
-    if let Some((leaf, flow)) = hottest {
+    if let Some((leaf, flow)) = solution.hottest(&mesh) {
         let (watts, amperes) = (flow.watts, leaf.sheet_current(flow.watts) / 1e3);
         let [x, y] = [leaf.rect[0], leaf.rect[1]].map(|at| pitch.millimetres(at));
         writeln!(
             out,
-            "most power: leaf {} at ({x:.3} mm, {y:.3} mm), {:.3} mW, {amperes:.1} A/mm",
+            "hottest: leaf {} at ({x:.3} mm, {y:.3} mm), {:.3} mW, {amperes:.1} A/mm",
             leaf.id,
             1e3 * watts
         )?;

@@ -30,6 +30,57 @@
 //! The build links `libleafmesh.a` from crates/leafmesh/out under the repository's root, where
 //! bindings/library.sh leaves it, or from the folder that `LEAFMESH_LIBRARY` names.
 //!
+//! # From an outline to a picture
+//!
+//! ```
+//! use leafmesh::drawing::{Picture, Quantity};
+//! use leafmesh::solving::{Drive, Spot, System, Terminal};
+//! use leafmesh::{Mesh, Pitch, Polygons, Region, Settings, Side};
+//!
+//! // Outline: two pads of 3 by 2 mm and a neck of 1 by 0.5 mm that lies across, of 0.5 milliohms a square. Its base cells
+//! // are squares of 0.5 mm and can be split four times.
+//! let pitch = Pitch::new(0.5, 4)?;
+//! let ring = [
+//!     [0.0, 0.0], [3.0, 0.0], [3.0, 1.0], [4.0, 1.0], [4.0, 0.0], [7.0, 0.0],
+//!     [7.0, 2.0], [4.0, 2.0], [4.0, 1.5], [3.0, 1.5], [3.0, 2.0], [0.0, 2.0],
+//! ];
+//! let mut polygons = Polygons::default();
+//! polygons.push(1, 0, 0.5e-3, &pitch.ring(&ring)?);
+//!
+//! // Build, refine round the neck, balance.
+//! let settings = Settings { max_level: 4, cap: 256, target: pitch.target() };
+//! let mut mesh = Mesh::new(settings, &[], polygons)?;
+//! let ([x0, y0], [x1, y1]) = (pitch.point([2.5, 0.5])?, pitch.point([4.5, 2.0])?);
+//! mesh.refine_region(Region { rect: [x0, y0, x1, y1], level: 2, layer: None })?;
+//! mesh.balance()?;
+//!
+//! // Network, and 10 A from the left to the right, solved on the cells.
+//! let net = mesh.net()?;
+//! let end = |side| Spot::End { layer: 1, component: 0, side };
+//! let terminals = [
+//!     Terminal::new("in", end(Side::West), Drive::Amperes(10.0)),
+//!     Terminal::new("out", end(Side::East), Drive::Volts(0.0)),
+//! ];
+//! let held = mesh.held(&net, &terminals);
+//! let solution = System::of_cells(&net)?.solve(&held)?;
+//!
+//! // Power: all cells together take V times I, and the hottest leaf lies in the neck.
+//! let into = &solution.terminals[0];
+//! assert!((solution.watts() / (into.volts * into.amperes) - 1.0).abs() < 1e-9);
+//! let (hottest, flow) = solution.hottest(&mesh).expect("leaves");
+//! let [west, east] = [hottest.rect[0], hottest.rect[2]].map(|x| pitch.millimetres(x));
+//! assert!(3.0 <= west && east <= 4.0 && hottest.sheet_current(flow.watts) > 20e3);
+//!
+//! // Picture: power density, with what the terminals apply.
+//! let picture = Picture::of_mesh("A neck between two pads", &mesh, net.rows())?
+//!     .by_flow(&mesh, &solution, Quantity::PowerDensity)
+//!     .with_terminals(&net.nodes, &held, &solution.terminals);
+//! assert!(picture.svg().starts_with("<svg"));
+//! # Ok::<(), Box<dyn std::error::Error>>(())
+//! ```
+//!
+//! # In lent rows
+//!
 //! ```
 //! use leafmesh::{power, Outlines, Settings, Table};
 //!
@@ -60,6 +111,11 @@
 //! ```
 
 #![warn(missing_docs)]
+
+/// The example of the repository's first page is tested, too.
+#[cfg(doctest)]
+#[doc = include_str!("../../../README.md")]
+mod first_page {}
 
 mod border_lines;
 mod borders;

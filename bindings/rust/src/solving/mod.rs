@@ -33,7 +33,7 @@ mod unknowns;
 mod unsolved;
 
 use crate::sides::{inside, Inside};
-use crate::{Edge, Net, NetRows};
+use crate::{Edge, Leaf, Mesh, Net, NetRows};
 use element::Element;
 use matrix::{conjugate_gradients, Entry, Matrix};
 use unknowns::Unknowns;
@@ -89,6 +89,13 @@ impl Solution {
     pub fn watts(&self) -> f64 {
         let cells = self.cells.iter().map(|cell| cell.watts);
         cells.chain(self.edge_watts.iter().copied()).sum()
+    }
+
+    /// The leaf of the most power for its area, and what flows in it: cell i is leaf i of the mesh that the net is of.
+    pub fn hottest(&self, mesh: &Mesh) -> Option<(Leaf, Flow)> {
+        let density = |(leaf, flow): &(Leaf, Flow)| flow.watts / leaf.area();
+        let cells = mesh.leaves().zip(self.cells.iter().copied());
+        cells.max_by(|a, b| density(a).total_cmp(&density(b)))
     }
 
     /// The power that the terminals give.
