@@ -55,7 +55,7 @@ pub struct Region {
 
 impl Region {
     /// Whether it and a leaf have an area in common.
-    pub(crate) fn covers(&self, leaf: &Leaf) -> bool {
+    pub fn covers(&self, leaf: &Leaf) -> bool {
         let ([x0, y0, x1, y1], [u0, v0, u1, v1]) = (self.rect, leaf.rect);
         let is_on = self.layer.map_or(true, |layer| layer == leaf.layer);
         is_on && x0.max(u0) < x1.min(u1) && y0.max(v0) < y1.min(v1)

@@ -162,6 +162,11 @@ impl Pitch {
     pub fn millimetres(self, ticks: i64) -> f64 {
         ticks as f64 / self.ticks as f64 * self.millimetres
     }
+
+    /// The same for words.
+    pub(crate) fn short(self, ticks: i64) -> f64 {
+        short(self.millimetres(ticks))
+    }
 }
 
 fn in_millimetres(ticks: f64) -> f64 {

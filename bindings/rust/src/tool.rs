@@ -2,8 +2,8 @@
 //! and ends with 1; an output that was closed before the start looks like an empty file to it.
 
 use crate::solving::Terminal;
-use crate::text::{self, Lines, Whole};
-use crate::{read, Board, Mesh, Net, OwnedLinks, Unmeshed};
+use crate::text::{self, Lines, Unclear, Warning, Whole};
+use crate::{Board, Mesh, Net, OwnedLinks, Unmeshed};
 use std::fs;
 use std::io::{self, Read, Write};
 use std::process::ExitCode;
@@ -61,6 +61,7 @@ pub struct Given {
     pub board: Board,
     pub links: OwnedLinks,
     pub terminals: Vec<Terminal>,
+    pub warnings: Vec<Warning>,
     /// None of a record.
     lines: Option<Lines>,
 }
@@ -68,27 +69,33 @@ pub struct Given {
 impl Given {
     /// A record begins with its version, which no text does.
     pub fn of_bytes(bytes: Vec<u8>) -> Result<Self, String> {
-        if bytes.first() == Some(&1) {
-            let board = read(&bytes).map_err(|why| why.to_string())?;
-            return Ok(Given {
-                board,
-                links: OwnedLinks::default(),
-                terminals: Vec::new(),
-                lines: None,
-            });
-        }
-        let Whole {
+        let given = if text::is_record(&bytes) {
+            text::read_record(&bytes).map(Given::of_record)
+        } else {
+            text::parse_bytes(&bytes).and_then(Given::of_text)
+        };
+        given.map_err(|why| why.to_string())
+    }
+
+    fn of_record(board: Board) -> Self {
+        Given {
             board,
-            links,
-            terminals,
-            lines,
-        } = text::parse_whole(&self::text(bytes)?).map_err(|why| why.to_string())?;
-        let record = text::pack_board(&board, &lines).map_err(|why| why.to_string())?;
+            links: OwnedLinks::default(),
+            terminals: Vec::new(),
+            warnings: Vec::new(),
+            lines: None,
+        }
+    }
+
+    /// Its board is what its record would say.
+    fn of_text(whole: Whole) -> Result<Self, Unclear> {
+        let record = text::pack_board(&whole.board, &whole.lines)?;
         Ok(Given {
-            board: read(&record).map_err(|why| why.to_string())?,
-            links,
-            terminals,
-            lines: Some(lines),
+            board: text::read_record(&record)?,
+            links: whole.links,
+            terminals: whole.terminals,
+            warnings: whole.warnings,
+            lines: Some(whole.lines),
         })
     }
 
@@ -102,10 +109,9 @@ impl Given {
     }
 
     pub fn blame(&self, why: &Unmeshed) -> String {
-        match (&self.lines, why) {
-            (Some(lines), _) => lines.blame(&self.board, why),
-            (None, Unmeshed::Refused(refusal)) => text::why_refused(&self.board, refusal, false),
-            (None, _) => why.to_string(),
+        match &self.lines {
+            Some(lines) => lines.blame(&self.board, why),
+            None => text::blame_record(&self.board, why),
         }
     }
 }

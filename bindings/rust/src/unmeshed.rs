@@ -160,7 +160,7 @@ impl TooLong {
 }
 
 /// None where the ring is refused.
-fn strips_of(ring: &[Point]) -> Vec<Rect> {
+pub(crate) fn strips_of(ring: &[Point]) -> Vec<Rect> {
     let mut rows = vec![[0; 4]; ring.len() / 2 * ring.len()];
     let count = strips(ring, &mut rows).unwrap_or(0);
     rows.truncate(count);

@@ -4,7 +4,7 @@
 //! which no record has, and `pack` refuses.
 
 use leafmesh::tool::{self, Given};
-use leafmesh::{printed, read, text, vtk, Mesh, Unmeshed};
+use leafmesh::{printed, text, vtk, Mesh, Unmeshed};
 use std::env;
 use std::process::ExitCode;
 
@@ -19,7 +19,7 @@ fn main() -> ExitCode {
 fn run(words: &[String]) -> Result<(Vec<u8>, Option<String>), String> {
     let silent = |text: String| (text.into_bytes(), None);
     match words {
-        [word] if word == "pack" => pack(&tool::text(tool::input()?)?),
+        [word] if word == "pack" => pack(&tool::input()?),
         [word] if word == "unpack" => unpack(&tool::input()?).map(silent),
         [word] if word == "net" => in_text(&Given::of_bytes(tool::input()?)?).map(silent),
         [word] if word == "vtk" => in_vtk(&Given::of_bytes(tool::input()?)?).map(silent),
@@ -28,19 +28,23 @@ fn run(words: &[String]) -> Result<(Vec<u8>, Option<String>), String> {
 }
 
 /// A record is a record also where its net would be wrong, which leafnet doesn't say.
-fn pack(text: &str) -> Result<(Vec<u8>, Option<String>), String> {
-    let (board, lines) = text::parse_with_lines(text).map_err(|why| why.to_string())?;
-    let record = text::pack_board(&board, &lines).map_err(|why| why.to_string())?;
-    let board = read(&record).map_err(|why| why.to_string())?;
-    let warning = match Mesh::of_board(&board) {
+fn pack(text: &[u8]) -> Result<(Vec<u8>, Option<String>), String> {
+    let whole = text::parse_bytes(text).map_err(|why| why.to_string())?;
+    let packed = text::pack_whole(&whole).map_err(|why| why.to_string())?;
+    let warnings = packed.warnings.iter().map(|warning| warning.to_string());
+    let loose = match Mesh::of_board(&whole.board) {
         Ok(_) | Err(Unmeshed::Refused(_)) => None,
-        Err(why) => Some(format!("warning: {}", lines.blame(&board, &why))),
+        Err(why) => Some(whole.lines.blame(&whole.board, &why)),
     };
-    Ok((record, warning))
+    let all: Vec<String> = warnings
+        .chain(loose)
+        .map(|words| format!("warning: {words}"))
+        .collect();
+    Ok((packed.record, (!all.is_empty()).then(|| all.join("\n"))))
 }
 
 fn unpack(record: &[u8]) -> Result<String, String> {
-    let board = read(record).map_err(|why| why.to_string())?;
+    let board = text::read_record(record).map_err(|why| why.to_string())?;
     Ok(text::show(&board))
 }
 

@@ -1,0 +1,229 @@
+//! Why a board has no mesh or no net, in the words of its text.
+
+use super::splitting::{base_cells, first_refused, no_room};
+use super::unit::Unit;
+use super::{Lines, Unclear};
+use crate::unmeshed::{strips_of, Loose, TooLong, Unmeshed};
+use crate::{Board, Link, Point, Reason, Refusal, Settings, MAX_LEVEL};
+use std::fmt;
+
+/// What is wrong, and with which part of a board.
+struct Fault {
+    part: Option<Part>,
+    words: String,
+}
+
+/// A part of a board, by its index.
+enum Part {
+    Polygon(usize),
+    Point { polygon: usize, point: usize },
+    Split(usize),
+    Link(Link),
+}
+
+impl fmt::Display for Part {
+    fn fmt(&self, f: &mut fmt::Formatter<'_>) -> fmt::Result {
+        match *self {
+            Part::Polygon(polygon) => write!(f, "polygon {polygon}"),
+            Part::Point { polygon, point } => write!(f, "polygon {polygon}, point {point}"),
+            Part::Split(at) => write!(f, "split {at}"),
+            Part::Link(Link::Contact(at)) => write!(f, "contact {at}"),
+            Part::Link(Link::Via(at)) => write!(f, "via {at}"),
+            Part::Link(Link::Channel(at)) => write!(f, "channel {at}"),
+        }
+    }
+}
+
+impl Lines {
+    /// Why a board has no mesh, or no net, with the line of its text to blame.
+    pub fn blame(&self, board: &Board, why: &Unmeshed) -> String {
+        self.fault(board, why).to_string()
+    }
+
+    pub(super) fn fault(&self, board: &Board, why: &Unmeshed) -> Unclear {
+        let whose = if self.level.is_none() {
+            ", the default"
+        } else {
+            ""
+        };
+        let Fault { part, words } = Fault::of(board, why, Unit(self.pitch), whose);
+        let line = part.and_then(|part| self.of_part(board, &part));
+        Unclear { line, words }
+    }
+
+    fn of_part(&self, board: &Board, part: &Part) -> Option<usize> {
+        let line = match *part {
+            Part::Polygon(polygon) => self.polygons.get(polygon),
+            Part::Point { polygon, point } => self.points.get(first_point(board, polygon) + point),
+            Part::Split(at) => self.splits.get(at),
+            Part::Link(Link::Contact(at)) => self.contacts.get(at),
+            Part::Link(Link::Via(at)) => self.vias.get(at),
+            Part::Link(Link::Channel(at)) => self.channels.get(at),
+        };
+        line.copied()
+    }
+}
+
+/// Why a board that was given by its record has no mesh, or no net, in ticks and with the part that is to blame.
+pub fn blame_record(board: &Board, why: &Unmeshed) -> String {
+    let Fault { part, words } = Fault::of(board, why, Unit(None), "");
+    match part {
+        Some(part) => format!("{part}: {words}"),
+        None => words,
+    }
+}
+
+/// The index of a polygon's first point among those of the board.
+fn first_point(board: &Board, polygon: usize) -> usize {
+    let before = board.polygons.iter().take(polygon);
+    before.map(|&[_, _, points]| points as usize).sum()
+}
+
+impl Fault {
+    /// `whose` is put behind the level.
+    fn of(board: &Board, why: &Unmeshed, unit: Unit, whose: &str) -> Self {
+        match *why {
+            Unmeshed::Refused(refusal) => Fault::of_refusal(board, refusal, unit, whose),
+            Unmeshed::TooLong(long) => Fault::of_long_strip(long, unit),
+            Unmeshed::Loose(loose) => Fault::of_loose_node(loose, unit),
+            Unmeshed::Idle(idle) => Fault {
+                part: Some(Part::Link(idle.link)),
+                words: idle.words().to_string(),
+            },
+        }
+    }
+
+    fn of_refusal(board: &Board, refusal: Refusal, unit: Unit, whose: &str) -> Self {
+        let found = match refusal.reason {
+            Reason::Slanted => Fault::of_slant(board, refusal.place, unit),
+            Reason::UnevenCell => Fault::of_uneven_cell(board, refusal.place, unit, whose),
+            Reason::NoSuchCell | Reason::AlreadySplit | Reason::FinestLevel => {
+                Fault::of_split(board)
+            }
+            Reason::NoRoom => Fault::of_room(board),
+            _ => None,
+        };
+        found.unwrap_or(Fault {
+            part: None,
+            words: refusal.to_string(),
+        })
+    }
+
+    /// The first point that differs in x and y from the one before it, or the last one from the first.
+    fn of_slant(board: &Board, polygon: usize, unit: Unit) -> Option<Self> {
+        let ring = ring(board, polygon)?;
+        let is_slanted = |[ax, ay]: Point, [bx, by]: Point| ax != bx && ay != by;
+        let (point, other, which) =
+            match (1..ring.len()).find(|&at| is_slanted(ring[at - 1], ring[at])) {
+                Some(at) => (at, ring[at - 1], "the point before it"),
+                None => (ring.len().checked_sub(1)?, ring[0], "the first point"),
+            };
+        let (own, other) = (unit.show_point(ring[point]), unit.show_point(other));
+        Some(Fault {
+            part: Some(Part::Point { polygon, point }),
+            words: format!("{own} differs in both x and y from {which}, {other}"),
+        })
+    }
+
+    /// The first strip whose base cells can't be split often enough.
+    fn of_uneven_cell(board: &Board, polygon: usize, unit: Unit, whose: &str) -> Option<Self> {
+        let Settings {
+            max_level,
+            cap,
+            target,
+        } = board.settings();
+        let layer = board.polygons.get(polygon)?[0];
+        let own = board
+            .layers
+            .iter()
+            .find(|entry| entry[0] == layer && entry[1] > 0);
+        let cell = own.map_or(target, |entry| entry[1]);
+        let side = 2_u64 << max_level.min(MAX_LEVEL);
+        let cells = |long: i64| (long as u64).div_ceil(cell).clamp(1, cap);
+        let is_uneven = |long: i64| long as u64 % (cells(long) * side) != 0;
+        let strips = strips_of(ring(board, polygon)?).into_iter();
+        let mut sizes = strips.map(|[x0, y0, x1, y1]| [x1 - x0, y1 - y0]);
+        let [width, height] = sizes.find(|size| size.iter().any(|&long| is_uneven(long)))?;
+        let (nx, ny) = (cells(width), cells(height));
+        let least = match unit.0 {
+            Some(_) => format!("{} ({side} ticks)", unit.show(side as i64)),
+            None => format!("{side} ticks"),
+        };
+        Some(Fault {
+            part: Some(Part::Polygon(polygon)),
+            words: format!(
+                "a strip of {} by {} has {nx} by {ny} base cells, whose sides are no multiples of {least}, as level \
+                 {max_level}{whose}, wants them",
+                unit.show(width),
+                unit.show(height)
+            ),
+        })
+    }
+
+    fn of_split(board: &Board) -> Option<Self> {
+        let (at, words) = first_refused(board)?;
+        let part = Some(Part::Split(at));
+        Some(Fault { part, words })
+    }
+
+    /// Where the cells get too many: in a polygon's base cells, at a split, or by balance.
+    fn of_room(board: &Board) -> Option<Self> {
+        if let Some(polygon) = first_without_room(board) {
+            return Some(Fault {
+                part: Some(Part::Polygon(polygon)),
+                words: no_room(),
+            });
+        }
+        let balance = || Fault {
+            part: None,
+            words: format!("balance needs {}", no_room()),
+        };
+        Some(Fault::of_split(board).unwrap_or_else(balance))
+    }
+
+    fn of_long_strip(long: TooLong, unit: Unit) -> Self {
+        let own = unit.0.filter(|pitch| pitch.target() == long.cell);
+        let name = own.map_or("base cells", |_| "pitches");
+        let (cells, cap) = (long.cells, long.cap);
+        Fault {
+            part: Some(Part::Point {
+                polygon: long.polygon,
+                point: long.point,
+            }),
+            words: format!("{cells} {name} long; at most {cap} base cells"),
+        }
+    }
+
+    fn of_loose_node(loose: Loose, unit: Unit) -> Self {
+        let [from, to] = loose.side.map(|end| unit.show_point(end));
+        Fault {
+            part: Some(Part::Polygon(loose.polygon)),
+            words: format!(
+                "a node at {} stands inside a leaf's side, from {from} to {to}, and isn't joined along it: make all \
+                 coordinates multiples of the base cell, and draw copper once",
+                unit.show_point(loose.place)
+            ),
+        }
+    }
+}
+
+fn ring(board: &Board, polygon: usize) -> Option<&[Point]> {
+    let &[_, _, points] = board.polygons.get(polygon)?;
+    board
+        .points
+        .get(first_point(board, polygon)..)?
+        .get(..points as usize)
+}
+
+/// The polygon whose base cells are more than there is room for.
+fn first_without_room(board: &Board) -> Option<usize> {
+    let has_room = |polygons: usize| {
+        let mut part = board.clone();
+        part.polygons.truncate(polygons);
+        part.sheets.truncate(polygons);
+        part.points.truncate(first_point(board, polygons));
+        let made = base_cells(&part);
+        !matches!(made, Err(Unmeshed::Refused(why)) if why.reason == Reason::NoRoom)
+    };
+    (0..board.polygons.len()).find(|&polygon| !has_room(polygon + 1))
+}

@@ -1,0 +1,55 @@
+//! What stands in a file: a board's text, or its record.
+
+use super::{parse_whole, Unclear, Whole};
+use crate::{read, Board};
+
+/// The only version of a record that there is.
+const VERSION: u8 = 1;
+
+/// Whether the bytes are a record, of this version or another one: its first byte is none that a text begins with.
+pub fn is_record(bytes: &[u8]) -> bool {
+    let is_version = |byte: &u8| byte.is_ascii_control() && !char::from(*byte).is_whitespace();
+    bytes.first().is_some_and(is_version)
+}
+
+/// All that the text in a file says.
+///
+/// # Errors
+///
+/// Those of [`parse_whole`]; a record; the first line that isn't UTF-8.
+pub fn parse_bytes(bytes: &[u8]) -> Result<Whole, Unclear> {
+    if is_record(bytes) {
+        return Err(Unclear {
+            line: None,
+            words: "this is a record already, not a board's text".to_string(),
+        });
+    }
+    let text = std::str::from_utf8(bytes).map_err(|why| {
+        let before = &bytes[..why.valid_up_to()];
+        let newlines = before.iter().filter(|&&byte| byte == b'\n').count();
+        Unclear {
+            line: Some(newlines + 1),
+            words: "this isn't UTF-8".to_string(),
+        }
+    })?;
+    parse_whole(text)
+}
+
+/// The board of the record in a file: [`read`], with words for what isn't one.
+///
+/// # Errors
+///
+/// A text; another version; what [`read`] refuses.
+pub fn read_record(bytes: &[u8]) -> Result<Board, Unclear> {
+    let words = match bytes.first() {
+        Some(_) if !is_record(bytes) => "this is a board's text, not a record".to_string(),
+        Some(&version) if version != VERSION => {
+            format!("a record of version {version}; this reader takes version {VERSION}")
+        }
+        _ => match read(bytes) {
+            Ok(board) => return Ok(board),
+            Err(why) => why.to_string(),
+        },
+    };
+    Err(Unclear { line: None, words })
+}

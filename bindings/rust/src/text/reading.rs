@@ -1,0 +1,314 @@
+//! A text, line by line.
+
+use super::form::senseless;
+use super::splitting::{ids_of, Mark, Task};
+use super::terminals::terminal_of;
+use super::unit::{component, finite, grouped, layer, ohms, whole, Unit};
+use super::{Unclear, Whole};
+use crate::limits::{CAP, CELL, LAYER_ENTRIES, MEANS_DEFAULT, POLYGONS, RING_POINTS, SPLITS};
+use crate::{
+    Board, Channel, ChannelEnd, Contact, Footprint, Pitch, Region, Via, COORDINATE, MAX_LEVEL,
+};
+
+/// A text that is being read.
+pub(super) struct Reading {
+    whole: Whole,
+    /// What is to be split, in the text's order.
+    marks: Vec<Mark>,
+    /// How many ids `split` has named.
+    named: usize,
+}
+
+impl Reading {
+    pub fn new() -> Self {
+        let board = Board {
+            max_level: MEANS_DEFAULT,
+            cap: CAP,
+            target: 1,
+            ..Board::default()
+        };
+        Reading {
+            whole: Whole {
+                board,
+                ..Whole::default()
+            },
+            marks: Vec::new(),
+            named: 0,
+        }
+    }
+
+    pub fn take_line(&mut self, line: usize, words: &[&str]) -> Result<(), String> {
+        match *words {
+            [] => Ok(()),
+            ["level", n] => self.take_level(line, n),
+            ["cap", n] => {
+                once("cap", &mut self.whole.lines.cap, line)?;
+                self.whole.board.cap = whole("cap", n, 1..=CAP)?;
+                Ok(())
+            }
+            ["target", n] => self.take_target(line, n),
+            ["pitch", n] => self.take_pitch(line, n),
+            ["layer", layer, cell] => self.take_layer(line, layer, cell),
+            ["polygon", layer, component, sheet] => {
+                self.take_polygon(line, layer, component, sheet)
+            }
+            ["split", ref ids @ ..] if !ids.is_empty() => {
+                ids.iter().try_for_each(|word| self.take_split(line, word))
+            }
+            ["refine", x0, y0, x1, y1, level] => {
+                self.take_refine(line, [x0, x1], [y0, y1], level, None)
+            }
+            ["refine", x0, y0, x1, y1, level, layer] => {
+                self.take_refine(line, [x0, x1], [y0, y1], level, Some(layer))
+            }
+            ["terminal", ref terminal @ ..] => self.take_terminal(line, terminal),
+            ["contact", ..] | ["via", ..] | ["channels", ..] | ["channel", ..] => {
+                self.take_link(line, words)
+            }
+            [x, y] if is_number(x) => self.take_point(line, x, y),
+            _ => Err(senseless(words)),
+        }
+    }
+
+    fn unit(&self) -> Unit {
+        Unit(self.whole.lines.pitch)
+    }
+
+    /// The line of `pitch`, which is that of the target.
+    fn pitch_line(&self) -> Option<usize> {
+        self.whole.lines.pitch.and(self.whole.lines.target)
+    }
+
+    fn take_level(&mut self, line: usize, word: &str) -> Result<(), String> {
+        once("level", &mut self.whole.lines.level, line)?;
+        if let Some(pitch) = self.pitch_line() {
+            return Err(format!(
+                "level stands before pitch, which depends on it and is on line {pitch}"
+            ));
+        }
+        // What stands for the default in a record does so here.
+        if word.parse() != Ok(MEANS_DEFAULT) {
+            self.whole.board.max_level = whole("level", word, 0..=MAX_LEVEL)?;
+        }
+        Ok(())
+    }
+
+    fn take_target(&mut self, line: usize, word: &str) -> Result<(), String> {
+        if let Some(pitch) = self.pitch_line() {
+            return Err(format!("pitch, on line {pitch}, is the target already"));
+        }
+        once("target", &mut self.whole.lines.target, line)?;
+        self.whole.board.target = whole("target", word, 1..=CELL)?;
+        Ok(())
+    }
+
+    fn take_pitch(&mut self, line: usize, word: &str) -> Result<(), String> {
+        match (self.pitch_line(), self.whole.lines.target) {
+            (Some(first), _) => return Err(format!("pitch is on line {first} already")),
+            (None, Some(target)) => {
+                return Err(format!(
+                    "pitch is the target, too, and target is on line {target}"
+                ))
+            }
+            (None, None) => {}
+        }
+        if self.has_lengths() {
+            return Err(
+                "pitch stands before layers, polygons, links, terminals and refine".to_string(),
+            );
+        }
+        let level = self.whole.board.settings().max_level;
+        let pitch = Pitch::new(finite("pitch", word)?, level).map_err(|why| why.to_string())?;
+        self.whole.board.target = pitch.target();
+        self.whole.lines.target = Some(line);
+        self.whole.lines.pitch = Some(pitch);
+        Ok(())
+    }
+
+    /// Whether there is a line whose lengths would have another unit than those behind a pitch.
+    fn has_lengths(&self) -> bool {
+        let lines = &self.whole.lines;
+        let is_region = |mark: &Mark| matches!(mark.task, Task::Refine(_));
+        !lines.layers.is_empty()
+            || !lines.polygons.is_empty()
+            || !lines.terminals.is_empty()
+            || lines.first_link().is_some()
+            || self.marks.iter().any(is_region)
+    }
+
+    fn take_layer(&mut self, line: usize, word: &str, cell: &str) -> Result<(), String> {
+        let own = u64::from(layer(word)?);
+        let cell = self.unit().length("cell", cell, 0..=CELL as i64)?;
+        let Whole { board, lines, .. } = &mut self.whole;
+        let same = board.layers.iter().position(|entry| entry[0] == own);
+        if let Some(at) = same {
+            return Err(format!(
+                "layer {own} is on line {} already",
+                lines.layers[at]
+            ));
+        }
+        if let Some([last, _]) = board.layers.last().filter(|entry| entry[0] > own) {
+            return Err(format!("layer {own} doesn't rise: it stands behind {last}"));
+        }
+        at_most(board.layers.len() + 1, LAYER_ENTRIES, "layers")?;
+        board.layers.push([own, cell as u64]);
+        lines.layers.push(line);
+        Ok(())
+    }
+
+    fn take_polygon(&mut self, line: usize, on: &str, of: &str, sheet: &str) -> Result<(), String> {
+        let polygon = [layer(on)?.into(), component(of)?.into(), 0];
+        let sheet = ohms("sheet resistance", sheet)?;
+        let Whole { board, lines, .. } = &mut self.whole;
+        at_most(board.polygons.len() + 1, POLYGONS, "polygons")?;
+        board.polygons.push(polygon);
+        board.sheets.push(sheet);
+        lines.polygons.push(line);
+        Ok(())
+    }
+
+    fn take_point(&mut self, line: usize, x: &str, y: &str) -> Result<(), String> {
+        let range = -COORDINATE..=COORDINATE;
+        let place = |word| self.unit().length("coordinate", word, range.clone());
+        let point = [place(x)?, place(y)?];
+        let Whole { board, lines, .. } = &mut self.whole;
+        let Some([_, _, count]) = board.polygons.last_mut() else {
+            return Err("a point of no polygon".to_string());
+        };
+        at_most(*count as usize + 1, RING_POINTS, "points of one polygon")?;
+        *count += 1;
+        board.points.push(point);
+        lines.points.push(line);
+        Ok(())
+    }
+
+    fn take_split(&mut self, line: usize, word: &str) -> Result<(), String> {
+        let ids = ids_of(word)?;
+        self.named = self
+            .named
+            .saturating_add((ids.end() - ids.start()) as usize + 1);
+        at_most(self.named, SPLITS, "splits")?;
+        let task = Task::Split(ids);
+        self.marks.push(Mark { line, task });
+        Ok(())
+    }
+
+    fn take_refine(
+        &mut self,
+        line: usize,
+        x: [&str; 2],
+        y: [&str; 2],
+        level: &str,
+        on: Option<&str>,
+    ) -> Result<(), String> {
+        let rect @ [x0, y0, x1, y1] = self.unit().rect(x, y)?;
+        if x0 == x1 || y0 == y1 {
+            return Err("the rectangle has no area".to_string());
+        }
+        let task = Task::Refine(Region {
+            rect,
+            level: whole("level", level, 0..=MAX_LEVEL)?,
+            layer: on.map(layer).transpose()?,
+        });
+        self.marks.push(Mark { line, task });
+        Ok(())
+    }
+
+    fn take_terminal(&mut self, line: usize, words: &[&str]) -> Result<(), String> {
+        let terminal = terminal_of(words, self.unit())?;
+        let Whole {
+            terminals, lines, ..
+        } = &mut self.whole;
+        let same = terminals.iter().position(|own| own.name == terminal.name);
+        if let Some(at) = same {
+            let (name, first) = (&terminal.name, lines.terminals[at]);
+            return Err(format!("a terminal {name} is on line {first} already"));
+        }
+        terminals.push(terminal);
+        lines.terminals.push(line);
+        Ok(())
+    }
+
+    fn take_link(&mut self, line: usize, words: &[&str]) -> Result<(), String> {
+        let unit = self.unit();
+        let Whole { links, lines, .. } = &mut self.whole;
+        match *words {
+            ["contact", from, to] => {
+                let number = |word| whole("polygon", word, 0..=usize::MAX);
+                let (from, to) = (number(from)?, number(to)?);
+                links.contacts.push(Contact { from, to });
+                lines.contacts.push(line);
+            }
+            ["via", bottom, top, of, x, y, half_width, half_height, resistance] => {
+                let footprint = Footprint {
+                    x: unit.place(x)?,
+                    y: unit.place(y)?,
+                    half_width: unit.half(half_width)?,
+                    half_height: unit.half(half_height)?,
+                };
+                links.vias.push(Via {
+                    bottom: layer(bottom)?,
+                    top: layer(top)?,
+                    component: component(of)?,
+                    footprint,
+                    resistance: ohms("resistance", resistance)?,
+                });
+                lines.vias.push(line);
+            }
+            ["channels", own] => {
+                once("channels", &mut lines.channel_layer, line)?;
+                links.channel_layer = layer(own)?;
+            }
+            ["channel", drain, dx, dy, source, sx, sy, resistance] => {
+                links.channels.push(Channel {
+                    drain: channel_end(drain, dx, dy, unit)?,
+                    source: channel_end(source, sx, sy, unit)?,
+                    resistance: ohms("resistance", resistance)?,
+                });
+                lines.channels.push(line);
+            }
+            _ => return Err(senseless(words)),
+        }
+        Ok(())
+    }
+
+    /// What the lines say together.
+    pub fn end(self) -> Result<Whole, Unclear> {
+        let Reading {
+            mut whole, marks, ..
+        } = self;
+        whole.judge()?;
+        whole.carry_out(&marks)?;
+        whole.warn();
+        Ok(whole)
+    }
+}
+
+fn channel_end(of: &str, x: &str, y: &str, unit: Unit) -> Result<ChannelEnd, String> {
+    Ok(ChannelEnd {
+        component: component(of)?,
+        x: unit.place(x)?,
+        y: unit.place(y)?,
+    })
+}
+
+/// Whether a line that begins with this word is meant for a point.
+fn is_number(word: &str) -> bool {
+    let sign_or_digit = |c: char| c.is_ascii_digit() || "+-.".contains(c);
+    word.starts_with(sign_or_digit) || word.parse::<f64>().is_ok()
+}
+
+/// Keeps the line of what a text says once.
+fn once(name: &str, place: &mut Option<usize>, line: usize) -> Result<(), String> {
+    match place.replace(line) {
+        Some(first) => Err(format!("{name} is on line {first} already")),
+        None => Ok(()),
+    }
+}
+
+fn at_most(count: usize, most: usize, name: &str) -> Result<(), String> {
+    if count > most {
+        return Err(format!("more than {} {name}", grouped(most)));
+    }
+    Ok(())
+}

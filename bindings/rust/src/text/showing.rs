@@ -1,0 +1,79 @@
+//! The text of a board.
+
+use super::splitting::split_lines;
+use super::terminals::put_terminal;
+use super::Whole;
+use crate::{Board, Contact, Footprint, Links};
+use std::fmt::{self, Write};
+
+/// All that a text says, in ticks: [`parse_whole`](super::parse_whole) gives the same, on other lines.
+pub fn show_whole(whole: &Whole) -> String {
+    let mut text = show_linked(&whole.board, whole.links.rows());
+    for terminal in &whole.terminals {
+        put_terminal(terminal, &mut text).expect("a string takes all text");
+    }
+    text
+}
+
+/// The text of a board, in ticks: [`parse`](super::parse) gives the same board.
+pub fn show(board: &Board) -> String {
+    show_linked(board, Links::default())
+}
+
+/// The text of a board and its links, in ticks: [`parse_whole`](super::parse_whole) gives the same.
+pub fn show_linked(board: &Board, links: Links) -> String {
+    let mut text = String::new();
+    put(board, &mut text).expect("a string takes all text");
+    put_links(links, &mut text).expect("a string takes all text");
+    text
+}
+
+fn put_links(links: Links, text: &mut String) -> fmt::Result {
+    for Contact { from, to } in links.contacts {
+        writeln!(text, "contact {from} {to}")?;
+    }
+    for via in links.vias {
+        let Footprint {
+            x,
+            y,
+            half_width,
+            half_height,
+        } = via.footprint;
+        writeln!(
+            text,
+            "via {} {} {} {x} {y} {half_width} {half_height} {:?}",
+            via.bottom, via.top, via.component, via.resistance
+        )?;
+    }
+    if !links.channels.is_empty() || links.channel_layer > 0 {
+        writeln!(text, "channels {}", links.channel_layer)?;
+    }
+    for channel in links.channels {
+        let [drain, source] = [channel.drain, channel.source]
+            .map(|end| format!("{} {} {}", end.component, end.x, end.y));
+        writeln!(text, "channel {drain} {source} {:?}", channel.resistance)?;
+    }
+    Ok(())
+}
+
+fn put(board: &Board, text: &mut String) -> fmt::Result {
+    writeln!(
+        text,
+        "level {}\ncap {}\ntarget {}",
+        board.max_level, board.cap, board.target
+    )?;
+    for [layer, cell] in &board.layers {
+        writeln!(text, "layer {layer} {cell}")?;
+    }
+    let mut points = board.points.iter();
+    for ([layer, component, count], sheet) in board.polygons.iter().zip(&board.sheets) {
+        writeln!(text, "polygon {layer} {component} {sheet:?}")?;
+        for [x, y] in points.by_ref().take(*count as usize) {
+            writeln!(text, "{x} {y}")?;
+        }
+    }
+    for line in split_lines(&board.splits) {
+        writeln!(text, "{line}")?;
+    }
+    Ok(())
+}

@@ -1,0 +1,110 @@
+//! The line of a terminal.
+
+use super::form::senseless;
+use super::unit::{component, finite, layer, whole, Unit};
+use crate::limits::POTENTIAL;
+use crate::solving::{Drive, Spot, Terminal};
+use crate::Side;
+use std::fmt::{self, Write};
+
+fn word_of(side: Side) -> &'static str {
+    match side {
+        Side::South => "south",
+        Side::East => "east",
+        Side::North => "north",
+        Side::West => "west",
+    }
+}
+
+fn side_of(word: &str) -> Option<Side> {
+    let sides = [Side::South, Side::East, Side::North, Side::West];
+    sides.into_iter().find(|&side| word_of(side) == word)
+}
+
+/// What stands behind `terminal`.
+pub(super) fn terminal_of(words: &[&str], unit: Unit) -> Result<Terminal, String> {
+    let no_sense = || senseless(&[&["terminal"], words].concat());
+    let [name, value, kind, spot @ ..] = words else {
+        return Err(no_sense());
+    };
+    let drive = match *kind {
+        "V" => Drive::Volts(finite("potential", value)?),
+        "A" => Drive::Amperes(finite("current", value)?),
+        _ => return Err(no_sense()),
+    };
+    if !drive.is_in_range() {
+        let most = POTENTIAL;
+        return Err(format!(
+            "potential {value} is out of range: -{most} to {most}"
+        ));
+    }
+    Ok(Terminal {
+        name: name.to_string(),
+        spot: spot_of(spot, unit)?.ok_or_else(no_sense)?,
+        drive,
+    })
+}
+
+/// None where the words make no sense.
+fn spot_of(words: &[&str], unit: Unit) -> Result<Option<Spot>, String> {
+    let spot = match *words {
+        ["end", on, of, to] => {
+            let Some(side) = side_of(to) else {
+                return Ok(None);
+            };
+            Spot::End {
+                layer: layer(on)?,
+                component: component(of)?,
+                side,
+            }
+        }
+        [kind @ ("edge" | "rect"), on, of, x0, y0, x1, y1] => {
+            let rect @ [ax, ay, bx, by] = unit.rect([x0, x1], [y0, y1])?;
+            match (kind, ax == bx, ay == by) {
+                ("edge", true, true) => return Err("the edge has no length".to_string()),
+                ("edge", false, false) => {
+                    return Err("the edge is slanted: x0 = x1 or y0 = y1".to_string())
+                }
+                ("rect", false, false) | ("edge", ..) => {}
+                _ => return Err("the rectangle has no area: an edge may be as thin".to_string()),
+            }
+            Spot::Rect {
+                layer: layer(on)?,
+                component: component(of)?,
+                rect,
+            }
+        }
+        ["pad", polygon] => Spot::Pad {
+            polygon: whole("polygon", polygon, 0..=usize::MAX)?,
+        },
+        _ => return Ok(None),
+    };
+    Ok(Some(spot))
+}
+
+/// The line of a terminal, in ticks.
+pub(super) fn put_terminal(terminal: &Terminal, text: &mut String) -> fmt::Result {
+    let Terminal { name, spot, drive } = terminal;
+    match drive {
+        Drive::Volts(volts) => write!(text, "terminal {name} {volts:?} V ")?,
+        Drive::Amperes(amperes) => write!(text, "terminal {name} {amperes:?} A ")?,
+    }
+    match *spot {
+        Spot::End {
+            layer,
+            component,
+            side,
+        } => {
+            writeln!(text, "end {layer} {component} {}", word_of(side))
+        }
+        Spot::Rect {
+            layer,
+            component,
+            rect: [x0, y0, x1, y1],
+        } => {
+            let kind = if x0 == x1 || y0 == y1 { "edge" } else { "rect" };
+            writeln!(text, "{kind} {layer} {component} {x0} {y0} {x1} {y1}")
+        }
+        Spot::Pad { polygon } => writeln!(text, "pad {polygon}"),
+    }
+}
