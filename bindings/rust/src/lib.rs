@@ -117,14 +117,12 @@
 #[doc = include_str!("../../../README.md")]
 mod first_page {}
 
-mod border_lines;
 mod borders;
 pub mod drawing;
 pub mod ffi;
 mod leaf;
 mod lent;
 mod links;
-mod marks;
 mod mesh;
 mod name;
 mod net;

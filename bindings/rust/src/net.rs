@@ -70,7 +70,7 @@ impl Net {
 
     /// The edges that contacts, vias and channels make, in this order.
     pub fn links(&self) -> &[Edge] {
-        &self.edges[self.edges.len() - self.links..]
+        &self.edges[self.edges.len().saturating_sub(self.links)..]
     }
 }
 

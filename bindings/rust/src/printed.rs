@@ -1,12 +1,15 @@
 //! What leafnet prints, read back: every line, and that all of them are there.
 
-use crate::sides::{corners_of, has_side};
+mod corners;
+
+use crate::sides::has_side;
 use crate::{
-    borders, Board, Edge, Hanging, Head, LeafBorder, Mesh, Net, NetRows, Node, Outlines, Rect,
-    Refusal, Table, Unmeshed, COORDINATE, MAX_LEVEL, NO_CELL,
+    borders, Board, Cell, Edge, Hanging, Head, LeafBorder, Mesh, Net, NetRows, Node, Outlines,
+    Rect, Refusal, Table, Unmeshed, COORDINATE, MAX_LEVEL, NO_CELL,
 };
-use std::collections::{BTreeMap, BTreeSet};
 use std::fmt::Write;
+
+pub use corners::Copper;
 
 /// A leaf line: id, polygon, level, x0, y0, x1, y1.
 #[derive(Clone, Copy, Debug, PartialEq)]
@@ -37,7 +40,46 @@ pub struct Printed {
 impl Printed {
     /// The edges that are links.
     pub fn links(&self) -> &[Edge] {
-        &self.edges[self.edges.len() - self.links..]
+        &self.edges[self.edges.len().saturating_sub(self.links)..]
+    }
+
+    /// The nodes at the corners of each leaf, SW, SE, NE, NW, in the order of the leaves.
+    ///
+    /// # Errors
+    ///
+    /// In words: leaves or nodes don't come in leafnet's order.
+    pub fn corners(&self) -> Result<Vec<[usize; 4]>, String> {
+        let polygons = corners::polygons(self)?.into_iter();
+        Ok(polygons.flat_map(|polygon| polygon.corners).collect())
+    }
+
+    /// The layer and the component of each leaf, in the order of the leaves. Where several boards have this text, since
+    /// a polygon lies on nodes of others alone, they are those of one of them.
+    ///
+    /// # Errors
+    ///
+    /// Those of [`Printed::corners`].
+    pub fn coppers(&self) -> Result<Vec<Copper>, String> {
+        let corners = self.corners()?.into_iter();
+        Ok(corners
+            .map(|[sw, ..]| Copper::of(&self.nodes[sw]))
+            .collect())
+    }
+
+    /// The net with its cells. The text doesn't say what sheet resistance they have, so they have 1 ohm a square.
+    ///
+    /// # Errors
+    ///
+    /// Those of [`Printed::corners`].
+    pub(crate) fn net(&self) -> Result<Net, String> {
+        let sheet = 1.0;
+        let corners = self.corners()?.into_iter();
+        Ok(Net {
+            nodes: self.nodes.clone(),
+            edges: self.edges.clone(),
+            cells: corners.map(|corners| Cell { corners, sheet }).collect(),
+            links: self.links,
+        })
     }
 
     /// Every pair of leaves that share a border, as in [`Table::borders`].
@@ -221,41 +263,18 @@ pub fn show_mesh(board: &Board, mesh: &Mesh, net: &Net) -> String {
 }
 
 /// The first node that [`Table::check_by_layer`] names, by polygon, and the leaf's id: the net is wrong there. The text
-/// has no table, so every leaf stands as a base cell in one of its polygon's own; and it doesn't say of what layer and
-/// component a polygon is, which is taken to be one that has all corners of its leaves. Where several have, each must
-/// have such a node.
+/// has no table, so every leaf stands as a base cell in one of its polygon's own. Where a polygon can be of several
+/// layers and components, each must have such a node.
 ///
 /// # Errors
 ///
-/// Those of [`Table::check_by_layer`], of a text that leafnet never prints.
-pub fn loose(printed: &Printed) -> Result<Option<(usize, Hanging)>, Refusal> {
-    let nodes: BTreeSet<Node> = printed.nodes.iter().copied().collect();
-    let coppers: BTreeSet<(u16, u32)> = nodes
-        .iter()
-        .map(|node| (node.layer, node.component))
-        .collect();
-    let mut polygons: BTreeMap<usize, Vec<&Leaf>> = BTreeMap::new();
-    for leaf in &printed.leaves {
-        polygons.entry(leaf.polygon).or_default().push(leaf);
-    }
-    for leaves in polygons.values() {
-        let corners = leaves.iter().flat_map(|leaf| corners_of(leaf.rect));
-        let is_of = |&&(layer, component): &&(u16, u32)| {
-            corners.clone().all(|[x, y]| {
-                nodes.contains(&Node {
-                    layer,
-                    component,
-                    x,
-                    y,
-                })
-            })
-        };
-        let found: Result<Vec<_>, Refusal> = coppers
-            .iter()
-            .filter(is_of)
-            .map(|&copper| named(printed, leaves, copper))
-            .collect();
-        let all: Option<Vec<_>> = found?.into_iter().collect();
+/// In words: those of [`Printed::corners`] and [`Table::check_by_layer`], of a text that leafnet never prints.
+pub fn loose(printed: &Printed) -> Result<Option<(usize, Hanging)>, String> {
+    for polygon in corners::polygons(printed)? {
+        let name = |&copper: &Copper| named(printed, polygon.leaves, copper);
+        let found: Result<Vec<_>, Refusal> = polygon.coppers.iter().map(name).collect();
+        let found = found.map_err(|why| format!("not leafnet's text: {why}"))?;
+        let all: Option<Vec<_>> = found.into_iter().collect();
         if let Some(&one) = all.as_ref().and_then(|all| all.first()) {
             return Ok(Some(one));
         }
@@ -266,10 +285,10 @@ pub fn loose(printed: &Printed) -> Result<Option<(usize, Hanging)>, Refusal> {
 /// What the check names of the leaves of one polygon, if it is of that layer and component.
 fn named(
     printed: &Printed,
-    leaves: &[&Leaf],
-    (layer, component): (u16, u32),
+    leaves: &[Leaf],
+    Copper { layer, component }: Copper,
 ) -> Result<Option<(usize, Hanging)>, Refusal> {
-    let root = |leaf: &&Leaf| {
+    let root = |leaf: &Leaf| {
         let [x0, y0, x1, y1] = leaf.rect;
         [x0, y0, x1, y1, 0, NO_CELL, NO_CELL, 0]
     };
@@ -307,7 +326,7 @@ fn named(
 /// In words: those of [`read`] and [`loose`], and the first node that [`loose`] finds.
 pub fn read_sound(text: &str) -> Result<Printed, String> {
     let printed = read(text)?;
-    match loose(&printed).map_err(|why| format!("not leafnet's text: {why}"))? {
+    match loose(&printed)? {
         None => Ok(printed),
         Some((leaf, Hanging { node, from, to })) => Err(format!(
             "node {node} stands inside a side of leaf {leaf}, between nodes {from} and {to}, and isn't joined along \

@@ -1,11 +1,11 @@
 //! What a picture shows of links: where they end, what they join within a layer, and the footprints of vias.
 
+use super::cells::Sides;
+use super::layout::Layout;
+use super::{place_of, Place};
 use crate::{Edge, Links, Node, Rect};
 use std::collections::BTreeSet;
 use std::fmt::{self, Write};
-
-/// Layer, x and y.
-type Place = [i64; 3];
 
 /// Links as they are drawn, each place and pair once.
 #[derive(Clone, Debug, Default, PartialEq)]
@@ -20,9 +20,6 @@ pub struct Marks {
     pub footprints: BTreeSet<(i64, Rect)>,
 }
 
-/// What stands for a panel: a layer's own, or one for all.
-pub type PanelOf = fn(u16) -> i64;
-
 /// A colour that neither the levels nor the scale of values have.
 const COLOUR: &str = "#0a58ff";
 /// Under it, so that it is seen on any cell.
@@ -34,15 +31,16 @@ pub const PAIR: &str = "link within a layer";
 pub const FOOTPRINT: &str = "footprint of a via";
 
 impl Marks {
-    pub fn of(nodes: &[Node], links: &[Edge], panel: PanelOf) -> Self {
-        let mut marks = Marks {
-            links: links.len(),
-            ..Marks::default()
-        };
+    /// Links whose nodes aren't there are passed over.
+    pub fn of(nodes: &[Node], links: &[Edge]) -> Self {
+        let mut marks = Marks::default();
         for link in links {
-            let ends = [link.from, link.to].map(|end| &nodes[end]);
-            let places = ends.map(|node| [panel(node.layer), node.x, node.y]);
-            if ends[0].layer != ends[1].layer || places[0] == places[1] {
+            let [Some(from), Some(to)] = [link.from, link.to].map(|end| nodes.get(end)) else {
+                continue;
+            };
+            marks.links += 1;
+            let places = [from, to].map(place_of);
+            if from.layer != to.layer || places[0] == places[1] {
                 marks.ends.extend(places);
             } else {
                 let [a, b] = places;
@@ -53,7 +51,7 @@ impl Marks {
     }
 
     /// Whether a footprint covers a place.
-    pub fn is_covered(&self, [layer, x, y]: Place) -> bool {
+    fn is_covered(&self, [layer, x, y]: Place) -> bool {
         let covers = |&(own, [x0, y0, x1, y1]): &(i64, Rect)| {
             own == layer && (x0..=x1).contains(&x) && (y0..=y1).contains(&y)
         };
@@ -61,14 +59,41 @@ impl Marks {
     }
 
     /// With the footprints of vias that have an area.
-    pub fn with_footprints(mut self, links: Links, panel: PanelOf) -> Self {
+    pub fn with_footprints(mut self, links: Links) -> Self {
         for via in links.vias.iter().filter(|via| via.footprint.has_area()) {
             let rect = via.footprint.rect();
-            let on = |layer: u16| (panel(layer), rect);
+            let on = |layer: u16| (i64::from(layer), rect);
             self.footprints.extend([via.bottom, via.top].map(on));
         }
         self
     }
+}
+
+/// An end of a link is seen also where cells are small. Inside a footprint, which shows where to look, it leaves the
+/// cells their colours.
+const LONE_END: f64 = 2.6;
+const SMALLEST_END: f64 = 1.0;
+pub const LARGEST_END: f64 = 4.5;
+
+/// Footprints below, then what is joined within a layer, then ends.
+pub fn put(marks: &Marks, layout: &Layout, sides: &Sides, text: &mut String) -> fmt::Result {
+    for &(layer, rect) in &marks.footprints {
+        if let Some(shown) = layout.clipped(layer, rect) {
+            put_footprint(shown, text)?;
+        }
+    }
+    for &pair in &marks.pairs {
+        put_pair(pair.map(|place| layout.place(place)), text)?;
+    }
+    for &place in &marks.ends {
+        let least = match marks.is_covered(place) {
+            true => SMALLEST_END,
+            false => LONE_END,
+        };
+        let half = (0.2 * sides.at(place)).clamp(least, LARGEST_END);
+        put_end(layout.place(place), half, text)?;
+    }
+    Ok(())
 }
 
 /// A rectangle of the picture, dashed.

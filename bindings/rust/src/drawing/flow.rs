@@ -1,0 +1,198 @@
+//! What flows in the cells of a picture: power over area and sheet current, side by side.
+
+use super::figures::figures;
+use super::scale::Scale;
+use crate::solving::{Flow, Solution};
+use crate::{Leaf, Mesh};
+use std::f64::consts::FRAC_PI_4;
+
+/// What colours the cells of a picture by what flows in them.
+#[derive(Clone, Copy, Debug, PartialEq, Eq)]
+pub enum Quantity {
+    /// Power over area, in W/mm2.
+    PowerDensity,
+    /// Sheet current, in A/mm: the square root of the mean of its square over the cell.
+    SheetCurrent,
+}
+
+impl Quantity {
+    pub(super) fn words(self) -> &'static str {
+        match self {
+            Quantity::PowerDensity => "power density",
+            Quantity::SheetCurrent => "sheet current",
+        }
+    }
+
+    pub(super) fn unit(self) -> &'static str {
+        match self {
+            Quantity::PowerDensity => "W/mm2",
+            Quantity::SheetCurrent => "A/mm",
+        }
+    }
+
+    /// A scale goes down to this share of the largest value. Power goes with the square of the current.
+    fn deepest(self) -> f64 {
+        match self {
+            Quantity::PowerDensity => 1e-6,
+            Quantity::SheetCurrent => 1e-3,
+        }
+    }
+}
+
+/// What flows in a cell.
+#[derive(Clone, Copy, Debug, PartialEq)]
+pub struct Flowing {
+    /// In W/mm2.
+    density: f64,
+    /// In A/mm.
+    current: f64,
+    /// Along x and y.
+    towards: [f64; 2],
+}
+
+impl Flowing {
+    fn of(leaf: &Leaf, flow: &Flow) -> Self {
+        Flowing {
+            density: density(leaf, flow.watts),
+            current: leaf.sheet_current(flow.watts) * 1e-3,
+            towards: flow.current,
+        }
+    }
+
+    fn value(&self, quantity: Quantity) -> f64 {
+        match quantity {
+            Quantity::PowerDensity => self.density,
+            Quantity::SheetCurrent => self.current,
+        }
+    }
+
+    /// Both, with their units.
+    pub fn words(&self) -> String {
+        let [density, current] = [self.density, self.current].map(figures);
+        format!("{density} W/mm2, {current} A/mm")
+    }
+
+    /// The nearest of eight directions; none where nothing flows.
+    pub fn direction(&self) -> Option<&'static str> {
+        const ALL: [&str; 8] = [
+            "east",
+            "north-east",
+            "north",
+            "north-west",
+            "west",
+            "south-west",
+            "south",
+            "south-east",
+        ];
+        let [x, y] = self.towards;
+        let eighths = (y.atan2(x) / FRAC_PI_4).round();
+        let flows = self.current > 0.0 && x.hypot(y) > 0.0;
+        flows.then(|| ALL[eighths.rem_euclid(8.0) as usize])
+    }
+}
+
+/// Watts over square millimetres of a leaf.
+fn density(leaf: &Leaf, watts: f64) -> f64 {
+    watts / (leaf.area() * 1e6)
+}
+
+/// Watts over square millimetres of each leaf of a mesh, from the watts of a net's cells.
+pub fn densities(mesh: &Mesh, watts: &[f64]) -> Vec<f64> {
+    let leaves = mesh.leaves().zip(watts);
+    leaves.map(|(leaf, &watts)| density(&leaf, watts)).collect()
+}
+
+/// What flows in all cells, and which quantity colours them.
+#[derive(Clone, Debug, PartialEq)]
+pub struct Flows {
+    pub quantity: Quantity,
+    pub cells: Vec<Flowing>,
+    /// Ohms a square, where all cells have as many.
+    sheet: Option<f64>,
+}
+
+impl Flows {
+    pub fn of(mesh: &Mesh, solution: &Solution, quantity: Quantity) -> Self {
+        let leaves: Vec<Leaf> = mesh.leaves().collect();
+        let cells = leaves.iter().zip(&solution.cells);
+        let sheet = leaves.first().map(|leaf| leaf.sheet);
+        Flows {
+            quantity,
+            cells: cells.map(|(leaf, flow)| Flowing::of(leaf, flow)).collect(),
+            sheet: sheet.filter(|&sheet| leaves.iter().all(|leaf| leaf.sheet == sheet)),
+        }
+    }
+
+    /// The value that colours a cell.
+    pub fn value(&self, cell: usize) -> f64 {
+        let flowing = self.cells.get(cell);
+        flowing.map_or(0.0, |flowing| flowing.value(self.quantity))
+    }
+
+    pub fn scale(&self) -> Scale {
+        let values = self.cells.iter().map(|cell| cell.value(self.quantity));
+        Scale::of(values, self.quantity.deepest())
+    }
+
+    /// The other quantity, on the scale of the first. None where it doesn't follow from it.
+    pub fn other(&self) -> Option<(Scale, Quantity)> {
+        let sheet = self.sheet?;
+        let scale = self.scale();
+        Some(match self.quantity {
+            Quantity::PowerDensity => {
+                let current = |density: f64| (density / sheet).sqrt();
+                (scale.by(current), Quantity::SheetCurrent)
+            }
+            Quantity::SheetCurrent => {
+                let density = |current: f64| current * current * sheet;
+                (scale.by(density), Quantity::PowerDensity)
+            }
+        })
+    }
+
+    /// The cell with the most of a quantity, the first of several. None where there is none of it.
+    pub fn most(&self, quantity: Quantity) -> Option<usize> {
+        let value = |cell: usize| self.cells[cell].value(quantity);
+        let above = (0..self.cells.len()).filter(|&cell| value(cell) > 0.0);
+        above.reduce(|best, cell| {
+            if value(cell) > value(best) {
+                cell
+            } else {
+                best
+            }
+        })
+    }
+}
+
+#[cfg(test)]
+mod tests {
+    use super::*;
+
+    fn flowing(current: f64, towards: [f64; 2]) -> Flowing {
+        Flowing {
+            density: 0.0,
+            current,
+            towards,
+        }
+    }
+
+    #[test]
+    fn a_current_flows_to_the_nearest_of_eight_sides() {
+        for (towards, direction) in [
+            ([1.0, 0.0], Some("east")),
+            ([1.0, 0.3], Some("east")),
+            ([1.0, 0.9], Some("north-east")),
+            ([0.0, 2.0], Some("north")),
+            ([-1.0, 1.0], Some("north-west")),
+            ([-1.0, -0.0], Some("west")),
+            ([-1.0, -1.0], Some("south-west")),
+            ([0.0, -1.0], Some("south")),
+            ([1.0, -1.0], Some("south-east")),
+            ([1.0, -0.1], Some("east")),
+            ([0.0, 0.0], None),
+        ] {
+            assert_eq!(flowing(1.0, towards).direction(), direction, "{towards:?}");
+        }
+        assert_eq!(flowing(0.0, [1.0, 0.0]).direction(), None);
+    }
+}

@@ -1,0 +1,266 @@
+//! What stands below the panels: a length, the scale of the colours, what is applied, and what the signs mean.
+
+use super::borders::scale_of;
+use super::cells::{colour_of, put_hanging, LINE};
+use super::figures::round_length;
+use super::flow::{Flows, Quantity};
+use super::layout::{Layout, MARGIN};
+use super::scale::{put_bar, Marked};
+use super::svg::put_words;
+use super::{border_lines, marks, Colouring, Picture};
+use std::collections::BTreeSet;
+use std::fmt::{self, Write};
+
+/// Wide enough for any letter of the text's size.
+const LETTER: f64 = 7.4;
+/// From one line of the legend to the next.
+const ROW: f64 = 22.0;
+
+/// Where the next thing of the legend goes.
+struct Pen {
+    x: f64,
+    y: f64,
+    /// Of the whole picture.
+    width: f64,
+}
+
+impl Pen {
+    /// Begins a line, if there is anything on this one.
+    fn break_line(&mut self) {
+        if self.x > MARGIN {
+            self.x = MARGIN;
+            self.y += ROW;
+        }
+    }
+
+    /// Where words go that stand so far behind a sign: here, or on the next line.
+    fn entry(&mut self, sign: f64, words: &str) -> [f64; 2] {
+        let wide = sign + LETTER * words.chars().count() as f64;
+        if self.x + wide > self.width - MARGIN {
+            self.break_line();
+        }
+        let at = [self.x, self.y];
+        self.x += wide + 17.0;
+        at
+    }
+
+    /// On lines of their own, parts that hold together.
+    fn put_parts(&mut self, parts: &[String], text: &mut String) -> fmt::Result {
+        let most = (self.width - 2.0 * MARGIN) / LETTER;
+        let mut line = String::new();
+        for part in parts {
+            if !line.is_empty() && (line.chars().count() + 1 + part.chars().count()) as f64 > most {
+                self.put_line(&line, text)?;
+                line.clear();
+            }
+            line = if line.is_empty() {
+                part.clone()
+            } else {
+                format!("{line} {part}")
+            };
+        }
+        if !line.is_empty() {
+            self.put_line(&line, text)?;
+        }
+        Ok(())
+    }
+
+    fn put_line(&mut self, words: &str, text: &mut String) -> fmt::Result {
+        self.break_line();
+        put_words([self.x, self.y], "", words, text)?;
+        self.y += ROW;
+        Ok(())
+    }
+}
+
+/// Answers how high the picture is.
+pub fn put(picture: &Picture, layout: &Layout, text: &mut String) -> Result<f64, fmt::Error> {
+    let mut pen = Pen {
+        x: MARGIN,
+        y: layout.bottom() + 4.0,
+        width: layout.width(),
+    };
+    put_length(layout, &mut pen, text)?;
+    match &picture.colouring {
+        Colouring::Levels => {}
+        Colouring::Values { words, .. } => {
+            put_values(words, &picture.colouring, &mut pen, text)?;
+        }
+        Colouring::Flows(flows) => put_flows(flows, picture, &mut pen, text)?,
+    }
+    pen.put_parts(&picture.terminals.words, text)?;
+    put_levels(picture, &mut pen, text)?;
+    put_signs(picture, &mut pen, text)?;
+    put_borders(picture, layout, &mut pen, text)?;
+    let words = counts_of(picture);
+    let at = pen.entry(0.0, &words);
+    put_words(at, "", &words, text)?;
+    Ok(pen.y + MARGIN)
+}
+
+fn put_length(layout: &Layout, pen: &mut Pen, text: &mut String) -> fmt::Result {
+    let (ticks, words) = round_length(layout.size[0] / layout.unit / 4.0);
+    let (x, y, length) = (pen.x, pen.y, ticks * layout.unit);
+    writeln!(
+        text,
+        "<path d=\"M{x:.2} {:.2}v8m0 -4h{length:.2}m0 -4v8\" fill=\"none\" stroke=\"#000000\" stroke-width=\"1.5\"/>",
+        y - 4.0
+    )?;
+    put_words([x + length + 8.0, y + 4.0], "", &words, text)?;
+    pen.y += 28.0;
+    Ok(())
+}
+
+fn put_values(words: &str, colouring: &Colouring, pen: &mut Pen, text: &mut String) -> fmt::Result {
+    let Some(scale) = colouring.scale() else {
+        return Ok(());
+    };
+    let words = format!("{words}, logarithmic");
+    let unit = "";
+    pen.y = put_bar(&words, &Marked { scale, unit }, None, pen.y, text)? + 28.0;
+    Ok(())
+}
+
+/// Both quantities beside one bar, and the cells with the most of each.
+fn put_flows(flows: &Flows, picture: &Picture, pen: &mut Pen, text: &mut String) -> fmt::Result {
+    let named = |quantity: Quantity| format!("{} in {}", quantity.words(), quantity.unit());
+    let own = Marked {
+        scale: flows.scale(),
+        unit: flows.quantity.unit(),
+    };
+    let other = flows.other().map(|(scale, quantity)| Marked {
+        scale,
+        unit: quantity.unit(),
+    });
+    let beside = match flows.quantity {
+        Quantity::PowerDensity => Quantity::SheetCurrent,
+        Quantity::SheetCurrent => Quantity::PowerDensity,
+    };
+    let more = match other {
+        Some(_) => format!("above: {}", named(beside)),
+        None => format!("no scale in {}: sheet resistances differ", beside.unit()),
+    };
+    let words = format!("{}, logarithmic ({more})", named(flows.quantity));
+    pen.y = put_bar(&words, &own, other.as_ref(), pen.y, text)? + 26.0;
+    for words in most_of(flows, picture) {
+        pen.put_line(&words, text)?;
+    }
+    Ok(())
+}
+
+/// The hottest cell; and the one with the most current, where that is another one by a sheet resistance of its own.
+fn most_of(flows: &Flows, picture: &Picture) -> Vec<String> {
+    let said = |name: &str, at: usize| {
+        let (cell, flowing) = (&picture.cells[at], &flows.cells[at]);
+        format!(
+            "{name}: leaf {} (layer {}), {}",
+            cell.id,
+            cell.layer,
+            flowing.words()
+        )
+    };
+    let hottest = picture.hottest();
+    let Some(at) = hottest else {
+        return vec!["hottest: none, since no leaf takes power".to_string()];
+    };
+    let most = flows.most(Quantity::SheetCurrent);
+    let other =
+        most.filter(|&most| flows.other().is_none() && most != at && most < picture.cells.len());
+    let other = other.map(|at| said("most current", at));
+    [said("hottest", at)].into_iter().chain(other).collect()
+}
+
+fn put_levels(picture: &Picture, pen: &mut Pen, text: &mut String) -> fmt::Result {
+    if picture.colouring != Colouring::Levels {
+        return Ok(());
+    }
+    let levels: BTreeSet<u64> = picture.cells.iter().map(|cell| cell.level).collect();
+    for level in levels {
+        let words = format!("level {level}");
+        let [x, y] = pen.entry(SIGN, &words);
+        writeln!(
+            text,
+            "<rect x=\"{x:.0}\" y=\"{:.0}\" width=\"14\" height=\"14\" fill=\"{}\" stroke=\"{LINE}\" \
+             stroke-width=\"0.5\"/>",
+            y - 11.0,
+            colour_of(level)
+        )?;
+        put_words([x + SIGN, y], "", &words, text)?;
+    }
+    Ok(())
+}
+
+/// From the start of a sign to its words.
+const SIGN: f64 = 19.0;
+
+/// A sign of the legend: whether the picture has any, what it means, and how it looks at a place.
+type Sign = (bool, &'static str, fn([f64; 2], &mut String) -> fmt::Result);
+
+fn put_signs(picture: &Picture, pen: &mut Pen, text: &mut String) -> fmt::Result {
+    let marks = &picture.marks;
+    let signs: [Sign; 4] = [
+        (
+            !picture.hanging.is_empty(),
+            "node at the middle of a leaf's side",
+            |[x, y], text| put_hanging([x + 7.0, y - 4.0], 5.0, text),
+        ),
+        (
+            !marks.footprints.is_empty(),
+            marks::FOOTPRINT,
+            |[x, y], text| marks::put_footprint([x, y - 11.0, x + 14.0, y + 3.0], text),
+        ),
+        (!marks.pairs.is_empty(), marks::PAIR, |[x, y], text| {
+            marks::put_pair([[x, y - 4.0], [x + 14.0, y - 4.0]], text)
+        }),
+        (!marks.ends.is_empty(), marks::END, |[x, y], text| {
+            marks::put_end([x + 7.0, y - 4.0], marks::LARGEST_END, text)
+        }),
+    ];
+    for (_, words, put) in signs.into_iter().filter(|sign| sign.0) {
+        let [x, y] = pen.entry(SIGN, words);
+        put([x, y], text)?;
+        put_words([x + SIGN, y], "", words, text)?;
+    }
+    Ok(())
+}
+
+/// Lines of some lengths, on a row of their own.
+fn put_borders(
+    picture: &Picture,
+    layout: &Layout,
+    pen: &mut Pen,
+    text: &mut String,
+) -> fmt::Result {
+    let borders = picture.borders.as_deref().unwrap_or_default();
+    if borders.is_empty() {
+        return Ok(());
+    }
+    let scale = scale_of(borders, layout);
+    pen.break_line();
+    let words = "borders:";
+    let at = pen.entry(0.0, words);
+    put_words(at, "", words, text)?;
+    for sample in scale.samples(picture.borders_across() > 0) {
+        let behind = border_lines::SAMPLE + 5.0;
+        let [x, y] = pen.entry(behind, &sample.words);
+        border_lines::put_sample([x, y - 4.0], &sample, &scale, text)?;
+        put_words([x + behind, y], "", &sample.words, text)?;
+    }
+    Ok(())
+}
+
+fn counts_of(picture: &Picture) -> String {
+    let mut words = format!("{} leaves", picture.cells.len());
+    if let Some(borders) = &picture.borders {
+        words += &format!(", {} borders", borders.len());
+        match picture.borders_across() {
+            0 => {}
+            across => words += &format!(", {across} of them across layers"),
+        }
+    }
+    match picture.marks.links {
+        0 => {}
+        links => words += &format!(", {links} links"),
+    }
+    words
+}
