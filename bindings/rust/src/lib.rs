@@ -118,12 +118,16 @@
 mod first_page {}
 
 mod borders;
+pub mod csv;
 pub mod drawing;
 pub mod ffi;
+pub mod field;
+mod grid;
 mod leaf;
 mod lent;
 mod links;
 mod mesh;
+pub mod msh;
 mod name;
 mod net;
 mod pitch;

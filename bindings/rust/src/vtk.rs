@@ -2,22 +2,16 @@
 //! height of its own; level, polygon, layer, component and ohms a square stand with the cells, hanging nodes with
 //! the points. Links are lines between their nodes, behind the leaves.
 
+use crate::grid::{leaves_of, places, NUMBERS};
 use crate::sides::hanging;
-use crate::{Edge, Leaf, Mesh, Net, NetRows, Node, Reason, Refusal, TICK};
-use std::collections::BTreeSet;
+use crate::{Edge, Leaf, Mesh, Net, NetRows, Refusal};
 use std::fmt::{self, Write};
+use std::iter::repeat;
 
-/// Values of the cells, or of the nodes: so many as there are of one or the other.
-#[derive(Clone, Copy, Debug)]
-pub enum Field<'a> {
-    /// A name, and one value a cell.
-    Cells(&'a str, &'a [f64]),
-    /// A name, and one value a node.
-    Nodes(&'a str, &'a [f64]),
-}
+pub use crate::field::Field;
 
-/// The file of a mesh and its net, with more fields of one's own. A name's blanks become lines below; a field of
-/// another length is left out.
+/// The file of a mesh and its net, with more fields of one's own. A name's blanks become low lines; a field of another
+/// length is left out.
 ///
 /// # Errors
 ///
@@ -37,12 +31,7 @@ pub fn of_linked_mesh(mesh: &Mesh, net: &Net, fields: &[Field]) -> Result<String
 }
 
 fn of_rows(mesh: &Mesh, net: NetRows, links: &[Edge], fields: &[Field]) -> Result<String, Refusal> {
-    net.judge()?;
-    let leaves: Vec<Leaf> = mesh.leaves().collect();
-    if leaves.len() != net.cells.len() {
-        let reason = Reason::BadTable;
-        return Err(Refusal { reason, place: 0 });
-    }
+    let leaves = leaves_of(mesh, net)?;
     let hangs = hanging(net)?;
     let mut text = String::new();
     put(&leaves, &hangs, net, links, fields, &mut text).expect("a string takes all text");
@@ -57,15 +46,25 @@ fn put(
     fields: &[Field],
     text: &mut String,
 ) -> fmt::Result {
-    let (nodes, cells) = (net.nodes.len(), net.cells.len());
+    let nodes = net.nodes.len();
     put_grid(net, links, text)?;
-    writeln!(text, "CELL_DATA {}", cells + links.len())?;
+    writeln!(text, "CELL_DATA {}", leaves.len() + links.len())?;
     put_leaves(leaves, links, text)?;
-    put_own(fields, true, [cells, links.len()], text)?;
+    for field in fields {
+        put_of_cells(field, leaves.len(), links.len(), text)?;
+    }
     writeln!(text, "POINT_DATA {nodes}")?;
     let hangs = |at: usize| f64::from(u8::from(hangs.binary_search(&at).is_ok()));
-    put_field("hanging", &mut (0..nodes).map(hangs), text)?;
-    put_own(fields, false, [nodes, 0], text)
+    put_field("hanging", (0..nodes).map(hangs), text)?;
+    for field in fields {
+        match field {
+            Field::Nodes(name, all) if all.len() == nodes => {
+                put_field(name, all.iter().copied(), text)?;
+            }
+            _ => {}
+        }
+    }
+    Ok(())
 }
 
 /// Nodes in metres, leaves as quads, links as lines.
@@ -76,11 +75,7 @@ fn put_grid(net: NetRows, links: &[Edge], text: &mut String) -> fmt::Result {
         "# vtk DataFile Version 3.0\nleafmesh\nASCII\nDATASET UNSTRUCTURED_GRID"
     )?;
     writeln!(text, "POINTS {} double", net.nodes.len())?;
-    let apart = layers_apart(net);
-    let layers: BTreeSet<u16> = net.nodes.iter().map(|node| node.layer).collect();
-    for node in net.nodes {
-        let height = layers.range(..node.layer).count() as f64 * apart;
-        let [x, y] = [node.x, node.y].map(|ticks| ticks as f64 * TICK);
+    for [x, y, height] in places(net) {
         writeln!(text, "{x} {y} {height}")?;
     }
     let all = cells + links.len();
@@ -99,64 +94,42 @@ fn put_grid(net: NetRows, links: &[Edge], text: &mut String) -> fmt::Result {
 
 /// What every leaf has, and every link.
 fn put_leaves(leaves: &[Leaf], links: &[Edge], text: &mut String) -> fmt::Result {
-    type Number = fn(&Leaf) -> f64;
-    let numbers: [(&str, Number); 6] = [
-        ("leaf", |leaf| leaf.id as f64),
-        ("level", |leaf| leaf.level as f64),
-        ("polygon", |leaf| leaf.polygon as f64),
-        ("layer", |leaf| f64::from(leaf.layer)),
-        ("component", |leaf| f64::from(leaf.component)),
-        ("r_sheet", |leaf| leaf.sheet),
-    ];
-    for (name, number) in numbers {
+    for (name, number) in NUMBERS {
         let own = leaves.iter().map(number);
-        put_field(name, &mut own.chain(links.iter().map(|_| -1.0)), text)?;
+        put_field(name, own.chain(links.iter().map(|_| -1.0)), text)?;
     }
     if links.is_empty() {
         return Ok(());
     }
     let none = leaves.iter().map(|_| 0.0);
     let conductances = links.iter().map(|link| link.conductance);
-    put_field("siemens", &mut none.chain(conductances), text)
+    put_field("siemens", none.chain(conductances), text)
 }
 
-/// A twentieth of the board's larger side, in metres.
-fn layers_apart(net: NetRows) -> f64 {
-    let along = |axis: fn(&Node) -> i64| {
-        let all = || net.nodes.iter().map(axis);
-        all().max().unwrap_or(0) - all().min().unwrap_or(0)
-    };
-    along(|node| node.x).max(along(|node| node.y)) as f64 * TICK / 20.0
-}
-
-/// Values for so many, and zeros for so many more.
-fn put_own(
-    fields: &[Field],
-    of_cells: bool,
-    [count, more]: [usize; 2],
-    text: &mut String,
-) -> fmt::Result {
-    let zeros = || std::iter::repeat(0.0).take(more);
-    for field in fields {
-        let (name, all, fits) = match field {
-            Field::Cells(name, all) => (name, all, of_cells),
-            Field::Nodes(name, all) => (name, all, !of_cells),
-        };
-        if fits && all.len() == count {
-            put_field(
-                &name.replace(char::is_whitespace, "_"),
-                &mut all.iter().copied().chain(zeros()),
-                text,
-            )?;
+/// A field of so many cells, and of so many links, where it has no values of these.
+fn put_of_cells(field: &Field, cells: usize, links: usize, text: &mut String) -> fmt::Result {
+    match field {
+        Field::Cells(name, all) if [cells, cells + links].contains(&all.len()) => {
+            let zeros = repeat(0.0).take(cells + links - all.len());
+            put_field(name, all.iter().copied().chain(zeros), text)
         }
+        Field::Vectors(name, all) if all.len() == cells => {
+            writeln!(text, "VECTORS {} double", joined(name))?;
+            let zeros = repeat([0.0; 2]).take(links);
+            let mut all = all.iter().copied().chain(zeros);
+            all.try_for_each(|[x, y]| writeln!(text, "{x:?} {y:?} 0"))
+        }
+        _ => Ok(()),
     }
-    Ok(())
 }
 
-fn put_field(name: &str, all: &mut dyn Iterator<Item = f64>, text: &mut String) -> fmt::Result {
+fn put_field(name: &str, mut all: impl Iterator<Item = f64>, text: &mut String) -> fmt::Result {
+    let name = joined(name);
     writeln!(text, "SCALARS {name} double 1\nLOOKUP_TABLE default")?;
-    for value in all {
-        writeln!(text, "{value:?}")?;
-    }
-    Ok(())
+    all.try_for_each(|value| writeln!(text, "{value:?}"))
+}
+
+/// A name in one word, as the form has them.
+fn joined(name: &str) -> String {
+    name.replace(char::is_whitespace, "_")
 }

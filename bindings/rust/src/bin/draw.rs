@@ -1,125 +1,166 @@
-//! A mesh as a picture.
-//!
-//! `draw --board FILE [--power] [--borders] [--title WORDS] > picture.svg` meshes a board (its record or its text) of
-//! any size; with `--power` the cells are coloured by power over area, at 1 V from the bottom to the top of each
-//! component.
-//!
-//! `draw [--record FILE [--potentials FILE]] [--borders] [--title WORDS] < leafnet's output > picture.svg` draws what
-//! leafnet printed; the record tells layers apart, a file of potentials has one number a node.
-//!
-//! With `--borders` a line lies on every border that two cells share, the longer the wider, over the cells' colours.
+//! A mesh as a picture: of a board, or of what leafnet printed. `draw --help` says how.
 
-use leafmesh::drawing::{densities, Picture};
-use leafmesh::solving::System;
-use leafmesh::tool::{self, Given};
-use leafmesh::{power, printed, Mesh, Net, NetRows};
-use std::env;
+use leafmesh::drawing::{densities, Picture, Quantity};
+use leafmesh::limits::POTENTIAL;
+use leafmesh::tool::{By, Command, End, Given, Stop, Switch, Takes, Tool, Words};
+use leafmesh::{looks_at_its_ends, printed, Mesh, Net};
 use std::process::ExitCode;
 
-const USAGE: &str = "usage: draw --board FILE [--power] [--borders] [--title WORDS] > picture.svg
-       draw [--record FILE [--potentials FILE]] [--borders] [--title WORDS] < leafnet's output > picture.svg";
-const POWER: &str = "power density in W/mm2";
+looks_at_its_ends!();
 
-/// What the words ask for.
-#[derive(Default)]
-struct Asked {
-    board: Option<String>,
-    power: bool,
-    borders: bool,
-    record: Option<String>,
-    potentials: Option<String>,
-    title: Option<String>,
-}
+const BOARD: Switch = ("--board", Takes::Word);
+const POWER: Switch = ("--power", Takes::Nothing);
+const CURRENT: Switch = ("--current", Takes::Nothing);
+const TERMINAL: Switch = ("--terminal", Takes::Words);
+const BORDERS: Switch = ("--borders", Takes::Nothing);
+const TITLE: Switch = ("--title", Takes::Word);
+const RECORD: Switch = ("--record", Takes::Word);
+const POTENTIALS: Switch = ("--potentials", Takes::Word);
+const PRINTED: Switch = ("--printed", Takes::Word);
+
+const DRAW: Tool = Tool {
+    name: "draw",
+    commands: &[Command {
+        name: "",
+        help: HELP,
+        switches: &[
+            BOARD, POWER, CURRENT, TERMINAL, BORDERS, TITLE, RECORD, POTENTIALS, PRINTED,
+        ],
+        make: draw,
+    }],
+    help: HELP,
+};
+
+const HELP: &str = "\
+usage: draw BOARD [--power | --current] [--terminal \"NAME VALUE V|A PLACE\"].. [--borders] [--title WORDS] [-o FILE]
+       draw [--printed FILE] [--record FILE [--potentials FILE]] [--borders] [--title WORDS] [-o FILE]
+       draw --help | --version
+
+A picture (SVG) of a board's text or record, of any size; without a board, of what leafnet printed, from standard input.
+
+  BOARD         the board's file, or - for standard input; --board FILE says the same
+  --power       cells by power density, as it flows between the terminals; otherwise by level
+  --current     cells by sheet current
+  --terminal    where current enters or leaves, as in a line of the text; instead of one of the same name
+  --borders     a line on every border that two leaves share, the longer the wider
+  --title       words over the picture; without them the board's file
+  --printed     what leafnet printed, from a file
+  --record      the board that leafnet printed, its record or its text
+  --potentials  one number a node, in volts, as relax writes them: cells by the power that they bring about
+";
 
 fn main() -> ExitCode {
-    tool::end(run())
+    DRAW.main()
 }
 
-fn run() -> Result<Vec<u8>, String> {
-    let asked = asked(env::args().skip(1)).ok_or(USAGE)?;
-    let mut picture = match (&asked.board, &asked.record) {
-        (Some(file), None) if asked.potentials.is_none() => of_board(file, &asked)?,
-        (None, Some(_)) if !asked.power => of_text(&asked)?,
-        (None, None) if !asked.power && asked.potentials.is_none() => of_text(&asked)?,
-        _ => return Err(USAGE.to_string()),
+fn draw(words: &Words) -> Result<Vec<u8>, Stop> {
+    let mut picture = match board_of(words)? {
+        Some(board) => of_board(&board, words)?,
+        None => of_printed(words)?,
     };
-    if asked.borders {
+    if words.has(BORDERS.0) {
         picture = picture.with_borders().map_err(|why| why.to_string())?;
     }
     Ok(picture.svg().into_bytes())
 }
 
-fn asked(mut words: impl Iterator<Item = String>) -> Option<Asked> {
-    let mut asked = Asked::default();
-    while let Some(word) = words.next() {
-        match word.as_str() {
-            "--power" => asked.power = true,
-            "--borders" => asked.borders = true,
-            "--board" => asked.board = Some(words.next()?),
-            "--record" => asked.record = Some(words.next()?),
-            "--potentials" => asked.potentials = Some(words.next()?),
-            "--title" => asked.title = Some(words.next()?),
-            _ => return None,
-        }
+/// The board that is to be drawn; none where what leafnet printed is.
+fn board_of(words: &Words) -> Result<Option<End>, Stop> {
+    let senseless = |why: &str| Err(Stop::Senseless(why.to_string()));
+    let board = words.file_of(BOARD.0);
+    if board.is_some() && words.file().is_some() {
+        return senseless("one board too many");
     }
-    Some(asked)
+    let board = board.or_else(|| words.file().map(|_| words.input()));
+    let flows = [POWER, CURRENT].map(|(name, _)| words.has(name));
+    let of_printed = [RECORD, POTENTIALS, PRINTED].map(|(name, _)| words.has(name));
+    if flows == [true, true] {
+        return senseless("--power or --current, not both");
+    }
+    match board {
+        Some(_) if of_printed.contains(&true) => {
+            senseless("a board, or what leafnet printed, not both")
+        }
+        Some(_) if words.has(TERMINAL.0) && !flows.contains(&true) => {
+            senseless("--terminal says nothing without --power or --current")
+        }
+        None if flows.contains(&true) || words.has(TERMINAL.0) => {
+            senseless("--power, --current and --terminal need a board")
+        }
+        None if words.has(POTENTIALS.0) && !words.has(RECORD.0) => {
+            senseless("--potentials need a --record")
+        }
+        board => Ok(board),
+    }
 }
 
-fn of_board(file: &str, asked: &Asked) -> Result<Picture, String> {
-    let named = |why| format!("{file}: {why}");
-    let given = Given::of_bytes(tool::file(file)?).map_err(named)?;
-    let (mesh, net) = given.mesh().map_err(named)?;
-    let title = asked.title.as_deref().unwrap_or(file);
-    let picture = of_mesh(title, &given, &mesh, &net)?;
-    if !asked.power {
-        return Ok(picture);
-    }
-    let solution = System::of_cells(&net)
-        .and_then(|system| system.solve(&mesh.held(&net, &given.terminals)))
-        .map_err(|why| format!("{file}: {why}"))?;
-    coloured(picture, POWER, &mesh, net.rows(), &solution.volts)
+fn of_board(board: &End, words: &Words) -> Result<Picture, String> {
+    let given = Given::read(board)?.with_terminals(&words.all(TERMINAL.0))?;
+    let name = board.name();
+    let title = words.one(TITLE.0);
+    let title = title.as_deref().or(name.as_deref()).unwrap_or("a board");
+    let (quantity, asker) = match (words.has(POWER.0), words.has(CURRENT.0)) {
+        (true, _) => (Quantity::PowerDensity, POWER.0),
+        (_, true) => (Quantity::SheetCurrent, CURRENT.0),
+        _ => {
+            let (mesh, net) = given.mesh()?;
+            return of_mesh(title, &given, &mesh, &net);
+        }
+    };
+    let solved = given.solved(By::Cells, asker)?;
+    let picture = of_mesh(title, &given, &solved.mesh, &solved.net)?;
+    let solution = &solved.solution;
+    Ok(picture
+        .by_flow(&solved.mesh, solution, quantity)
+        .with_terminals(&solved.net.nodes, &solved.held, &solution.terminals))
 }
 
 /// With the links that were given.
 fn of_mesh(title: &str, given: &Given, mesh: &Mesh, net: &Net) -> Result<Picture, String> {
-    let picture = Picture::of_mesh(title, mesh, net.rows()).map_err(|why| why.to_string())?;
+    let picture = Picture::of_mesh(title, mesh, net.rows()).map_err(|why| given.said(&why))?;
     Ok(picture.with_links(net, given.links.rows()))
 }
 
-fn of_text(asked: &Asked) -> Result<Picture, String> {
-    let text = tool::text(tool::input()?)?;
-    let title = asked.title.as_deref().unwrap_or("leafnet's mesh");
-    let Some(file) = &asked.record else {
-        return Picture::of_printed(title, &printed::read_sound(&text)?, None);
+fn of_printed(words: &Words) -> Result<Picture, String> {
+    let input = words.file_of(PRINTED.0).unwrap_or_default();
+    let text = input.read_text()?;
+    let title = words.one(TITLE.0);
+    let title = title.as_deref().unwrap_or("leafnet's mesh");
+    let said = |why: String| input.said(&why);
+    let Some(record) = words.file_of(RECORD.0) else {
+        let printed = printed::read_sound(&text).map_err(said)?;
+        return Picture::of_printed(title, &printed, None).map_err(said);
     };
-    let given = Given::of_bytes(tool::file(file)?).map_err(|why| format!("{file}: {why}"))?;
-    let printed = printed::read(&text)?;
-    let (mesh, net) = given.mesh().map_err(|why| format!("{file}: {why}"))?;
+    let given = Given::read(&record)?;
+    let printed = printed::read(&text).map_err(said)?;
+    let (mesh, net) = given.mesh()?;
     let own = printed::show_mesh(&given.board, &mesh, &net);
-    printed::is_of(&printed, &own)?;
+    printed::is_of(&printed, &own).map_err(said)?;
     let picture = of_mesh(title, &given, &mesh, &net)?;
-    let Some(file) = &asked.potentials else {
+    let Some(potentials) = words.file_of(POTENTIALS.0) else {
         return Ok(picture);
     };
-    let volts = numbers_in(file)?;
-    let named = |why| format!("{file}: {why}");
-    coloured(picture, POWER, &mesh, net.rows(), &volts).map_err(named)
+    let volts = potentials_of(&potentials, net.nodes.len())?;
+    let watts = mesh.power(net.rows(), &volts);
+    let watts = watts.map_err(|why| potentials.said(&why.to_string()))?;
+    Ok(picture.by_value("power density in W/mm2", &densities(&mesh, &watts)))
 }
 
-fn coloured(
-    picture: Picture,
-    words: &str,
-    mesh: &Mesh,
-    net: NetRows,
-    volts: &[f64],
-) -> Result<Picture, String> {
-    let mut watts = vec![0.0; net.cells.len()];
-    power(net, volts, &mut watts).map_err(|why| why.to_string())?;
-    Ok(picture.by_value(words, &densities(mesh, &watts)))
-}
-
-fn numbers_in(file: &str) -> Result<Vec<f64>, String> {
-    let text = tool::text(tool::file(file)?)?;
-    let numbers: Result<Vec<f64>, _> = text.split_whitespace().map(str::parse).collect();
-    numbers.map_err(|why| format!("{file}: {why}"))
+/// One number a node, parted by blanks or lines.
+fn potentials_of(file: &End, nodes: usize) -> Result<Vec<f64>, String> {
+    let text = file.read_text()?;
+    let mut all = Vec::new();
+    for (line, words) in (1..).zip(text.lines()) {
+        for word in words.split_whitespace() {
+            let volts: Option<f64> = word.parse().ok();
+            let volts = volts.filter(|volts| volts.abs() <= POTENTIAL);
+            all.push(volts.ok_or_else(|| {
+                file.said(&format!("line {line}: {word} is no potential: a number from -{POTENTIAL} to {POTENTIAL}"))
+            })?);
+        }
+    }
+    match all.len() {
+        count if count == nodes => Ok(all),
+        count => Err(file.said(&format!("{count} potentials for {nodes} nodes"))),
+    }
 }

@@ -72,6 +72,21 @@ impl Terminal {
             drive,
         }
     }
+
+    /// The nodes among these that it takes. None of a pad, which only a mesh tells: [`Mesh::held`].
+    pub fn held_among(&self, nodes: &[Node]) -> Option<Held> {
+        let is_pad = matches!(self.spot, Spot::Pad { .. });
+        (!is_pad).then(|| self.held(nodes, |_| Vec::new()))
+    }
+
+    /// `pad` has the corners of a polygon's leaves.
+    fn held(&self, nodes: &[Node], pad: impl Fn(usize) -> Vec<usize>) -> Held {
+        Held {
+            terminal: self.name.clone(),
+            nodes: self.spot.nodes(nodes, pad),
+            drive: self.drive,
+        }
+    }
 }
 
 impl Drive {
@@ -143,11 +158,7 @@ impl Mesh {
             all.dedup();
             all
         };
-        let held = |terminal: &Terminal| Held {
-            terminal: terminal.name.clone(),
-            nodes: terminal.spot.nodes(&net.nodes, corners),
-            drive: terminal.drive,
-        };
+        let held = |terminal: &Terminal| terminal.held(&net.nodes, corners);
         terminals.iter().map(held).collect()
     }
 }

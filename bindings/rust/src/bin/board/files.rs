@@ -1,0 +1,92 @@
+//! Files of a mesh for other programs.
+
+use crate::{given, TERMINAL};
+use leafmesh::field::Flows;
+use leafmesh::tool::{By, Command, Given, Solved, Stop, Switch, Takes, Words};
+use leafmesh::{csv, msh, vtk, Mesh, Net, Refusal};
+
+/// What flows goes into the file, too.
+const POWER: Switch = ("--power", Takes::Nothing);
+
+pub const VTK: Command = Command {
+    name: "vtk",
+    help: "\
+usage: board vtk [FILE] [--power] [--terminal \"NAME VALUE V|A PLACE\"].. [-o FILE]
+
+The mesh as a file for ParaView (VTK's legacy form): leaves as quads, links as lines.
+
+  --power      with what flows between the terminals: watts, W_per_mm2, A_per_mm, current_A_per_mm, volts, link_amperes
+  --terminal   where current enters or leaves, as in a line of the text; instead of one of the same name
+",
+    switches: &[POWER, TERMINAL],
+    make: |words| of_mesh(words, |mesh, net, flows| {
+        vtk::of_linked_mesh(mesh, net, &flows.map_or(Vec::new(), Flows::fields))
+    }),
+};
+
+pub const MSH: Command = Command {
+    name: "msh",
+    help: "\
+usage: board msh [FILE] [--power] [--terminal \"NAME VALUE V|A PLACE\"].. [-o FILE]
+
+The mesh as a file for Gmsh (form 2.2): leaves as quads, links as lines, a physical group for each component of a layer
+and one for the links.
+
+  --power      with what flows between the terminals, as in the file for ParaView
+  --terminal   where current enters or leaves, as in a line of the text; instead of one of the same name
+",
+    switches: &[POWER, TERMINAL],
+    make: |words| of_mesh(words, |mesh, net, flows| {
+        msh::of_mesh(mesh, net, &flows.map_or(Vec::new(), Flows::fields))
+    }),
+};
+
+pub const CSV: Command = Command {
+    name: "csv",
+    help: "\
+usage: board csv [FILE] [--power] [--terminal \"NAME VALUE V|A PLACE\"].. [-o FILE]
+
+A line a leaf, behind a heading: its names, its sides in millimetres or ticks, its sheet resistance.
+
+  --power      with its power, W/mm2, A/mm and the current along x and along y at its centre
+  --terminal   where current enters or leaves, as in a line of the text; instead of one of the same name
+",
+    switches: &[POWER, TERMINAL],
+    make: table,
+};
+
+/// A file of the mesh, and of what flows if that is asked for.
+fn of_mesh(
+    words: &Words,
+    file: impl Fn(&Mesh, &Net, Option<&Flows>) -> Result<String, Refusal>,
+) -> Result<Vec<u8>, Stop> {
+    let given = given(words)?;
+    let text = match flowing(words, &given)? {
+        Some(solved) => {
+            let flows = Flows::of(&solved.mesh, &solved.solution);
+            file(&solved.mesh, &solved.net, Some(&flows))
+        }
+        None => {
+            let (mesh, net) = given.mesh()?;
+            file(&mesh, &net, None)
+        }
+    };
+    Ok(text.map_err(|why| given.said(&why))?.into_bytes())
+}
+
+fn table(words: &Words) -> Result<Vec<u8>, Stop> {
+    let given = given(words)?;
+    let pitch = given.pitch();
+    let text = match flowing(words, &given)? {
+        Some(solved) => csv::of_mesh(&solved.mesh, pitch, &solved.solution.cells),
+        None => csv::of_mesh(&given.mesh()?.0, pitch, &[]),
+    };
+    Ok(text.map_err(|why| given.said(&why))?.into_bytes())
+}
+
+/// What flows, if it is asked for.
+fn flowing(words: &Words, given: &Given) -> Result<Option<Solved>, String> {
+    let is_asked = words.has(POWER.0);
+    let solved = is_asked.then(|| given.solved(By::Cells, POWER.0));
+    solved.transpose()
+}

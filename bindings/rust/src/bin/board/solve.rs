@@ -1,0 +1,124 @@
+//! What flows between a board's terminals, as tables to be read.
+
+use crate::{given, TERMINAL};
+use leafmesh::tool::{digits, By, Command, Given, Solved, Stop, Switch, Takes, Words};
+use leafmesh::{Leaf, Link, Refusal};
+use std::fmt::{self, Write};
+
+/// By conductances.
+const NET: Switch = ("--net", Takes::Nothing);
+
+pub const SOLVE: Command = Command {
+    name: "solve",
+    help: "\
+usage: board solve [FILE] [--net] [--terminal \"NAME VALUE V|A PLACE\"].. [-o FILE]
+
+What flows between a board's terminals: their volts and amperes, the power in all, the hottest leaf, and of each link
+the current from its first end to its second.
+
+  --net        by the net's conductances (docs/CONDUCTANCES.md) and not by elements on its cells
+  --terminal   where current enters or leaves, as in a line of the text; instead of one of the same name
+",
+    switches: &[NET, TERMINAL],
+    make: solve,
+};
+
+fn solve(words: &Words) -> Result<Vec<u8>, Stop> {
+    let given = given(words)?;
+    let by = if words.has(NET.0) { By::Net } else { By::Cells };
+    let solved = given.solved(by, "board solve")?;
+    let currents = currents_of(&given, &solved).map_err(|why| given.said(&why))?;
+    let mut text = String::new();
+    put_terminals(&solved, &mut text).expect(TAKES_ALL);
+    put_power(&given, &solved, &mut text).expect(TAKES_ALL);
+    put_currents(&currents, &mut text).expect(TAKES_ALL);
+    Ok(text.into_bytes())
+}
+
+const TAKES_ALL: &str = "a string takes all text";
+
+fn put_terminals(solved: &Solved, text: &mut String) -> fmt::Result {
+    writeln!(text, "{:<12} {:>12} {:>12}", "terminal", "V", "A")?;
+    for one in &solved.solution.terminals {
+        let [volts, amperes] = [one.volts, solved.without_rest(one.amperes)].map(digits);
+        writeln!(text, "{:<12} {volts:>12} {amperes:>12}", one.terminal)?;
+    }
+    Ok(())
+}
+
+fn put_power(given: &Given, solved: &Solved, text: &mut String) -> fmt::Result {
+    let links: f64 = solved.link_watts().iter().sum();
+    let solution = &solved.solution;
+    write!(text, "\npower     {} W", digits(solution.watts()))?;
+    if solved.net.links > 0 {
+        write!(text, ", {} W of it in links", digits(links))?;
+    }
+    writeln!(text, "\nV x A     {} W", digits(solution.given()))?;
+    if let Some(ohms) = solved.ohms() {
+        writeln!(text, "V / A     {} ohm", digits(ohms))?;
+    }
+    match solved.hottest() {
+        Some((leaf, watts)) => writeln!(text, "hottest   {}", hot(given, solved, &leaf, watts)),
+        None => Ok(()),
+    }
+}
+
+/// A leaf by its names and its place, with its power.
+fn hot(given: &Given, solved: &Solved, leaf: &Leaf, watts: f64) -> String {
+    let [x0, y0, x1, y1] = leaf.rect;
+    let place = given.place([x0 + (x1 - x0) / 2, y0 + (y1 - y0) / 2]);
+    let name = solved.mesh.name(leaf.id).map(|name| name.to_string());
+    let density = digits(watts / leaf.area() * 1e-6);
+    let current = digits(leaf.sheet_current(watts) * 1e-3);
+    format!(
+        "leaf {} ({}), layer {}, component {}, at {place}: {density} W/mm2, {current} A/mm",
+        leaf.id,
+        name.unwrap_or_default(),
+        leaf.layer,
+        leaf.component
+    )
+}
+
+/// A link, how many edges it makes, and the current from its first end to its second.
+struct Current {
+    link: Link,
+    edges: usize,
+    amperes: f64,
+}
+
+fn currents_of(given: &Given, solved: &Solved) -> Result<Vec<Current>, Refusal> {
+    let links = given.links.rows();
+    let mut rest = solved.link_amperes();
+    let mut all = Vec::new();
+    for ((link, _), edges) in links.each().zip(solved.mesh.edges_of_links(links)?) {
+        let (own, behind) = rest.split_at(edges);
+        let amperes = solved.without_rest(own.iter().sum());
+        all.push(Current {
+            link,
+            edges,
+            amperes,
+        });
+        rest = behind;
+    }
+    Ok(all)
+}
+
+fn put_currents(all: &[Current], text: &mut String) -> fmt::Result {
+    if all.is_empty() {
+        return Ok(());
+    }
+    writeln!(text, "\n{:<12} {:>12} {:>12}", "link", "edges", "A")?;
+    for one in all {
+        let (edges, amperes) = (one.edges, digits(one.amperes));
+        writeln!(text, "{:<12} {edges:>12} {amperes:>12}", words_of(one.link))?;
+    }
+    Ok(())
+}
+
+fn words_of(link: Link) -> String {
+    match link {
+        Link::Contact(at) => format!("contact {at}"),
+        Link::Via(at) => format!("via {at}"),
+        Link::Channel(at) => format!("channel {at}"),
+    }
+}

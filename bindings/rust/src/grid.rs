@@ -1,0 +1,52 @@
+//! What files of a mesh have in common: its leaves with a net's nodes in space, and the numbers of each leaf.
+
+use crate::{Leaf, Mesh, NetRows, Node, Reason, Refusal, TICK};
+use std::collections::BTreeSet;
+
+/// A number of a leaf.
+pub type Number = fn(&Leaf) -> f64;
+
+/// The numbers that stand with each leaf, by name.
+pub const NUMBERS: [(&str, Number); 6] = [
+    ("leaf", |leaf| leaf.id as f64),
+    ("level", |leaf| leaf.level as f64),
+    ("polygon", |leaf| leaf.polygon as f64),
+    ("layer", |leaf| f64::from(leaf.layer)),
+    ("component", |leaf| f64::from(leaf.component)),
+    ("r_sheet", |leaf| leaf.sheet),
+];
+
+/// The leaves of a mesh that a net is of.
+///
+/// # Errors
+///
+/// Those of [`NetRows::judge`]; [`Reason::BadTable`] of another mesh's net.
+pub fn leaves_of(mesh: &Mesh, net: NetRows) -> Result<Vec<Leaf>, Refusal> {
+    net.judge()?;
+    let leaves: Vec<Leaf> = mesh.leaves().collect();
+    if leaves.len() != net.cells.len() {
+        let reason = Reason::BadTable;
+        return Err(Refusal { reason, place: 0 });
+    }
+    Ok(leaves)
+}
+
+/// The nodes in metres, each layer a twentieth of the board's larger side above the one below.
+pub fn places(net: NetRows) -> Vec<[f64; 3]> {
+    let apart = larger_side(net) / 20.0;
+    let layers: BTreeSet<u16> = net.nodes.iter().map(|node| node.layer).collect();
+    let place = |node: &Node| {
+        let height = layers.range(..node.layer).count() as f64 * apart;
+        let [x, y] = [node.x, node.y].map(|ticks| ticks as f64 * TICK);
+        [x, y, height]
+    };
+    net.nodes.iter().map(place).collect()
+}
+
+fn larger_side(net: NetRows) -> f64 {
+    let along = |axis: fn(&Node) -> i64| {
+        let all = || net.nodes.iter().map(axis);
+        all().max().unwrap_or(0) - all().min().unwrap_or(0)
+    };
+    along(|node| node.x).max(along(|node| node.y)) as f64 * TICK
+}

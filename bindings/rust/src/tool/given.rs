@@ -1,0 +1,167 @@
+//! A board as the tools are given it.
+
+use super::{say, End, Terminals};
+use crate::sides::inside;
+use crate::solving::Unsolved;
+use crate::text::{self, Lines, Unclear, Whole};
+use crate::{Board, Mesh, Net, OwnedLinks, Pitch, Point, Unmeshed};
+use std::borrow::Cow;
+use std::fmt;
+
+/// A board by its record or its text. Only a text has links, and terminals of its own.
+pub struct Given {
+    pub board: Board,
+    pub links: OwnedLinks,
+    pub terminals: Terminals,
+    from: End,
+    form: Form,
+}
+
+/// What a board was given as.
+enum Form {
+    Record,
+    Text { text: String, lines: Lines },
+}
+
+impl Given {
+    /// Reads a board, and says what is odd about it on standard error. What is said of it goes with the name of its file.
+    ///
+    /// # Errors
+    ///
+    /// In words: it can't be read, or is no board.
+    pub fn read(from: &End) -> Result<Self, String> {
+        let bytes = from.read()?;
+        Given::of_bytes(bytes, from).map_err(|why| from.said(&why.to_string()))
+    }
+
+    fn of_bytes(bytes: Vec<u8>, from: &End) -> Result<Self, Unclear> {
+        if text::is_record(&bytes) {
+            return Ok(Given {
+                board: text::read_record(&bytes)?,
+                links: OwnedLinks::default(),
+                terminals: Terminals::default(),
+                from: from.clone(),
+                form: Form::Record,
+            });
+        }
+        let Whole {
+            board,
+            links,
+            terminals,
+            lines,
+            warnings,
+        } = text::parse_bytes(&bytes)?;
+        for warning in warnings {
+            say(&from.said(&format!("warning: {warning}")));
+        }
+        // The board is what its record would say.
+        let record = text::pack_board(&board, &lines)?;
+        Ok(Given {
+            board: text::read_record(&record)?,
+            links,
+            terminals: Terminals::of_text(terminals, &lines.terminals),
+            from: from.clone(),
+            form: Form::Text {
+                text: String::from_utf8_lossy(&bytes).into_owned(),
+                lines,
+            },
+        })
+    }
+
+    /// The same with more terminals: [`Terminals::take`].
+    ///
+    /// # Errors
+    ///
+    /// Those of [`Terminals::take`].
+    pub fn with_terminals(mut self, all: &[Cow<str>]) -> Result<Self, String> {
+        let pitch = self.pitch();
+        self.terminals.take(all, pitch)?;
+        Ok(self)
+    }
+
+    /// Its mesh and its net with links, or why there is none, with the line of a text.
+    ///
+    /// # Errors
+    ///
+    /// In words: the mesh or the net is refused.
+    pub fn mesh(&self) -> Result<(Mesh, Net), String> {
+        let mesh = Mesh::unjudged(&self.board).map_err(|why| self.blame(&why))?;
+        let net = self.net(&mesh)?;
+        Ok((mesh, net))
+    }
+
+    /// The net of its mesh, split further or not, with its links.
+    ///
+    /// # Errors
+    ///
+    /// In words: the net is refused.
+    pub fn net(&self, mesh: &Mesh) -> Result<Net, String> {
+        mesh.linked_net(self.links.rows())
+            .map_err(|why| self.blame(&why))
+    }
+
+    /// The text, if it was given as one.
+    pub fn text(&self) -> Option<&str> {
+        match &self.form {
+            Form::Record => None,
+            Form::Text { text, .. } => Some(text),
+        }
+    }
+
+    fn lines(&self) -> Option<&Lines> {
+        match &self.form {
+            Form::Record => None,
+            Form::Text { lines, .. } => Some(lines),
+        }
+    }
+
+    /// Of a text in millimetres.
+    pub fn pitch(&self) -> Option<Pitch> {
+        self.lines()?.pitch
+    }
+
+    /// A place in the text's unit; of a record in ticks.
+    pub fn place(&self, [x, y]: Point) -> String {
+        match self.pitch() {
+            Some(pitch) => format!("({} mm, {} mm)", pitch.millimetres(x), pitch.millimetres(y)),
+            None => format!("({x}, {y})"),
+        }
+    }
+
+    /// What is to be said of it, behind the name of its file.
+    pub fn said(&self, why: &dyn fmt::Display) -> String {
+        self.from.said(&why.to_string())
+    }
+
+    /// Why it has no mesh or no net.
+    pub fn blame(&self, why: &Unmeshed) -> String {
+        let words = match self.lines() {
+            Some(lines) => lines.blame(&self.board, why),
+            None => text::blame_record(&self.board, why),
+        };
+        self.from.said(&words)
+    }
+
+    /// Why its net, of this mesh, has no solution.
+    pub fn blame_unsolved(&self, mesh: &Mesh, net: &Net, why: &Unsolved) -> String {
+        let words = match why {
+            Unsolved::NoFit { node } => self.no_fit(mesh, net, *node, why),
+            _ => self.terminals.blame(why),
+        };
+        self.from.said(&words)
+    }
+
+    /// Behind the line of the polygon whose leaf has the node inside a side.
+    fn no_fit(&self, mesh: &Mesh, net: &Net, node: usize, why: &Unsolved) -> String {
+        let place = self.place([net.nodes[node].x, net.nodes[node].y]);
+        let words = format!("at {place}: {why}");
+        let all = inside(net.rows()).unwrap_or_default();
+        let cell = all.iter().find(|one| one.node == node).map(|one| one.cell);
+        let leaf = cell.and_then(|cell| mesh.leaves().nth(cell));
+        let line = |lines: &Lines| lines.polygons.get(leaf?.polygon).copied();
+        match self.lines().and_then(line) {
+            Some(line) => format!("line {line}: {words}"),
+            None => words,
+        }
+    }
+}

@@ -1,0 +1,117 @@
+//! A board that is solved between its terminals.
+
+use super::Given;
+use crate::solving::{Held, Solution, System, Unsolved};
+use crate::{Leaf, Mesh, Net};
+
+/// A current below this share of the largest one of a terminal is none.
+const REST: f64 = 1e-9;
+
+/// What a net is solved by.
+#[derive(Clone, Copy, Debug, PartialEq, Eq)]
+pub enum By {
+    /// Its cells, as elements.
+    Cells,
+    /// Its conductances.
+    Net,
+}
+
+/// A mesh, its net, and what its terminals bring about.
+pub struct Solved {
+    pub mesh: Mesh,
+    pub net: Net,
+    pub held: Vec<Held>,
+    pub solution: Solution,
+    /// Of each cell: the element's own, or by the slope at its centre where the net's conductances are taken.
+    pub watts: Vec<f64>,
+}
+
+impl Given {
+    /// The board's mesh and net, solved between its terminals, which are asked for by name.
+    ///
+    /// # Errors
+    ///
+    /// In words: there is no mesh, no net, no terminal or no solution.
+    pub fn solved(&self, by: By, asker: &str) -> Result<Solved, String> {
+        let (mesh, net) = self.mesh()?;
+        let judged = self.terminals.judge(asker);
+        judged.map_err(|why| self.said(&why))?;
+        self.solved_net(mesh, net, by)
+    }
+
+    /// The same of its mesh when that was split further.
+    ///
+    /// # Errors
+    ///
+    /// In words: there is no net or no solution.
+    pub fn solved_mesh(&self, mesh: Mesh, by: By) -> Result<Solved, String> {
+        let net = self.net(&mesh)?;
+        self.solved_net(mesh, net, by)
+    }
+
+    fn solved_net(&self, mesh: Mesh, net: Net, by: By) -> Result<Solved, String> {
+        let held = mesh.held(&net, self.terminals.all());
+        let solved = || -> Result<(Solution, Vec<f64>), Unsolved> {
+            match by {
+                By::Cells => {
+                    let solution = System::of_cells(&net)?.solve(&held)?;
+                    let watts = solution.cells.iter().map(|cell| cell.watts).collect();
+                    Ok((solution, watts))
+                }
+                By::Net => {
+                    let solution = System::of_net(net.rows())?.solve(&held)?;
+                    let watts = mesh.power(net.rows(), &solution.volts)?;
+                    Ok((solution, watts))
+                }
+            }
+        };
+        let (solution, watts) = solved().map_err(|why| self.blame_unsolved(&mesh, &net, &why))?;
+        Ok(Solved {
+            mesh,
+            net,
+            held,
+            solution,
+            watts,
+        })
+    }
+}
+
+impl Solved {
+    /// The leaf of the largest power over area, and its power. None of a board without leaves.
+    pub fn hottest(&self) -> Option<(Leaf, f64)> {
+        let leaves = self.mesh.leaves().zip(self.watts.iter().copied());
+        leaves.max_by(|a, b| (a.1 / a.0.area()).total_cmp(&(b.1 / b.0.area())))
+    }
+
+    /// The currents of the links' edges.
+    pub fn link_amperes(&self) -> &[f64] {
+        let edges = &self.solution.edges;
+        &edges[edges.len() - self.net.links..]
+    }
+
+    /// The powers of the links' edges.
+    pub fn link_watts(&self) -> &[f64] {
+        let edges = &self.solution.edge_watts;
+        &edges[edges.len() - self.net.links..]
+    }
+
+    /// The resistance between two terminals. None where there are more, or no current.
+    pub fn ohms(&self) -> Option<f64> {
+        let [from, to] = &self.solution.terminals[..] else {
+            return None;
+        };
+        let ohms = (from.volts - to.volts) / from.amperes;
+        ohms.is_finite().then_some(ohms)
+    }
+
+    /// A current, or 0 where it is no more than what the iteration leaves.
+    pub fn without_rest(&self, amperes: f64) -> f64 {
+        let all = self.solution.terminals.iter().map(|one| one.amperes.abs());
+        let most = all.fold(0.0, f64::max);
+        if amperes.abs() > REST * most {
+            amperes
+        } else {
+            0.0
+        }
+    }
+}
