@@ -1,17 +1,49 @@
 #!/bin/sh
 # library.sh [leafnet]: makes crates/leafmesh/out/libleafmesh.a, or the program crates/leafnet/out/leafnet, unless it is
-# there and nothing that it is made of has changed since. Says nothing where there is nothing to do.
+# there and made of what stands here. Says nothing where there is nothing to do.
+#
+# It is made of its own crate and the crates below that, by crates.txt: of each its line there, src, specs and proofs.
+# A sum of these and of what was made stands beside it, with the ending .sum; the times of files count for nothing.
 set -eu
-cd "$(dirname "$0")/.."
-case "${1:-}" in
-'') crate=leafmesh made=crates/leafmesh/out/libleafmesh.a what="rt lib" ;;
-leafnet) crate=leafnet made=crates/leafnet/out/leafnet what="rt run" ;;
-*)
-    echo "usage: library.sh [leafnet]" >&2
-    exit 2
-    ;;
+# shellcheck source=usage.sh
+. "$(dirname "$0")/usage.sh"
+answer_help "$@"
+case "$#${1:-}" in
+0) crate=leafmesh made=crates/leafmesh/out/libleafmesh.a what="rt lib" ;;
+1leafnet) crate=leafnet made=crates/leafnet/out/leafnet what="rt run" ;;
+*) refuse_words "[leafnet]" ;;
 esac
-if [ -f "$made" ] && [ -z "$(find crates crates.txt -name out -prune -o -newer "$made" -type f -print -quit)" ]; then
+cd "$(dirname "$0")/.."
+
+# The lines of crates.txt of this crate and of those below it. A name without a line is one of the kit's.
+lines() {
+    awk -v top="$crate" '
+        { sub(/#.*/, ""); $1 = $1 }
+        NF { split($0, head, "[ :]"); line[head[1]] = $0 }
+        function walk(name, used, uses, i) {
+            if (name in seen || !(name in line)) return
+            seen[name]
+            print line[name]
+            uses = split(substr(line[name], index(line[name], ":") + 1), used, " ")
+            for (i = 1; i <= uses; i++) walk(used[i])
+        }
+        END { walk(top) }' crates.txt
+}
+
+# What the compiler takes of these crates, by name and content.
+sources() {
+    lines
+    lines | sed 's/[ :].*//' | while read -r name; do
+        find "crates/$name" \( -path "crates/$name/src/*" -o -path "crates/$name/specs/*" \
+            -o -path "crates/$name/proofs/*" -o -path "crates/$name/BUILD.bazel" \) -type f -exec sha256sum {} +
+    done | LC_ALL=C sort
+}
+
+# The sum of some sources and of what was made of them.
+sum_with() { { printf '%s\n' "$1" && sha256sum <"$made"; } | sha256sum; }
+
+now=$(sources)
+if [ -f "$made" ] && [ -f "$made.sum" ] && [ "$(sum_with "$now")" = "$(cat "$made.sum")" ]; then
     exit 0
 fi
 command -v rt >/dev/null || {
@@ -26,5 +58,9 @@ echo "$what in crates/$crate: the first run proves every crate it needs and take
     tail -n 20 "$log" >&2
     exit 1
 }
-# What was proved already leaves an older file.
-touch "$made"
+[ -f "$made" ] || {
+    echo "library.sh: \`$what\` ended well in crates/$crate, and there is no $made" >&2
+    exit 1
+}
+# Of the sources as they stood before: what was edited meanwhile may not be in it.
+sum_with "$now" >"$made.sum"

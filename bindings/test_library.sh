@@ -1,0 +1,126 @@
+#!/bin/sh
+# test_library.sh: library.sh makes library and program where they aren't there or not of these sources, and only then.
+# It is tried on a copy of the crates, with a stand-in for rt that notes its calls and proves nothing.
+set -eu
+# shellcheck source=usage.sh
+. "$(dirname "$0")/usage.sh"
+take_no_words "$@"
+cd "$(dirname "$0")/.."
+folder=$(mktemp -d)
+trap 'rm -rf "$folder"' EXIT
+copy=$folder/copy
+mkdir -p "$copy" "$folder/bin"
+tar --exclude=out -cf - crates crates.txt bindings/library.sh bindings/usage.sh | tar -xf - -C "$copy"
+
+cat >"$folder/bin/rt" <<'RT'
+#!/bin/sh
+crate=$(basename "$PWD")
+echo "$1 $crate" >>"$RT_CALLS"
+[ -z "${RT_EDITS:-}" ] || echo "// edited meanwhile" >>"$RT_EDITS"
+[ -z "${RT_FAILS:-}" ] || {
+    echo "rt: $crate isn't proved"
+    exit 1
+}
+mkdir -p out
+case $1 in
+lib) echo "made of $(cat src/*.rt | wc -c) bytes" >"out/lib$crate.a" ;;
+run) echo "made" >"out/$crate" ;;
+esac
+RT
+chmod +x "$folder/bin/rt"
+RT_CALLS=$folder/calls
+export RT_CALLS
+
+fail() {
+    echo "test_library.sh: $*" >&2
+    exit 1
+}
+# Ends as library.sh does, and leaves what it called and what it said.
+run() {
+    : >"$folder/calls"
+    PATH="$folder/bin:$PATH" "$copy/bindings/library.sh" "$@" >"$folder/printed" 2>"$folder/said"
+}
+makes() { # WHAT WHY [WORD]
+    what=$1 why=$2
+    shift 2
+    run "$@" || fail "$why: ended with $?: $(cat "$folder/said")"
+    [ "$(cat "$folder/calls")" = "$what" ] || fail "$why: rt was called for '$(cat "$folder/calls")', not for '$what'"
+}
+makes_both() { # WHY
+    makes "lib leafmesh" "$1"
+    makes "run leafnet" "$1" leafnet
+}
+makes_none() { # WHY
+    makes "" "$1"
+    [ ! -s "$folder/said" ] || fail "$1: said $(cat "$folder/said")"
+    makes "" "$1" leafnet
+}
+
+makes_both "nothing is there"
+makes_none "all is there"
+find "$copy" -type f -exec touch -d '2040-01-01' {} +
+makes_none "all files are newer"
+find "$copy" -type f -exec touch -d '2020-01-01' {} +
+makes_none "all files are of one time"
+
+# What the compiler doesn't take of them.
+mkdir -p "$copy/docs" "$copy/crates/refusals/data"
+echo "# another edit" >"$copy/crates/refusals/must-fail/another.edit"
+for file in crates/table/must-fail/new.edit crates/replay_table/stdin crates/leafnet/stdout crates/refusals/NOTES.md \
+    crates/refusals/data/board crates/calls/src/lib.rt crates/replay_net/src/main.rt docs/RULES.md; do
+    echo "more" >>"$copy/$file"
+done
+echo "another: refusals # that nothing stands on" >>"$copy/crates.txt"
+makes_none "cases, tests, edits and pages were edited"
+
+# What it takes.
+for file in crates/refusals/src/lib.rt crates/refusals/specs/Lib.antt crates/refusals/proofs/Lib.antt; do
+    echo "-- more" >>"$copy/$file"
+    makes_both "$file was edited"
+    makes_none "$file was edited before"
+done
+echo "// a new one" >"$copy/crates/refusals/src/new.rt"
+makes_both "a source came"
+mv "$copy/crates/refusals/src/new.rt" "$copy/crates/refusals/src/newer.rt"
+makes_both "a source has another name"
+rm "$copy/crates/refusals/src/newer.rt"
+makes_both "a source went"
+sed -i 's/^cell:/cell opt_level=1:/' "$copy/crates.txt"
+makes_both "a crate's line was edited"
+echo "// more" >>"$copy/crates/leafmesh/src/lib.rt"
+makes "" "what leafnet doesn't stand on was edited" leafnet
+makes "lib leafmesh" "its own source was edited"
+echo "// more" >>"$copy/crates/leafnet_text/src/lib.rt"
+makes "" "what the library doesn't stand on was edited"
+makes "run leafnet" "a source below it was edited" leafnet
+
+# What was made.
+echo "another build" >"$copy/crates/leafmesh/out/libleafmesh.a"
+makes "lib leafmesh" "the library is another one"
+rm "$copy/crates/leafmesh/out/libleafmesh.a"
+makes "lib leafmesh" "the library is gone"
+export RT_EDITS="$copy/crates/refusals/src/lib.rt"
+rm "$copy/crates/leafmesh/out/libleafmesh.a"
+makes "lib leafmesh" "a source is edited while it is proved"
+unset RT_EDITS
+makes_both "a source was edited while it was proved"
+makes_none "nothing happened since"
+
+echo "// more" >>"$copy/crates/refusals/src/lib.rt"
+export RT_FAILS=1
+if run; then fail "ended well, and rt didn't"; fi
+grep -q "isn't proved" "$folder/said" || fail "rt's words aren't told: $(cat "$folder/said")"
+unset RT_FAILS
+makes_both "rt failed before"
+
+# Without rt.
+tools=$folder/tools
+mkdir "$tools"
+for tool in sh awk cat chmod dirname find mktemp rm sed sha256sum sort tail; do
+    ln -s "$(command -v "$tool")" "$tools/$tool"
+done
+PATH=$tools "$copy/bindings/library.sh" 2>"$folder/said" || fail "nothing to do, and no rt: $(cat "$folder/said")"
+echo "// more" >>"$copy/crates/refusals/src/lib.rt"
+if PATH=$tools "$copy/bindings/library.sh" 2>"$folder/said"; then fail "ended well without rt"; fi
+grep -q "there is no rt" "$folder/said" || fail "no rt isn't told: $(cat "$folder/said")"
+echo "library.sh: as expected"
