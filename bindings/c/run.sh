@@ -1,7 +1,11 @@
 #!/bin/sh
-# Installs header and library into a folder of its own, builds the C programs against them by pkg-config, as C99 and
-# C11 and what can be as C++17, with every warning an error, runs them, and holds what they print to what is expected.
+# Installs header and library into a folder of its own, builds the C programs against the static one by pkg-config, as
+# C99 and C11 and what can be as C++17, with every warning an error, runs them, and holds what they print to what is
+# expected.
 set -eu
+# shellcheck source=../usage.sh
+. "$(dirname "$0")/../usage.sh"
+take_no_words "$@"
 cd "$(dirname "$0")"
 for tool in cc c++ pkg-config; do
     command -v "$tool" >/dev/null || {
@@ -14,7 +18,7 @@ trap 'rm -rf "$folder"' EXIT
 ../../install.sh "$folder/prefix" >/dev/null
 export PKG_CONFIG_PATH="$folder/prefix/lib/pkgconfig"
 cflags=$(pkg-config --cflags leafmesh)
-libs=$(pkg-config --libs leafmesh)
+libs=$(pkg-config --libs leafmesh-static)
 strict="-Wall -Wextra -pedantic -Werror"
 echo '#include <leafmesh.h>' >"$folder/header.c"
 # shellcheck disable=SC2086
