@@ -5,14 +5,14 @@
 #   figures.sh --check     exits with 1 if the page has others
 #   figures.sh --write     puts them into the page
 set -eu
-cd "$(dirname "$0")"
-case "${1:-}" in
-'' | --check | --write) ;;
-*)
-    echo "usage: figures.sh [--check | --write]" >&2
-    exit 2
-    ;;
+# shellcheck source=usage.sh
+. "$(dirname "$0")/usage.sh"
+answer_help "$@"
+case "$#${1:-}" in
+0 | 1--check | 1--write) ;;
+*) refuse_words "[--check | --write]" ;;
 esac
+cd "$(dirname "$0")"
 [ -n "${LEAFMESH_LIBRARY:-}" ] || ./library.sh
 folder=$(mktemp -d)
 trap 'rm -rf "$folder"' EXIT

@@ -1,7 +1,11 @@
 #!/bin/sh
 # All tests of the bindings, tools and examples, from a clean clone on: makes the library and leafnet if need be, then
-# says what it runs, and ends with 1 at the first thing that isn't as it should be.
+# says what it runs, and ends with 1 at the first thing that isn't as it should be. With LEAFMESH_LIBRARY or
+# LEAFMESH_PROGRAM set they aren't made but taken from there.
 set -eu
+# shellcheck source=usage.sh
+. "$(dirname "$0")/usage.sh"
+take_no_words "$@"
 cd "$(dirname "$0")"
 root=$(cd .. && pwd)
 for tool in cargo cc c++ pkg-config; do
@@ -15,7 +19,12 @@ if [ -n "${LEAFMESH_LIBRARY:-}" ]; then
 else
     ./library.sh
 fi
-./library.sh leafnet
+if [ -n "${LEAFMESH_PROGRAM:-}" ]; then
+    echo "program: $LEAFMESH_PROGRAM"
+else
+    ./library.sh leafnet
+fi
+leafnet=${LEAFMESH_PROGRAM:-$root/crates/leafnet/out/leafnet}
 folder=$(mktemp -d)
 trap 'rm -rf "$folder"' EXIT
 
@@ -35,6 +44,13 @@ grep -qx "version = \"$version\"" rust/Cargo.toml || fail "Cargo.toml has anothe
     fail "CHANGELOG.md doesn't begin with $version"
 grep -qx 'license = "MIT OR Apache-2.0"' rust/Cargo.toml || fail "Cargo.toml has another licence"
 grep -q 'MIT OR Apache-2.0' ../LICENSE || fail "LICENSE has another licence"
+
+say "usage of all scripts, and when library.sh makes what"
+./test_usage.sh
+./test_library.sh
+
+say "installed, and linked by pkg-config and CMake"
+linking/test.sh
 
 say "header and C programs, as C99, C11 and C++17"
 c/run.sh
@@ -79,7 +95,7 @@ say "leafnet's text of the sample boards, by the program and by the bindings"
 (cd rust && cargo build --offline --release --quiet --bins)
 bin=${CARGO_TARGET_DIR:-$root/bindings/rust/target}/release
 for record in ../boards/*.record; do
-    "$root/crates/leafnet/out/leafnet" <"$record" >"$folder/leafnet.txt"
+    "$leafnet" <"$record" >"$folder/leafnet.txt"
     "$bin/board" net <"$record" >"$folder/board.txt"
     case $record in
     */deep.record | */fine_neck.record | */shunt.record)

@@ -9,9 +9,9 @@ found again in its crate, or under its name in one other crate, unless CHANCE sa
 Theorems are paired by the table of docs/DESIGN-PASS.md. A record that was named after a number, which is what balance
 and conform promise, is shown under its present name.
 """
+import argparse
 import collections
 import re
-import sys
 
 from design_pass import files, matching
 
@@ -178,7 +178,13 @@ def meaning(items):
 
 
 def main():
-    old_commit, new_commit = (sys.argv[1:] + ['HEAD'])[:2]
+    parser = argparse.ArgumentParser(description=__doc__, formatter_class=argparse.RawDescriptionHelpFormatter,
+                                     usage='design_changes.py OLD [NEW]', add_help=False)
+    parser.add_argument('--help', action='help')
+    parser.add_argument('old', metavar='OLD')
+    parser.add_argument('new', metavar='NEW', nargs='?', default='HEAD')
+    words = parser.parse_args()
+    old_commit, new_commit = words.old, words.new
     old, new = read(old_commit), read(new_commit)
     print('# What changed of what callers and readers see\n')
     print(f'Written by `python3 docs/design_changes.py {old_commit} {new_commit} > docs/DESIGN-CHANGES.md`, whose head '

@@ -4,11 +4,11 @@
 --list prints the places of each count whose name has WORD in it; --again counts another way, by one pattern a row over
 the lines of code, and says nothing of what the places mean.
 """
+import argparse
 import collections
 import io
 import re
 import subprocess
-import sys
 import tarfile
 
 
@@ -103,15 +103,23 @@ def again(commit):
         print(f'{n[row]:7,}  {row}')
 
 
+def words_taken():
+    parser = argparse.ArgumentParser(description=__doc__, formatter_class=argparse.RawDescriptionHelpFormatter,
+                                     usage='design_pass.py [--list WORD | --again] [COMMIT]', add_help=False)
+    parser.add_argument('--help', action='help')
+    either = parser.add_mutually_exclusive_group()
+    either.add_argument('--list', metavar='WORD')
+    either.add_argument('--again', action='store_true')
+    parser.add_argument('commit', metavar='COMMIT', nargs='?', default='HEAD')
+    return parser.parse_args()
+
+
 def main():
-    args = sys.argv[1:]
-    if args[:1] == ['--again']:
-        again(args[1] if args[1:] else 'HEAD')
+    words = words_taken()
+    wanted, commit = words.list, words.commit
+    if words.again:
+        again(commit)
         return
-    wanted = None
-    if args[:1] == ['--list']:
-        wanted, args = args[1], args[2:]
-    commit = args[0] if args else 'HEAD'
     n, places = collections.Counter(), collections.defaultdict(list)
 
     def add(word, place, text='', count=1):

@@ -11,16 +11,14 @@
 # The builds are linked in two orders, and the least time of both counts: where the linker places a loop makes up to a
 # fifth of a short call. What takes less than 20 us in both is left out.
 set -eu
-
+# shellcheck source=../bindings/usage.sh
+. "$(dirname "$0")/../bindings/usage.sh"
 differ=
 if [ "${1:-}" = --without-leaves ]; then
     differ=-DWITHOUT_LEAVES
     shift
 fi
-[ $# -ge 1 ] || {
-    echo "usage: beside.sh [--without-leaves] OLD [NEW]" >&2
-    exit 2
-}
+take_names 1 2 "[--without-leaves] OLD [NEW]" "$@"
 here=$(cd "$(dirname "$0")" && pwd)
 old=$1
 new=${2:-$here/../crates/leafmesh/out/libleafmesh.a}

@@ -9,6 +9,25 @@
 # Exits with 1 if anything differs. With LEAFMESH_LIBRARY or LEAFMESH_PROGRAM set, the port isn't made
 # but taken from there.
 set -eu
+# shellcheck source=../bindings/usage.sh
+. "$(dirname "$0")/../bindings/usage.sh"
+answer_help "$@"
+take_words() { # [CALLS [COUNT [SEED]]], or bench or heap before CALLS
+    most=3
+    case ${1:-} in
+    bench | heap)
+        shift
+        most=1
+        ;;
+    esac
+    [ $# -le $most ] || return 1
+    case ${1:-all} in
+    contact | table | even | later | large | strips | build | record | power | network | links | checks | leafnet | all) ;;
+    *) return 1 ;;
+    esac
+    is_number "${2:-0}" && is_number "${3:-0}"
+}
+take_words "$@" || refuse_words "[CALLS [COUNT [SEED]] | bench [CALLS] | heap [CALLS]]"
 
 cd "$(dirname "$0")"
 . ./setup.sh

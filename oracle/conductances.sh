@@ -4,6 +4,9 @@
 #
 # Exits with 1 if a number differs. With LEAFMESH_LIBRARY set, the port isn't made but taken from there.
 set -eu
+# shellcheck source=../bindings/usage.sh
+. "$(dirname "$0")/../bindings/usage.sh"
+take_no_words "$@"
 cd "$(dirname "$0")"
 . ./setup.sh
 [ -n "${LEAFMESH_LIBRARY:-}" ] || ../bindings/library.sh

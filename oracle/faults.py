@@ -13,6 +13,7 @@ gate: each takes half a minute.
 Of each program only the cases at the limits are run, which stand in front; of a group, a few random inputs.
 """
 
+import argparse
 import os
 import re
 import shutil
@@ -358,6 +359,7 @@ def copied_oracle(folder):
     for part in ("oracle", "bindings/rust"):
         no_work = shutil.ignore_patterns("target")
         shutil.copytree(os.path.join(ROOT, part), os.path.join(folder, part), ignore=no_work)
+    shutil.copy(os.path.join(ROOT, "bindings", "usage.sh"), os.path.join(folder, "bindings"))
     if "LEAFMESH_LIBRARY" not in os.environ:
         subprocess.run([os.path.join(ROOT, "bindings", "library.sh")], check=True)
     library = os.environ.get("LEAFMESH_LIBRARY", os.path.join("..", "..", "crates", "leafmesh", "out"))
@@ -384,9 +386,22 @@ def result_of(folder, fault):
     return ("SURVIVED", False) if caught is None else (f"caught by {caught}", True)
 
 
+def chosen_faults():
+    """Those that the words name; a word that names none is refused."""
+    parser = argparse.ArgumentParser(description=__doc__, formatter_class=argparse.RawDescriptionHelpFormatter,
+                                     usage="faults.py [WORD...]", add_help=False)
+    parser.add_argument("--help", action="help")
+    parser.add_argument("words", metavar="WORD", nargs="*")
+    words = parser.parse_args().words
+    lines = [" ".join(fault[:3]) for fault in FAULTS]
+    for word in words:
+        if not any(word in line for line in lines):
+            parser.error(f"no fault has {word!r} in its line")
+    return [fault for fault, line in zip(FAULTS, lines) if not words or any(word in line for word in words)]
+
+
 def main():
-    words = sys.argv[1:]
-    faults = [fault for fault in FAULTS if not words or any(word in " ".join(fault[:3]) for word in words)]
+    faults = chosen_faults()
     folder = tempfile.mkdtemp()
     try:
         kept_work = shutil.ignore_patterns("out")

@@ -6,6 +6,9 @@
 #
 # Exits with 1 if leaves differ. With LEAFMESH_LIBRARY set the port's library is taken from there and not made.
 set -eu
+# shellcheck source=../bindings/usage.sh
+. "$(dirname "$0")/../bindings/usage.sh"
+take_no_words "$@"
 cd "$(dirname "$0")"
 
 folder=$(mktemp -d)

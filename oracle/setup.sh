@@ -3,6 +3,12 @@
 #
 # The port's library is always x86-64. On an x86-64 machine nothing is needed. On an Arm machine
 # with Debian the driver is built for x86-64 and emulated, library and original alike.
+case ${0##*/} in
+setup.sh)
+    . "$(dirname "$0")/../bindings/usage.sh"
+    take_no_words "$@"
+    ;;
+esac
 
 if [ "$(uname -m)" != x86_64 ]; then
     missing=""

@@ -5,7 +5,9 @@
 #
 # With LEAFMESH_LIBRARY or LEAFMESH_PROGRAM set, the port isn't made but taken from there.
 set -eu
-
+# shellcheck source=../bindings/usage.sh
+. "$(dirname "$0")/../bindings/usage.sh"
+take_no_words "$@"
 cd "$(dirname "$0")"
 . ./setup.sh
 [ -n "${LEAFMESH_LIBRARY:-}" ] || ../bindings/library.sh

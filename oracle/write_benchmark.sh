@@ -7,6 +7,9 @@
 #
 # Exits with 1 if answers differ.
 set -eu
+# shellcheck source=../bindings/usage.sh
+. "$(dirname "$0")/../bindings/usage.sh"
+take_no_words "$@"
 cd "$(dirname "$0")"
 
 said=$(mktemp)
@@ -17,9 +20,11 @@ trap 'rm -f "$said" "$page"' EXIT
 LEAFMESH_LIBRARY=${LEAFMESH_LIBRARY:-$(cd .. && pwd)/crates/leafmesh/out}
 LEAFMESH_PROGRAM=${LEAFMESH_PROGRAM:-$(cd .. && pwd)/crates/leafnet/out/leafnet}
 export LEAFMESH_LIBRARY LEAFMESH_PROGRAM
-./compare.sh heap >>"$said"
-./stack.sh >>"$said"
-./p4est.sh >>"$said"
+{
+    ./compare.sh heap
+    ./stack.sh
+    ./p4est.sh
+} >>"$said"
 
 awk -f benchmark.awk "$said" benchmark_text.md >"$page"
 cp "$page" ../docs/BENCHMARK.md

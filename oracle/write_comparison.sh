@@ -5,6 +5,9 @@
 #
 # Exits with 1 if anything differs; what was run is written then, too.
 set -eu
+# shellcheck source=../bindings/usage.sh
+. "$(dirname "$0")/../bindings/usage.sh"
+take_count_and_seed "$@"
 cd "$(dirname "$0")"
 
 said=$(mktemp)

@@ -3,13 +3,9 @@
 # bottom to the top of each component, as OUT-power.svg, and the borders between its cells as OUT-borders.svg. OUT is
 # the board's name without its ending unless it is given. All files are written, or none.
 set -eu
-case $# in
-1 | 2) ;;
-*)
-    echo "usage: draw.sh BOARD [OUT]" >&2
-    exit 2
-    ;;
-esac
+# shellcheck source=../usage.sh
+. "$(dirname "$0")/../usage.sh"
+take_names 1 2 "BOARD [OUT]" "$@"
 board=$1
 name=${board%.record}
 name=${name%.txt}
