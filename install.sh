@@ -3,8 +3,8 @@
 # lib/pkgconfig, lib/cmake/leafmesh), and says which settings find them there.
 # install.sh --version: says which version that is.
 #
-# The library is libleafmesh.a and, made of it where there is a C compiler for x86-64 (cc, or the one that CC names), the
-# shared library with its links. With DESTDIR set all of it goes below that folder, and the files still say PREFIX.
+# The library is libleafmesh.a and, made of it where there is a C compiler for x86-64 (cc, or the one that CC names),
+# the shared library with its links. With DESTDIR set all of it goes below that folder, and the files still say PREFIX.
 # libleafmesh.a is made first unless it is there, or taken from the folder that LEAFMESH_LIBRARY names.
 set -eu
 root=$(cd "$(dirname "$0")" && pwd)
@@ -41,8 +41,8 @@ compiler_is_there() {
     esac
 }
 
-# Writes what a template says of this version and prefix. pkg-config reads the prefix between double quotes, and # as the
-# start of a comment; sed reads what pkg-config is to read.
+# Writes what a template says of this version and prefix. pkg-config reads the prefix between double quotes, and # as
+# the start of a comment; sed reads what pkg-config is to read.
 write_by() { # TEMPLATE TO
     written=$(printf %s "$prefix" | sed 's/[\\"`$]/\\&/g; s/#/\\#/g' | sed 's/[\\&|]/\\&/g')
     sed "s|@VERSION@|$version|; s|@SERIES@|$series|; s|@PREFIX@|$written|" "$root/bindings/linking/$1.in" >"$2/$1"

@@ -47,7 +47,7 @@ if [ -f "$made" ] && [ -f "$made.sum" ] && [ "$(sum_with "$now")" = "$(cat "$mad
     exit 0
 fi
 command -v rt >/dev/null || {
-    echo "library.sh: $made is to be made by \`$what\` in crates/$crate, and there is no rt: see README.md, \"Run it\"" >&2
+    echo "library.sh: $made is to be made by \`$what\` in crates/$crate, and there is no rt: README.md, \"Run it\"" >&2
     exit 1
 }
 log=$(mktemp)

@@ -39,6 +39,7 @@ version=$(sed -n 's/^#define LEAFMESH_VERSION "\(.*\)"$/\1/p' ../include/leafmes
 parts=$(sed -n 's/^#define LEAFMESH_VERSION_[A-Z]* \([0-9]*\)$/\1/p' ../include/leafmesh.h | paste -sd .)
 [ "$version" = "$parts" ] || fail "the header says $version and $parts"
 grep -qx "version = \"$version\"" rust/Cargo.toml || fail "Cargo.toml has another version than $version"
+grep -qx "VERSION = \"$version\"" python/leafmesh/_version.py || fail "_version.py has another version than $version"
 # What is still to get a number stands first, as Unreleased.
 [ "$(sed -n 's/^## //p' ../CHANGELOG.md | grep -vx Unreleased | head -n 1)" = "$version" ] ||
     fail "CHANGELOG.md doesn't begin with $version"
@@ -51,6 +52,9 @@ say "usage of all scripts, and when library.sh makes what"
 
 say "installed, and linked by pkg-config and CMake"
 linking/test.sh
+
+say "Python: calls, layouts, and nets of the sample boards"
+python/test.sh
 
 say "header and C programs, as C99, C11 and C++17"
 c/run.sh

@@ -40,7 +40,7 @@ count=0
 for script in $(cd "$root" && find install.sh bindings oracle -name '*.sh' -not -path '*/target/*'); do
     case $script in
     # Read by others and not run.
-    bindings/usage.sh | bindings/linking/version.sh) continue ;;
+    bindings/usage.sh | bindings/linking/version.sh | bindings/python/which.sh) continue ;;
     esac
     helps "$root/$script"
     refuses "$root/$script" --no-such-word

@@ -12,6 +12,7 @@ set -eu
 # shellcheck source=../bindings/usage.sh
 . "$(dirname "$0")/../bindings/usage.sh"
 answer_help "$@"
+groups=$(sed -n 's/.* name: "\([a-z]*\)",.*/\1/p' "$(dirname "$0")/compare/src/main.rs")
 take_words() { # [CALLS [COUNT [SEED]]], or bench or heap before CALLS
     most=3
     case ${1:-} in
@@ -20,12 +21,8 @@ take_words() { # [CALLS [COUNT [SEED]]], or bench or heap before CALLS
         most=1
         ;;
     esac
-    [ $# -le $most ] || return 1
-    case ${1:-all} in
-    contact | table | even | later | large | strips | build | record | power | network | links | checks | leafnet | all) ;;
-    *) return 1 ;;
-    esac
-    is_number "${2:-0}" && is_number "${3:-0}"
+    [ $# -le $most ] && printf 'all\n%s\n' "$groups" | grep -qxF -e "${1:-all}" &&
+        is_number "${2:-0}" && is_number "${3:-0}"
 }
 take_words "$@" || refuse_words "[CALLS [COUNT [SEED]] | bench [CALLS] | heap [CALLS]]"
 

@@ -1,7 +1,6 @@
 #!/bin/sh
-# Runs all benchmarks and writes docs/BENCHMARK.md from what they print: times of port and original in
-# one run, then in other runs the heap that each takes, the stack that the port takes, and balance beside p4est where that
-# is installed.
+# Runs all benchmarks and writes docs/BENCHMARK.md from what they print: times of port and original in one run, then in
+# other runs the heap that each takes, the stack that the port takes, and balance beside p4est where that is installed.
 #
 #   write_benchmark.sh
 #

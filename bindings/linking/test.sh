@@ -8,6 +8,8 @@ take_no_words "$@"
 cd "$(dirname "$0")"
 # shellcheck source=version.sh
 . ./version.sh
+# shellcheck source=../python/which.sh
+. ../python/which.sh
 root=$(cd ../.. && pwd)
 version=$(version_of "$root/include/leafmesh.h")
 series=$(series_of "$version")
@@ -115,6 +117,34 @@ if grep -q LD_LIBRARY_PATH "$folder/settings"; then fail "a setting for a shared
 [ -e "$old/lib/libleafmesh.so.0.1.0" ] || fail "programs of before lack their library"
 PKG_CONFIG_PATH=$old/lib/pkgconfig builds "$folder/alone" leafmesh
 runs "$folder/alone"
+
+# The commands of docs/LINKING.md, block by block.
+block_of() { # NUMBER
+    awk -v wanted="$1" '/^```sh$/ { at++; inside = 1; next } /^```$/ { inside = 0 } inside && at == wanted' \
+        "$root/docs/LINKING.md"
+}
+lacks() { # BLOCK
+    case $1 in
+    *cmake*) command -v cmake >/dev/null || echo cmake ;;
+    *cargo*) command -v cargo >/dev/null || echo cargo ;;
+    *python3*) [ -n "$python" ] || echo "python3 with numpy" ;;
+    esac
+}
+python=$(python_with_numpy)
+mkdir "$folder/bin"
+[ -z "$python" ] || ln -s "$python" "$folder/bin/python3"
+number=1
+while block=$(block_of $number) && [ -n "$block" ]; do
+    missing=$(lacks "$block")
+    if [ -n "$missing" ]; then
+        echo "linking: block $number of docs/LINKING.md left out: that needs $missing"
+    else
+        (cd "$root" && PREFIX=$folder/manual PATH=$folder/bin:$PATH sh -eu -c "$block") >"$folder/said" 2>&1 ||
+            fail "docs/LINKING.md, block $number: $(cat "$folder/said")"
+    fi
+    number=$((number + 1))
+done
+[ $number -gt 6 ] || fail "docs/LINKING.md has too few blocks of commands"
 
 if ! command -v cmake >/dev/null; then
     echo "linking: CMake left out: that needs cmake"

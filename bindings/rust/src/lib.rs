@@ -112,10 +112,14 @@
 
 #![warn(missing_docs)]
 
-/// The example of the repository's first page is tested, too.
+/// The examples of the first pages are compiled and run with the tests.
 #[cfg(doctest)]
-#[doc = include_str!("../../../README.md")]
-mod first_page {}
+mod first_pages {
+    #[doc = include_str!("../../../README.md")]
+    struct Repository;
+    #[doc = include_str!("../README.md")]
+    struct Crate;
+}
 
 mod borders;
 pub mod csv;

@@ -1,0 +1,39 @@
+#!/bin/sh
+# test.sh: the tests of the Python package. Where there is no python3 with numpy, or no C compiler to make the shared
+# library, a line says so, and that is all. PYTHON names another python3.
+set -eu
+# shellcheck source=../usage.sh
+. "$(dirname "$0")/../usage.sh"
+take_no_words "$@"
+# shellcheck source=which.sh
+. "$(dirname "$0")/which.sh"
+cd "$(dirname "$0")"
+root=$(cd ../.. && pwd)
+python=$(python_with_numpy)
+[ -n "$python" ] || {
+    echo "python left out: that needs python3 with numpy"
+    exit 0
+}
+command -v "${CC:-cc}" >/dev/null || {
+    echo "python left out: the shared library needs a C compiler, cc or the one that CC names"
+    exit 0
+}
+[ -n "${LEAFMESH_LIBRARY:-}" ] || ../library.sh
+[ -n "${LEAFMESH_PROGRAM:-}" ] || ../library.sh leafnet
+folder=$(mktemp -d)
+trap 'rm -rf "$folder"' EXIT
+if command -v cargo >/dev/null; then
+    (cd ../rust && cargo build --offline --release --quiet --bin board)
+    LEAFMESH_BOARD=${CARGO_TARGET_DIR:-$root/bindings/rust/target}/release/board
+    export LEAFMESH_BOARD
+else
+    echo "python: boards past leafnet's 64 slots left out: that needs cargo"
+fi
+../linking/shared.sh "${LEAFMESH_LIBRARY:-$root/crates/leafmesh/out}/libleafmesh.a" "$folder"
+LEAFMESH_PROGRAM=${LEAFMESH_PROGRAM:-$root/crates/leafnet/out/leafnet}
+export LEAFMESH_PROGRAM
+LEAFMESH_LIBRARY=$folder "$python" -B -W error -m unittest discover -q -s tests -t . 2>"$folder/said" || {
+    cat "$folder/said" >&2
+    exit 1
+}
+sed -n 's/^Ran \(.*\) in .*/python: \1, as expected/p' "$folder/said"
