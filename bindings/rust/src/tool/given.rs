@@ -14,13 +14,8 @@ pub struct Given {
     pub links: OwnedLinks,
     pub terminals: Terminals,
     from: End,
-    form: Form,
-}
-
-/// What a board was given as.
-enum Form {
-    Record,
-    Text { text: String, lines: Lines },
+    /// With the lines of its parts; none of a record.
+    text: Option<(String, Lines)>,
 }
 
 impl Given {
@@ -41,7 +36,7 @@ impl Given {
                 links: OwnedLinks::default(),
                 terminals: Terminals::default(),
                 from: from.clone(),
-                form: Form::Record,
+                text: None,
             });
         }
         let Whole {
@@ -61,10 +56,7 @@ impl Given {
             links,
             terminals: Terminals::of_text(terminals, &lines.terminals),
             from: from.clone(),
-            form: Form::Text {
-                text: String::from_utf8_lossy(&bytes).into_owned(),
-                lines,
-            },
+            text: Some((String::from_utf8_lossy(&bytes).into_owned(), lines)),
         })
     }
 
@@ -102,17 +94,11 @@ impl Given {
 
     /// The text, if it was given as one.
     pub fn text(&self) -> Option<&str> {
-        match &self.form {
-            Form::Record => None,
-            Form::Text { text, .. } => Some(text),
-        }
+        self.text.as_ref().map(|(text, _)| text.as_str())
     }
 
     fn lines(&self) -> Option<&Lines> {
-        match &self.form {
-            Form::Record => None,
-            Form::Text { lines, .. } => Some(lines),
-        }
+        self.text.as_ref().map(|(_, lines)| lines)
     }
 
     /// Of a text in millimetres.
