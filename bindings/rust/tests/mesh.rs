@@ -47,8 +47,9 @@ impl Dice {
 #[test]
 fn a_region_is_refined_and_nothing_else() {
     let mut mesh = meshed(TWO);
-    // Three quarters of base cell 5 and a sliver of its neighbours; of layer 2 a part of one cell.
-    assert_eq!(mesh.refine_region(region([17, 17, 33, 32], 2)), Ok(18));
+    // Of layer 1 a cell and a sliver of the next one: 2 splits, and of their quarters 4 and 2. Of layer 2 parts of two
+    // cells: 2, and 1 and 1.
+    assert_eq!(mesh.refine_region(region([17, 17, 33, 32], 2)), Ok(12));
     for leaf in mesh.leaves() {
         let [x0, y0, x1, y1] = leaf.rect;
         let is_in = x0 < 33 && x1 > 17 && y0 < 32 && y1 > 17;
@@ -116,7 +117,7 @@ fn rounds_by_heat_end_before_they_have_no_room() {
     let mut rounds = 0;
     let last = loop {
         let before = mesh.clone();
-        match mesh.refine_hottest(&heat(&mesh), 0.5) {
+        match mesh.refine_hottest(&heat(&mesh), 0.1) {
             Ok(splits) => {
                 assert_eq!(mesh.head().count, before.head().count + 4 * splits);
                 assert_eq!(mesh.balance(), Ok(0));

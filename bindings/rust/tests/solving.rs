@@ -131,31 +131,27 @@ fn the_power_at_the_centre_is_at_most_the_element_s() {
     assert!(sum < solution.watts() && sum > 0.9 * solution.watts());
 }
 
-/// Pads of 48 by 48 and a neck of 16 by 8 that lies across.
+/// Pads of 192 by 192 and a neck of 64 by 32 that lies across, one base cell wide.
 const NECK: &str =
-    "level 4\ntarget 8\npolygon 1 0 0.5\n0 0\n48 0\n48 16\n64 16\n64 0\n112 0\n112 48\n64 48\n\
-    64 24\n48 24\n48 48\n0 48\n";
+    "level 4\ntarget 32\npolygon 1 0 0.5\n0 0\n192 0\n192 64\n256 64\n256 0\n448 0\n448 192\n\
+    256 192\n256 96\n192 96\n192 192\n0 192\n";
 const AROUND: Region = Region {
-    rect: [44, 12, 68, 28],
+    rect: [176, 48, 272, 112],
     level: 2,
     layer: None,
 };
 
-/// The same outline 64 times as large, which no level 0 of the other can be.
-fn large_neck(split: u32) -> String {
+/// The same outline 16 times as large, in cells of one eighth of the other's.
+fn fine_neck() -> String {
     let scaled = |line: &str| -> String {
         let numbers: Option<Vec<i64>> = line.split(' ').map(|word| word.parse().ok()).collect();
         match numbers.as_deref() {
-            Some([x, y]) => format!("{} {}", 64 * x, 64 * y),
+            Some([x, y]) => format!("{} {}", 16 * x, 16 * y),
             _ => line.to_string(),
         }
     };
     let ring: Vec<String> = NECK.lines().skip(3).map(scaled).collect();
-    format!(
-        "level 0\ntarget {}\npolygon 1 0 0.5\n{}\n",
-        512 >> split,
-        ring.join("\n")
-    )
+    format!("level 0\ntarget 64\npolygon 1 0 0.5\n{}\n", ring.join("\n"))
 }
 
 /// Refined round by round by the power of its cells, the neck comes to the resistance of a uniform grid with far fewer
@@ -163,7 +159,7 @@ fn large_neck(split: u32) -> String {
 #[test]
 fn a_neck_refined_by_heat_comes_to_a_fine_grid_s_resistance() {
     let terminals = one_volt(Side::West, Side::East);
-    let (fine_mesh, fine) = meshed(&large_neck(3));
+    let (fine_mesh, fine) = meshed(&fine_neck());
     let squares = ohms(&on_cells(&fine_mesh, &fine, &terminals));
     let (mut mesh, mut net) = meshed(NECK);
     let mut off = Vec::new();
@@ -175,8 +171,9 @@ fn a_neck_refined_by_heat_comes_to_a_fine_grid_s_resistance() {
         mesh.refine_hottest(&watts, 0.2).expect("room");
         net = mesh.net().expect("a net");
     }
-    assert!(fine.cells.len() > 4_000 && net.cells.len() < 900);
-    assert!(off[0] > 0.03 && off[5] < 0.005, "{off:?}");
+    let leaves = [fine.cells.len(), net.cells.len()];
+    assert!(leaves[0] > 4_000 && leaves[1] < 1_300, "{leaves:?} {off:?}");
+    assert!(off[0] > 0.03 && off[5] < 0.003, "{off:?}");
 }
 
 /// The neck is the hottest copper, though the current goes across.
@@ -192,7 +189,7 @@ fn the_neck_that_lies_across_is_the_hottest() {
     all.sort_by(|a, b| b.0.total_cmp(&a.0));
     for (_, leaf) in &all[..20] {
         let [x0, y0, x1, y1] = leaf.rect;
-        assert!(x0 >= 44 && x1 <= 68 && y0 >= 12 && y1 <= 28, "{leaf:?}");
+        assert!(x0 >= 176 && x1 <= 272 && y0 >= 48 && y1 <= 112, "{leaf:?}");
     }
 }
 

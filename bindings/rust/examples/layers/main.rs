@@ -64,7 +64,9 @@ fn run() -> Result<(), Box<dyn Error>> {
     writeln!(out, "at {AMPERES} A, by bilinear elements:")?;
     let currents = currents_of(&mesh, links, &solution)?;
     for one in &currents {
-        let (link, edges, amperes) = (words(one.link), one.edges, one.amperes);
+        // What is nearly nothing has no sign.
+        let amperes = (1e4 * one.amperes).round() / 1e4 + 0.0;
+        let (link, edges) = (words(one.link), one.edges);
         writeln!(out, "{link:<10} {edges:4} edges {amperes:8.4} A")?;
     }
     let sum = |is_one: fn(&Link) -> bool| -> f64 {

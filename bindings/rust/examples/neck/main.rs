@@ -2,7 +2,7 @@
 //! round solved twice on the same cells, by bilinear elements and by the net's conductances, and both held
 //! against a fine uniform grid.
 //!
-//! `cargo run --release --example neck FOLDER` leaves pictures of the last round there, neck.svg (its mesh),
+//! `cargo run --release --example neck FOLDER` leaves pictures of the last but one round there, neck.svg (its mesh),
 //! neck-power.svg (power density at 10 A) and neck-borders.svg (the same with the borders of its cells), and neck.vtk for
 //! ParaView; without a folder it prints only.
 
@@ -23,7 +23,9 @@ const MAX_LEVEL: u64 = 6;
 const SHEET: f64 = 0.5e-3;
 /// Through the neck, for the pictures.
 const AMPERES: f64 = 10.0;
-const ROUNDS: usize = 7;
+const ROUNDS: usize = 8;
+/// The round of the pictures.
+const PICTURED: usize = 7;
 /// A round splits so many of the leaves, those of the largest power.
 const SHARE: f64 = 1.0 / 6.0;
 /// Squares of the uniform grid along one pitch.
@@ -77,12 +79,11 @@ fn run() -> Result<(), Box<dyn Error>> {
             off(cells),
             off(edges)
         )?;
-        if round < ROUNDS {
-            let watts: Vec<f64> = solution.cells.iter().map(|cell| cell.watts).collect();
-            mesh.refine_hottest(&watts, SHARE)?;
-        } else if let Some(folder) = env::args().nth(1) {
+        if let (PICTURED, Some(folder)) = (round, env::args().nth(1)) {
             pictures::put(&folder, &mesh, &net, &solution)?;
         }
+        let watts: Vec<f64> = solution.cells.iter().map(|cell| cell.watts).collect();
+        mesh.refine_hottest(&watts, SHARE)?;
     }
     Ok(())
 }

@@ -1,4 +1,4 @@
-//! The last round's mesh and power density, as pictures and as a file for ParaView.
+//! A round's mesh and power density, as pictures and as a file for ParaView.
 
 use leafmesh::drawing::{densities, Picture};
 use leafmesh::solving::Solution;

@@ -37,6 +37,14 @@ impl Matrix {
         &self.entries[self.starts[row]..self.starts[row + 1]]
     }
 
+    fn diagonal(&self) -> Vec<f64> {
+        let rows = self.starts.len() - 1;
+        let own = |row: usize| self.row(row).iter().find(|&&(column, _)| column == row);
+        (0..rows)
+            .map(|row| own(row).map_or(0.0, |&(_, value)| value))
+            .collect()
+    }
+
     /// The matrix times a column.
     pub fn times(&self, column: &[f64]) -> Vec<f64> {
         let value = |&(at, value): &(usize, f64)| value * column[at];
@@ -46,26 +54,23 @@ impl Matrix {
     }
 }
 
-pub(super) fn dot(a: &[f64], b: &[f64]) -> f64 {
+fn dot(a: &[f64], b: &[f64]) -> f64 {
     a.iter().zip(b).map(|(a, b)| a * b).sum()
 }
 
-pub(super) fn add(to: &mut [f64], share: f64, what: &[f64]) {
+fn add(to: &mut [f64], share: f64, what: &[f64]) {
     to.iter_mut().zip(what).for_each(|(a, b)| *a += share * b);
 }
 
 /// The iteration ends where the residual has fallen to this share of its start.
 const SHARE: f64 = 1e-12;
 
-/// The column that a positive matrix takes to `right`, by conjugate gradients; the diagonal's rows weigh its steps, and
-/// a row of none stays 0. Where it comes to no end, the share that the residual fell to.
-pub(super) fn conjugate_gradients(
-    times: impl Fn(&[f64]) -> Vec<f64>,
-    diagonal: &[f64],
-    right: Vec<f64>,
-) -> Result<Vec<f64>, f64> {
+/// The column that a positive matrix takes to `right`, by conjugate gradients whose steps the diagonal weighs; a row of
+/// none stays 0. Where it comes to no end, the share that the residual fell to.
+pub(super) fn conjugate_gradients(matrix: &Matrix, right: Vec<f64>) -> Result<Vec<f64>, f64> {
+    let diagonal = matrix.diagonal();
     let weight = |(&rest, &own): (&f64, &f64)| if own > 0.0 { rest / own } else { 0.0 };
-    let scaled = |rest: &[f64]| -> Vec<f64> { rest.iter().zip(diagonal).map(weight).collect() };
+    let scaled = |rest: &[f64]| -> Vec<f64> { rest.iter().zip(&diagonal).map(weight).collect() };
     let mut found = vec![0.0; right.len()];
     let mut rest = right;
     let mut way = scaled(&rest);
@@ -75,7 +80,7 @@ pub(super) fn conjugate_gradients(
         if size <= SHARE * SHARE * start {
             return Ok(found);
         }
-        let pull = times(&way);
+        let pull = matrix.times(&way);
         let step = size / dot(&way, &pull);
         if !step.is_finite() {
             break;

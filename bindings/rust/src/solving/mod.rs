@@ -217,13 +217,9 @@ impl System {
     /// than there are nodes several times over.
     pub fn solve(&self, held: &[Held]) -> Result<Solution, Unsolved> {
         let unknowns = Unknowns::of(self, held)?;
-        let matrix = &self.matrix;
-        let found = conjugate_gradients(
-            |column| unknowns.times(matrix, column),
-            &unknowns.diagonal(matrix),
-            unknowns.right(matrix),
-        )
-        .map_err(|share| Unsolved::NoEnd { share })?;
+        let matrix = unknowns.matrix(&self.matrix);
+        let found = conjugate_gradients(&matrix, unknowns.right(&self.matrix))
+            .map_err(|share| Unsolved::NoEnd { share })?;
         Ok(self.solution(held, unknowns.potentials(&found)))
     }
 

@@ -51,11 +51,8 @@ impl Unknowns {
 
     /// What flows into each sought number from the known ones and from outside.
     pub fn right(&self, matrix: &Matrix) -> Vec<f64> {
-        let known = self.sources.iter().map(|source| match source {
-            Source::Known(volts) => *volts,
-            _ => 0.0,
-        });
-        let out = self.gathered(&matrix.times(&known.collect::<Vec<_>>()));
+        let none = vec![0.0; self.currents.len()];
+        let out = self.gathered(&matrix.times(&self.potentials(&none)));
         self.currents
             .iter()
             .zip(out)
@@ -63,37 +60,29 @@ impl Unknowns {
             .collect()
     }
 
-    /// The matrix of the sought numbers times a column.
-    pub fn times(&self, matrix: &Matrix, column: &[f64]) -> Vec<f64> {
-        self.gathered(&matrix.times(&self.spread(column, 0.0)))
+    /// The matrix of the sought numbers.
+    pub fn matrix(&self, of: &Matrix) -> Matrix {
+        let sought = |node: usize| match self.sources[node] {
+            Source::Sought(number) => Some(number),
+            _ => None,
+        };
+        let rows = (0..self.sources.len()).filter_map(|row| Some((row, sought(row)?)));
+        let entries = rows.flat_map(|(row, number)| {
+            let entry =
+                move |&(column, value): &(usize, f64)| Some((number, sought(column)?, value));
+            of.row(row).iter().filter_map(entry)
+        });
+        Matrix::of_entries(self.currents.len(), entries.collect())
     }
 
-    /// The diagonal of that matrix.
-    pub fn diagonal(&self, matrix: &Matrix) -> Vec<f64> {
-        let mut sums = vec![0.0; self.currents.len()];
-        for (row, &source) in self.sources.iter().enumerate() {
-            if let Source::Sought(number) = source {
-                let own = matrix.row(row).iter();
-                let own = own.filter(|&&(column, _)| self.sources[column] == source);
-                sums[number] += own.map(|&(_, value)| value).sum::<f64>();
-            }
-        }
-        sums
-    }
-
-    /// The potentials of the nodes that don't hang.
+    /// The potentials of the nodes that don't hang; 0 of the others.
     pub fn potentials(&self, found: &[f64]) -> Vec<f64> {
-        self.spread(found, 1.0)
-    }
-
-    /// A number a node: what was found, and so many times what is known.
-    fn spread(&self, found: &[f64], share: f64) -> Vec<f64> {
-        let value = |source: &Source| match *source {
-            Source::Known(volts) => share * volts,
+        let volts = |source: &Source| match *source {
+            Source::Known(volts) => volts,
             Source::Sought(number) => found[number],
             Source::Tied => 0.0,
         };
-        self.sources.iter().map(value).collect()
+        self.sources.iter().map(volts).collect()
     }
 
     /// The sums of a column over the nodes of each sought number.
