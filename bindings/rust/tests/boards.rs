@@ -77,13 +77,3 @@ fn a_pitch_without_a_level_is_of_the_default_one() {
     assert_ne!(board("").target, board("level 3\n").target);
     assert!(Mesh::of_board(&board("")).is_ok());
 }
-
-#[test]
-fn text_that_is_no_board_is_told_by_line() {
-    let unclear = text::parse("cap 4\nfour corners\n").expect_err("no board");
-    assert_eq!(
-        unclear.to_string(),
-        "line 2: cannot make sense of \"four corners\""
-    );
-    assert!(text::parse("0 0\n").is_err());
-}

@@ -101,7 +101,8 @@ fn leaves_two_levels_apart_have_a_net_and_no_elements() {
 
 #[test]
 fn refusals_of_the_library_stay() {
-    let board = text::parse("level 1\ntarget 8\npolygon 1 0 1\n0 0\n8 8\n").expect("a board");
+    let board = text::parse("level 1\ntarget 8\npolygon 1 0 1\n0 0\n8 0\n9 8\n0 8\n");
+    let board = board.expect("a board");
     match Mesh::of_board(&board) {
         Err(Unmeshed::Refused(refusal)) => assert_eq!(refusal.reason, Reason::Slanted),
         other => panic!("{other:?}"),

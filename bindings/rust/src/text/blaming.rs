@@ -1,6 +1,6 @@
 //! Why a board has no mesh or no net, in the words of its text.
 
-use super::splitting::{base_cells, first_refused, no_room};
+use super::splitting::{base_cells, first_refused, no_room, Refused};
 use super::unit::Unit;
 use super::{Lines, Unclear};
 use crate::unmeshed::{strips_of, Loose, TooLong, Unmeshed};
@@ -97,10 +97,9 @@ impl Fault {
         let found = match refusal.reason {
             Reason::Slanted => Fault::of_slant(board, refusal.place, unit),
             Reason::UnevenCell => Fault::of_uneven_cell(board, refusal.place, unit, whose),
-            Reason::NoSuchCell | Reason::AlreadySplit | Reason::FinestLevel => {
-                Fault::of_split(board)
+            Reason::NoSuchCell | Reason::AlreadySplit | Reason::FinestLevel | Reason::NoRoom => {
+                Fault::of_cells(board)
             }
-            Reason::NoRoom => Fault::of_room(board),
             _ => None,
         };
         found.unwrap_or(Fault {
@@ -127,58 +126,34 @@ impl Fault {
 
     /// The first strip whose base cells can't be split often enough.
     fn of_uneven_cell(board: &Board, polygon: usize, unit: Unit, whose: &str) -> Option<Self> {
-        let Settings {
-            max_level,
-            cap,
-            target,
-        } = board.settings();
-        let layer = board.polygons.get(polygon)?[0];
-        let own = board
-            .layers
-            .iter()
-            .find(|entry| entry[0] == layer && entry[1] > 0);
-        let cell = own.map_or(target, |entry| entry[1]);
-        let side = 2_u64 << max_level.min(MAX_LEVEL);
-        let cells = |long: i64| (long as u64).div_ceil(cell).clamp(1, cap);
-        let is_uneven = |long: i64| long as u64 % (cells(long) * side) != 0;
+        let cut = Cut::of(board, polygon)?;
         let strips = strips_of(ring(board, polygon)?).into_iter();
         let mut sizes = strips.map(|[x0, y0, x1, y1]| [x1 - x0, y1 - y0]);
-        let [width, height] = sizes.find(|size| size.iter().any(|&long| is_uneven(long)))?;
-        let (nx, ny) = (cells(width), cells(height));
-        let least = match unit.0 {
-            Some(_) => format!("{} ({side} ticks)", unit.show(side as i64)),
-            None => format!("{side} ticks"),
+        let size = sizes.find(|size| !size.iter().all(|&long| cut.is_even(long)))?;
+        let [nx, ny] = size.map(|long| cut.cells(long));
+        let step = match unit.0 {
+            Some(_) => format!("{}, {} ticks", unit.show(cut.step as i64), cut.step),
+            None => format!("{} ticks", cut.step),
         };
+        let (strip, level) = (unit.show_size(size), board.settings().max_level);
         Some(Fault {
             part: Some(Part::Polygon(polygon)),
             words: format!(
-                "a strip of {} by {} has {nx} by {ny} base cells, whose sides are no multiples of {least}, as level \
-                 {max_level}{whose}, wants them",
-                unit.show(width),
-                unit.show(height)
+                "a strip of {strip} has {nx} by {ny} base cells, whose sides must be multiples of {step} (level \
+                 {level}{whose})"
             ),
         })
     }
 
-    fn of_split(board: &Board) -> Option<Self> {
-        let (at, words) = first_refused(board)?;
-        let part = Some(Part::Split(at));
-        Some(Fault { part, words })
-    }
-
-    /// Where the cells get too many: in a polygon's base cells, at a split, or by balance.
-    fn of_room(board: &Board) -> Option<Self> {
-        if let Some(polygon) = first_without_room(board) {
-            return Some(Fault {
-                part: Some(Part::Polygon(polygon)),
-                words: no_room(),
-            });
-        }
-        let balance = || Fault {
-            part: None,
-            words: format!("balance needs {}", no_room()),
+    /// Where a cell can't be split, or the cells get too many: at a polygon's base cells, at a split, or by balance.
+    fn of_cells(board: &Board) -> Option<Self> {
+        let (part, words) = match (first_without_room(board), first_refused(board)) {
+            (Some(polygon), _) => (Some(Part::Polygon(polygon)), no_room()),
+            (None, Some(Refused::Split(at, words))) => (Some(Part::Split(at)), words),
+            (None, Some(Refused::Balance)) => (None, format!("balance needs {}", no_room())),
+            (None, None) => return None,
         };
-        Some(Fault::of_split(board).unwrap_or_else(balance))
+        Some(Fault { part, words })
     }
 
     fn of_long_strip(long: TooLong, unit: Unit) -> Self {
@@ -207,6 +182,42 @@ impl Fault {
     }
 }
 
+/// How a polygon is cut into base cells.
+struct Cut {
+    /// The size wanted of a cell.
+    cell: u64,
+    /// The most cells of a strip each way.
+    cap: u64,
+    /// What a cell's side must be a multiple of.
+    step: u64,
+}
+
+impl Cut {
+    fn of(board: &Board, polygon: usize) -> Option<Self> {
+        let Settings {
+            max_level,
+            cap,
+            target,
+        } = board.settings();
+        let layer = board.polygons.get(polygon)?[0];
+        let is_own = |entry: &&[u64; 2]| entry[0] == layer && entry[1] > 0;
+        let own = board.layers.iter().find(is_own);
+        Some(Cut {
+            cell: own.map_or(target, |entry| entry[1]).max(1),
+            cap: cap.max(1),
+            step: 2 << max_level.min(MAX_LEVEL),
+        })
+    }
+
+    fn cells(&self, long: i64) -> u64 {
+        (long as u64).div_ceil(self.cell).clamp(1, self.cap)
+    }
+
+    fn is_even(&self, long: i64) -> bool {
+        long as u64 % (self.cells(long) * self.step) == 0
+    }
+}
+
 fn ring(board: &Board, polygon: usize) -> Option<&[Point]> {
     let &[_, _, points] = board.polygons.get(polygon)?;
     board
@@ -215,7 +226,7 @@ fn ring(board: &Board, polygon: usize) -> Option<&[Point]> {
         .get(..points as usize)
 }
 
-/// The polygon whose base cells are more than there is room for.
+/// The first polygon with whose base cells there are more than there is room for.
 fn first_without_room(board: &Board) -> Option<usize> {
     let has_room = |polygons: usize| {
         let mut part = board.clone();
@@ -225,5 +236,7 @@ fn first_without_room(board: &Board) -> Option<usize> {
         let made = base_cells(&part);
         !matches!(made, Err(Unmeshed::Refused(why)) if why.reason == Reason::NoRoom)
     };
-    (0..board.polygons.len()).find(|&polygon| !has_room(polygon + 1))
+    let polygons: Vec<usize> = (0..board.polygons.len()).collect();
+    let full = polygons.partition_point(|&polygon| has_room(polygon + 1));
+    polygons.get(full).copied()
 }

@@ -84,11 +84,22 @@ pub(super) fn base_cells(board: &Board) -> Result<Mesh, Unmeshed> {
     Mesh::new(board.settings(), &board.layers, board.polygons()?)
 }
 
-/// The first split of a board that its mesh refuses, by its index, and why.
-pub(super) fn first_refused(board: &Board) -> Option<(usize, String)> {
+/// What a mesh refuses behind its base cells.
+pub(super) enum Refused {
+    /// A split, by its index, and why.
+    Split(usize, String),
+    Balance,
+}
+
+/// What the mesh of a board refuses first, by making it once more.
+pub(super) fn first_refused(board: &Board) -> Option<Refused> {
     let mut mesh = base_cells(board).ok()?;
-    let refused = |(at, &id): (usize, &u64)| Some((at, split(&mut mesh, id).err()?));
-    board.splits.iter().enumerate().find_map(refused)
+    for (at, &id) in board.splits.iter().enumerate() {
+        if let Err(words) = split(&mut mesh, id) {
+            return Some(Refused::Split(at, words));
+        }
+    }
+    mesh.balance().err().map(|_| Refused::Balance)
 }
 
 /// Splits one cell, or says in words why it can't be split.

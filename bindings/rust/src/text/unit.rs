@@ -70,6 +70,14 @@ impl Unit {
         }
     }
 
+    /// Width and height as the text would say them, with their unit.
+    pub fn show_size(self, [width, height]: [i64; 2]) -> String {
+        match self.0 {
+            Some(pitch) => format!("{} by {} mm", pitch.short(width), pitch.short(height)),
+            None => format!("{width} by {height} ticks"),
+        }
+    }
+
     /// A place as the text would say it.
     pub fn show_point(self, [x, y]: Point) -> String {
         match self.0 {
