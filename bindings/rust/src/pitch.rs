@@ -188,7 +188,7 @@ impl fmt::Display for Misfit {
         match why {
             Why::NoPitch { max_level } => write!(
                 f,
-                "{given} mm is no pitch at max_level {max_level}; the nearest is {nearest:e} mm"
+                "{given} mm is no pitch at level {max_level}; the nearest is {nearest:e} mm"
             ),
             Why::TooFar => write!(
                 f,

@@ -77,6 +77,7 @@ mod blaming;
 mod bytes;
 mod form;
 mod judging;
+mod linking;
 mod packing;
 mod reading;
 mod showing;

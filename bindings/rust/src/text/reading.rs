@@ -1,14 +1,13 @@
 //! A text, line by line.
 
 use super::form::senseless;
-use super::splitting::{ids_of, Mark, Task};
+use super::linking::{channel_of, contact_of, via_of};
+use super::splitting::{ids_of, region_of, Mark, Task};
 use super::terminals::terminal_of;
 use super::unit::{component, finite, grouped, layer, ohms, whole, Unit};
 use super::{Unclear, Whole};
 use crate::limits::{CAP, CELL, LAYER_ENTRIES, MEANS_DEFAULT, POLYGONS, RING_POINTS, SPLITS};
-use crate::{
-    Board, Channel, ChannelEnd, Contact, Footprint, Pitch, Region, Via, COORDINATE, MAX_LEVEL,
-};
+use crate::{Board, Pitch, COORDINATE, MAX_LEVEL};
 
 /// A text that is being read.
 pub(super) struct Reading {
@@ -41,11 +40,7 @@ impl Reading {
         match *words {
             [] => Ok(()),
             ["level", n] => self.take_level(line, n),
-            ["cap", n] => {
-                once("cap", &mut self.whole.lines.cap, line)?;
-                self.whole.board.cap = whole("cap", n, 1..=CAP)?;
-                Ok(())
-            }
+            ["cap", n] => self.take_cap(line, n),
             ["target", n] => self.take_target(line, n),
             ["pitch", n] => self.take_pitch(line, n),
             ["layer", layer, cell] => self.take_layer(line, layer, cell),
@@ -55,11 +50,10 @@ impl Reading {
             ["split", ref ids @ ..] if !ids.is_empty() => {
                 ids.iter().try_for_each(|word| self.take_split(line, word))
             }
-            ["refine", x0, y0, x1, y1, level] => {
-                self.take_refine(line, [x0, x1], [y0, y1], level, None)
-            }
-            ["refine", x0, y0, x1, y1, level, layer] => {
-                self.take_refine(line, [x0, x1], [y0, y1], level, Some(layer))
+            ["refine", ref region @ ..] => {
+                let task = Task::Refine(region_of(region, self.unit())?);
+                self.marks.push(Mark { line, task });
+                Ok(())
             }
             ["terminal", ref terminal @ ..] => self.take_terminal(line, terminal),
             ["contact", ..] | ["via", ..] | ["channels", ..] | ["channel", ..] => {
@@ -90,6 +84,12 @@ impl Reading {
         if word.parse() != Ok(MEANS_DEFAULT) {
             self.whole.board.max_level = whole("level", word, 0..=MAX_LEVEL)?;
         }
+        Ok(())
+    }
+
+    fn take_cap(&mut self, line: usize, word: &str) -> Result<(), String> {
+        once("cap", &mut self.whole.lines.cap, line)?;
+        self.whole.board.cap = whole("cap", word, 1..=CAP)?;
         Ok(())
     }
 
@@ -193,27 +193,6 @@ impl Reading {
         Ok(())
     }
 
-    fn take_refine(
-        &mut self,
-        line: usize,
-        x: [&str; 2],
-        y: [&str; 2],
-        level: &str,
-        on: Option<&str>,
-    ) -> Result<(), String> {
-        let rect @ [x0, y0, x1, y1] = self.unit().rect(x, y)?;
-        if x0 == x1 || y0 == y1 {
-            return Err("the rectangle has no area".to_string());
-        }
-        let task = Task::Refine(Region {
-            rect,
-            level: whole("level", level, 0..=MAX_LEVEL)?,
-            layer: on.map(layer).transpose()?,
-        });
-        self.marks.push(Mark { line, task });
-        Ok(())
-    }
-
     fn take_terminal(&mut self, line: usize, words: &[&str]) -> Result<(), String> {
         let terminal = terminal_of(words, self.unit())?;
         let Whole {
@@ -234,37 +213,19 @@ impl Reading {
         let Whole { links, lines, .. } = &mut self.whole;
         match *words {
             ["contact", from, to] => {
-                let number = |word| whole("polygon", word, 0..=usize::MAX);
-                let (from, to) = (number(from)?, number(to)?);
-                links.contacts.push(Contact { from, to });
+                links.contacts.push(contact_of(from, to)?);
                 lines.contacts.push(line);
             }
-            ["via", bottom, top, of, x, y, half_width, half_height, resistance] => {
-                let footprint = Footprint {
-                    x: unit.place(x)?,
-                    y: unit.place(y)?,
-                    half_width: unit.half(half_width)?,
-                    half_height: unit.half(half_height)?,
-                };
-                links.vias.push(Via {
-                    bottom: layer(bottom)?,
-                    top: layer(top)?,
-                    component: component(of)?,
-                    footprint,
-                    resistance: ohms("resistance", resistance)?,
-                });
+            ["via", ref via @ ..] => {
+                links.vias.push(via_of(via, unit)?);
                 lines.vias.push(line);
             }
             ["channels", own] => {
                 once("channels", &mut lines.channel_layer, line)?;
                 links.channel_layer = layer(own)?;
             }
-            ["channel", drain, dx, dy, source, sx, sy, resistance] => {
-                links.channels.push(Channel {
-                    drain: channel_end(drain, dx, dy, unit)?,
-                    source: channel_end(source, sx, sy, unit)?,
-                    resistance: ohms("resistance", resistance)?,
-                });
+            ["channel", ref channel @ ..] => {
+                links.channels.push(channel_of(channel, unit)?);
                 lines.channels.push(line);
             }
             _ => return Err(senseless(words)),
@@ -282,14 +243,6 @@ impl Reading {
         whole.warn();
         Ok(whole)
     }
-}
-
-fn channel_end(of: &str, x: &str, y: &str, unit: Unit) -> Result<ChannelEnd, String> {
-    Ok(ChannelEnd {
-        component: component(of)?,
-        x: unit.place(x)?,
-        y: unit.place(y)?,
-    })
 }
 
 /// Whether a line that begins with this word is meant for a point.

@@ -1,8 +1,9 @@
 //! What a text splits: cells by their ids, and all in a rectangle.
 
-use super::unit::{grouped, quoted, whole, Unit};
+use super::form::senseless;
+use super::unit::{grouped, layer, quoted, whole, Unit};
 use super::{Unclear, Whole};
-use crate::{Board, Mesh, Reason, Refusal, Region, Unmeshed, SLOTS};
+use crate::{Board, Mesh, Reason, Refusal, Region, Unmeshed, MAX_LEVEL, SLOTS};
 use std::iter::repeat;
 use std::ops::RangeInclusive;
 
@@ -31,6 +32,28 @@ pub(super) fn ids_of(word: &str) -> Result<RangeInclusive<u64>, String> {
         return Err(format!("{} falls: a range rises", quoted(word)));
     }
     Ok(first..=last)
+}
+
+/// What stands behind `refine`: a rectangle, the least level of its leaves, and the layer if it is one alone.
+pub(super) fn region_of(words: &[&str], unit: Unit) -> Result<Region, String> {
+    let no_sense = || senseless(&[&["refine"], words].concat());
+    let [x0, y0, x1, y1, level, ref on @ ..] = *words else {
+        return Err(no_sense());
+    };
+    let on = match *on {
+        [] => None,
+        [on] => Some(layer(on)?),
+        _ => return Err(no_sense()),
+    };
+    let rect = unit.rect([x0, x1], [y0, y1])?;
+    if rect[0] == rect[2] || rect[1] == rect[3] {
+        return Err("the rectangle has no area".to_string());
+    }
+    Ok(Region {
+        rect,
+        level: whole("level", level, 0..=MAX_LEVEL)?,
+        layer: on,
+    })
 }
 
 impl Whole {

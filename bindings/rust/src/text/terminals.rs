@@ -1,10 +1,11 @@
 //! The line of a terminal.
 
 use super::form::senseless;
-use super::unit::{component, finite, layer, whole, Unit};
+use super::linking::polygon;
+use super::unit::{component, finite, layer, Unit};
 use crate::limits::POTENTIAL;
 use crate::solving::{Drive, Spot, Terminal};
-use crate::Side;
+use crate::{Rect, Side};
 use std::fmt::{self, Write};
 
 fn word_of(side: Side) -> &'static str {
@@ -59,27 +60,32 @@ fn spot_of(words: &[&str], unit: Unit) -> Result<Option<Spot>, String> {
             }
         }
         [kind @ ("edge" | "rect"), on, of, x0, y0, x1, y1] => {
-            let rect @ [ax, ay, bx, by] = unit.rect([x0, x1], [y0, y1])?;
-            match (kind, ax == bx, ay == by) {
-                ("edge", true, true) => return Err("the edge has no length".to_string()),
-                ("edge", false, false) => {
-                    return Err("the edge is slanted: x0 = x1 or y0 = y1".to_string())
-                }
-                ("rect", false, false) | ("edge", ..) => {}
-                _ => return Err("the rectangle has no area: an edge may be as thin".to_string()),
-            }
+            let rect = unit.rect([x0, x1], [y0, y1])?;
+            judge_shape(kind == "edge", rect)?;
             Spot::Rect {
                 layer: layer(on)?,
                 component: component(of)?,
                 rect,
             }
         }
-        ["pad", polygon] => Spot::Pad {
-            polygon: whole("polygon", polygon, 0..=usize::MAX)?,
+        ["pad", number] => Spot::Pad {
+            polygon: polygon(number)?,
         },
         _ => return Ok(None),
     };
     Ok(Some(spot))
+}
+
+/// Whether an edge is straight and longer than 0, and a rectangle has an area.
+fn judge_shape(is_edge: bool, [x0, y0, x1, y1]: Rect) -> Result<(), String> {
+    let thin = [x0 == x1, y0 == y1];
+    let words = match (is_edge, thin) {
+        (true, [true, true]) => "the edge has no length",
+        (true, [false, false]) => "the edge is slanted: x0 = x1 or y0 = y1",
+        (true, _) | (false, [false, false]) => return Ok(()),
+        (false, _) => "the rectangle has no area: an edge may be so thin",
+    };
+    Err(words.to_string())
 }
 
 /// The line of a terminal, in ticks.
