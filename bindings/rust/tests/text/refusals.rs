@@ -37,7 +37,7 @@ fn values_are_told_by_their_line() {
         ("layer 65537 8", "layer 65537 is out of range: 0 to 65535"),
         (
             "layer 1 68719476737",
-            "cell 68719476737 is out of range: 0 ticks to 68719476736 ticks",
+            "cell 68719476737 is out of range: 0 to 68719476736",
         ),
         ("layer 1 -8", "cell -8 is out of range"),
         (
