@@ -163,11 +163,21 @@ impl Pitch {
         ticks as f64 / self.ticks as f64 * self.millimetres
     }
 
-    /// The same for words.
+    /// The same for words: the fewest decimals whose nearest tick it is.
     pub(crate) fn short(self, ticks: i64) -> f64 {
-        short(self.millimetres(ticks))
+        let millimetres = self.millimetres(ticks);
+        let with_decimals = |count: i32| {
+            let unit = 10_f64.powi(count);
+            (millimetres * unit).round() / unit
+        };
+        let means_it = |short: &f64| self.nearest_tick(*short) == Ok(ticks);
+        let found = (0..=MOST_DECIMALS).map(with_decimals).find(means_it);
+        found.unwrap_or(millimetres)
     }
 }
+
+/// With so many decimals of a millimetre every tick is met.
+const MOST_DECIMALS: i32 = 9;
 
 fn in_millimetres(ticks: f64) -> f64 {
     ticks * TICK * 1e3

@@ -3,6 +3,7 @@
 use super::splitting::{base_cells, first_refused, no_room, Refused};
 use super::unit::Unit;
 use super::{Lines, Unclear};
+use crate::limits::MEANS_DEFAULT;
 use crate::unmeshed::{strips_of, Loose, TooLong, Unmeshed};
 use crate::{Board, Link, Point, Reason, Refusal, Settings, MAX_LEVEL};
 use std::fmt;
@@ -41,12 +42,7 @@ impl Lines {
     }
 
     pub(super) fn fault(&self, board: &Board, why: &Unmeshed) -> Unclear {
-        let whose = if self.level.is_none() {
-            ", the default"
-        } else {
-            ""
-        };
-        let Fault { part, words } = Fault::of(board, why, Unit(self.pitch), whose);
+        let Fault { part, words } = Fault::of(board, why, Unit(self.pitch));
         let line = part.and_then(|part| self.of_part(board, &part));
         Unclear { line, words }
     }
@@ -66,7 +62,7 @@ impl Lines {
 
 /// Why a board that was given by its record has no mesh, or no net, in ticks and with the part that is to blame.
 pub fn blame_record(board: &Board, why: &Unmeshed) -> String {
-    let Fault { part, words } = Fault::of(board, why, Unit(None), "");
+    let Fault { part, words } = Fault::of(board, why, Unit(None));
     match part {
         Some(part) => format!("{part}: {words}"),
         None => words,
@@ -80,10 +76,9 @@ fn first_point(board: &Board, polygon: usize) -> usize {
 }
 
 impl Fault {
-    /// `whose` is put behind the level.
-    fn of(board: &Board, why: &Unmeshed, unit: Unit, whose: &str) -> Self {
+    fn of(board: &Board, why: &Unmeshed, unit: Unit) -> Self {
         match *why {
-            Unmeshed::Refused(refusal) => Fault::of_refusal(board, refusal, unit, whose),
+            Unmeshed::Refused(refusal) => Fault::of_refusal(board, refusal, unit),
             Unmeshed::TooLong(long) => Fault::of_long_strip(long, unit),
             Unmeshed::Loose(loose) => Fault::of_loose_node(loose, unit),
             Unmeshed::Idle(idle) => Fault {
@@ -93,10 +88,10 @@ impl Fault {
         }
     }
 
-    fn of_refusal(board: &Board, refusal: Refusal, unit: Unit, whose: &str) -> Self {
+    fn of_refusal(board: &Board, refusal: Refusal, unit: Unit) -> Self {
         let found = match refusal.reason {
             Reason::Slanted => Fault::of_slant(board, refusal.place, unit),
-            Reason::UnevenCell => Fault::of_uneven_cell(board, refusal.place, unit, whose),
+            Reason::UnevenCell => Fault::of_uneven_cell(board, refusal.place, unit),
             Reason::NoSuchCell | Reason::AlreadySplit | Reason::FinestLevel | Reason::NoRoom => {
                 Fault::of_cells(board)
             }
@@ -125,7 +120,7 @@ impl Fault {
     }
 
     /// The first strip whose base cells can't be split often enough.
-    fn of_uneven_cell(board: &Board, polygon: usize, unit: Unit, whose: &str) -> Option<Self> {
+    fn of_uneven_cell(board: &Board, polygon: usize, unit: Unit) -> Option<Self> {
         let cut = Cut::of(board, polygon)?;
         let strips = strips_of(ring(board, polygon)?).into_iter();
         let mut sizes = strips.map(|[x0, y0, x1, y1]| [x1 - x0, y1 - y0]);
@@ -136,6 +131,10 @@ impl Fault {
             None => format!("{} ticks", cut.step),
         };
         let (strip, level) = (unit.show_size(size), board.settings().max_level);
+        let whose = match board.max_level {
+            MEANS_DEFAULT => ", the default",
+            _ => "",
+        };
         Some(Fault {
             part: Some(Part::Polygon(polygon)),
             words: format!(

@@ -1,10 +1,14 @@
 //! What stands in a file: a board's text, or its record.
 
 use super::{parse_whole, Unclear, Whole};
+use crate::limits::MEANS_DEFAULT;
 use crate::{read, Board};
 
 /// The only version of a record that there is.
 const VERSION: u8 = 1;
+
+/// Where a record has its level.
+const LEVEL: usize = 5;
 
 /// Whether the bytes are a record, of this version or another one: its first byte is none that a text begins with.
 pub fn is_record(bytes: &[u8]) -> bool {
@@ -35,21 +39,32 @@ pub fn parse_bytes(bytes: &[u8]) -> Result<Whole, Unclear> {
     parse_whole(text)
 }
 
-/// The board of the record in a file: [`read`], with words for what isn't one.
+/// The board of the record in a file: what [`read`] answers, with words for what is none. Where the record asks for the
+/// default level so does the board, and is packed to the same bytes again.
 ///
 /// # Errors
 ///
 /// A text; another version; what [`read`] refuses.
 pub fn read_record(bytes: &[u8]) -> Result<Board, Unclear> {
-    let words = match bytes.first() {
-        Some(_) if !is_record(bytes) => "this is a board's text, not a record".to_string(),
-        Some(&version) if version != VERSION => {
-            format!("a record of version {version}; this reader takes version {VERSION}")
-        }
-        _ => match read(bytes) {
-            Ok(board) => return Ok(board),
-            Err(why) => why.to_string(),
-        },
-    };
-    Err(Unclear { line: None, words })
+    judge_version(bytes)
+        .and_then(|()| read(bytes).map_err(|why| why.to_string()))
+        .map(|board| match bytes.get(LEVEL).copied().map(u64::from) {
+            Some(MEANS_DEFAULT) => Board {
+                max_level: MEANS_DEFAULT,
+                ..board
+            },
+            _ => board,
+        })
+        .map_err(|words| Unclear { line: None, words })
+}
+
+/// No bytes at all are left to [`read`].
+fn judge_version(bytes: &[u8]) -> Result<(), String> {
+    match bytes.first() {
+        Some(_) if !is_record(bytes) => Err("this is a board's text, not a record".to_string()),
+        Some(&version) if version != VERSION => Err(format!(
+            "a record of version {version}; this reader takes version {VERSION}"
+        )),
+        _ => Ok(()),
+    }
 }

@@ -86,7 +86,7 @@ mod terminals;
 mod unit;
 
 use crate::solving::Terminal;
-use crate::{Board, OwnedLinks, Pitch};
+use crate::{Board, OwnedLinks, Pitch, Point};
 use reading::Reading;
 use std::error::Error;
 use std::fmt;
@@ -170,6 +170,11 @@ impl Lines {
         let all = [&self.contacts, &self.vias, &self.channels];
         let firsts = all.into_iter().filter_map(|lines| lines.first());
         firsts.min().copied()
+    }
+
+    /// A place as the text would say it: in millimetres where it has a pitch, and otherwise in ticks.
+    pub fn place(&self, point: Point) -> String {
+        Unit(self.pitch).show_point(point)
     }
 }
 

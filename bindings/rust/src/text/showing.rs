@@ -3,6 +3,7 @@
 use super::splitting::split_lines;
 use super::terminals::put_terminal;
 use super::Whole;
+use crate::limits::MEANS_DEFAULT;
 use crate::{Board, Contact, Footprint, Links};
 use std::fmt::{self, Write};
 
@@ -57,11 +58,11 @@ fn put_links(links: Links, text: &mut String) -> fmt::Result {
 }
 
 fn put(board: &Board, text: &mut String) -> fmt::Result {
-    writeln!(
-        text,
-        "level {}\ncap {}\ntarget {}",
-        board.max_level, board.cap, board.target
-    )?;
+    // Without a level it is the default.
+    if board.max_level != MEANS_DEFAULT {
+        writeln!(text, "level {}", board.max_level)?;
+    }
+    writeln!(text, "cap {}\ntarget {}", board.cap, board.target)?;
     for [layer, cell] in &board.layers {
         writeln!(text, "layer {layer} {cell}")?;
     }

@@ -3,7 +3,7 @@
 use crate::shared::{samples, Dice};
 use crate::SQUARE;
 use leafmesh::text::{self, Whole};
-use leafmesh::{Board, Mesh};
+use leafmesh::{Board, Mesh, MEANS_DEFAULT};
 use std::fs;
 
 /// The sample boards, each with its file's name.
@@ -121,6 +121,7 @@ fn records_come_back_byte_by_byte() {
     let mut dice = Dice(2);
     for _ in 0..500 {
         let mut board = random_board(&mut dice);
+        board.max_level = [dice.below(13), MEANS_DEFAULT][dice.below(2) as usize];
         board.target = dice.below(1 << 36) + 1;
         let ids = (0..dice.below(40)).map(|_| dice.below(30) << (dice.below(28)));
         board.splits = ids.collect();

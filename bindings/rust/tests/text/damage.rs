@@ -192,9 +192,9 @@ fn no_damaged_record_is_too_much() {
         let bytes = with_other_bytes(&records[(time % 4) as usize], &mut dice);
         match text::read_record(&bytes) {
             Ok(board) => {
+                // Where a ring has fewer points than four there is a text, and no record of it.
                 if let Ok(again) = text::pack(&text::show(&board)) {
-                    let own = bytes[5] == 255;
-                    assert!(own || again == bytes);
+                    assert_eq!(again, bytes);
                 }
                 if time % MESHED == 0 {
                     mesh(&board, &Whole::default(), None);

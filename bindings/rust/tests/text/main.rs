@@ -11,7 +11,8 @@ mod refusals;
 mod shared;
 mod warnings;
 
-use leafmesh::tool::Given;
+use leafmesh::text;
+use leafmesh::{Board, Links, Mesh, Net, Unmeshed};
 
 /// A square of one base cell and its ring's lines, from line 3 on.
 const SQUARE: &str = "level 2\ntarget 8\npolygon 1 0 0.5\n0 0\n8 0\n8 8\n0 8\n";
@@ -20,8 +21,22 @@ const SQUARE: &str = "level 2\ntarget 8\npolygon 1 0 0.5\n0 0\n8 0\n8 8\n0 8\n";
 const TWO_LAYERS: &str =
     "level 1\npitch 0.5\npolygon 1 0 0.001\n0 0\n2 0\n2 2\n0 2\npolygon 2 0 0.001\n0 0\n2 0\n2 2\n0 2\n";
 
-/// What a tool says of a board whose net it wants.
+/// The net of a board that is given by its text or its record, or what is said of it.
+fn net(board: &[u8]) -> Result<Net, String> {
+    if text::is_record(board) {
+        let board = text::read_record(board).map_err(|why| why.to_string())?;
+        return linked_net(&board, Links::default())
+            .map_err(|why| text::blame_record(&board, &why));
+    }
+    let whole = text::parse_bytes(board).map_err(|why| why.to_string())?;
+    let made = linked_net(&whole.board, whole.links.rows());
+    made.map_err(|why| whole.lines.blame(&whole.board, &why))
+}
+
+fn linked_net(board: &Board, links: Links) -> Result<Net, Unmeshed> {
+    Mesh::unjudged(board)?.linked_net(links)
+}
+
 fn refused(board: &[u8]) -> String {
-    let made = Given::of_bytes(board.to_vec()).and_then(|given| given.mesh().map(|_| ()));
-    made.expect_err("a refusal")
+    net(board).expect_err("a refusal")
 }

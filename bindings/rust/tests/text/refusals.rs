@@ -1,8 +1,7 @@
 //! What is refused, in the user's words and with the line.
 
-use crate::{refused, SQUARE, TWO_LAYERS};
+use crate::{net, refused, SQUARE, TWO_LAYERS};
 use leafmesh::text;
-use leafmesh::tool::Given;
 
 fn unclear(text: &str) -> String {
     let why = text::parse_whole(text).expect_err(text);
@@ -410,7 +409,6 @@ fn an_uneven_base_cell_is_told_with_its_strip() {
         let line = 2 + level.lines().count();
         assert_eq!(refused(text.as_bytes()), format!("line {line}: {words}"));
         let record = text::pack(&text).expect("a record");
-        let words = words.replace(", the default", "");
         assert_eq!(refused(&record), format!("polygon 0: {words}"));
     }
     // In millimetres: cells of 0.75 mm are wanted of a strip of 0.75 mm, and of one of 1.25 mm, which gets two.
@@ -419,7 +417,7 @@ fn an_uneven_base_cell_is_told_with_its_strip() {
     let said = refused(text.as_bytes());
     assert_eq!(
         said,
-        "line 4: a strip of 1.25 by 0.75 mm has 2 by 1 base cells, whose sides must be multiples of 0.000029802 mm, \
+        "line 4: a strip of 1.25 by 0.75 mm has 2 by 1 base cells, whose sides must be multiples of 0.0000298 mm, \
          8192 ticks (level 12)"
     );
 }
@@ -437,20 +435,16 @@ fn a_board_without_a_level_is_of_the_default_level() {
             "{said}"
         );
         // As it was taken before the default was 4.
-        assert!(made(format!("level 3\n{}", square(side)).as_bytes()));
+        assert!(net(format!("level 3\n{}", square(side)).as_bytes()).is_ok());
     }
     let text = square(32);
     let record = text::pack(&text).expect("a record");
     assert_eq!(record[5], 255);
-    assert!(made(text.as_bytes()) && made(&record));
-    let board = text::read_record(&record).expect("a board");
-    assert!(text::show(&board).starts_with("level 4\n"));
-}
-
-fn made(board: &[u8]) -> bool {
-    Given::of_bytes(board.to_vec())
-        .and_then(|given| given.mesh())
-        .is_ok()
+    assert!(net(text.as_bytes()).is_ok() && net(&record).is_ok());
+    // What is shown of it asks for the default, too.
+    let shown = text::show(&text::read_record(&record).expect("a board"));
+    assert!(!shown.contains("level"), "{shown}");
+    assert_eq!(text::pack(&shown), Ok(record));
 }
 
 /// A square of 8 ticks at level 2 has 1, 5, 21 cells.
@@ -558,13 +552,11 @@ fn boards_whose_net_would_be_wrong_are_told_by_their_line() {
     let long = "level 1\npitch 0.1\npolygon 1 0 1\n0 0.1\n0 0\n30 0\n30 0.1\n1 0.1\n1 0.2\n0 0.2\n";
     assert_eq!(
         refused(long.as_bytes()),
-        "line 5: 300 pitches long; at most 256 base cells"
+        "line 4: 300 pitches long; at most 256 base cells"
     );
     let record = text::pack(long).expect("a record");
     assert_eq!(
         refused(&record),
-        "polygon 0, point 1: 300 base cells long; at most 256 base cells"
+        "polygon 0, point 0: 300 base cells long; at most 256 base cells"
     );
-    let given = Given::of_bytes(long.as_bytes().to_vec()).expect("a board");
-    assert_eq!(given.warnings, []);
 }
