@@ -1,10 +1,14 @@
 //! Pictures and files of the sample boards: all that they promise stands in them, and nothing past their edge.
 
+#[path = "shared/svg.rs"]
+mod svg;
+
 use leafmesh::drawing::{densities, Picture, LEVELS};
 use leafmesh::vtk::{self, Field};
-use leafmesh::{printed, sides, text, LeafBorder, Mesh, Net, OwnedLinks, TICK};
+use leafmesh::{printed, read, sides, text, LeafBorder, Links, Mesh, Net, OwnedLinks, TICK};
 use std::fs;
 use std::path::Path;
+use svg::{assert_uncut, number};
 
 fn mesh_of(name: &str) -> Mesh {
     let file = Path::new(env!("CARGO_MANIFEST_DIR"))
@@ -19,41 +23,6 @@ fn picture_of(mesh: &Mesh) -> String {
     Picture::of_mesh("A board", mesh, net.rows())
         .expect("a picture")
         .svg()
-}
-
-/// The number of an attribute.
-fn number(tag: &str, name: &str) -> Option<f64> {
-    let start = tag.find(&format!(" {name}=\""))? + name.len() + 3;
-    tag[start..].split('"').next()?.parse().ok()
-}
-
-/// Words end before the picture does, at a generous width a letter.
-fn assert_uncut(svg: &str) {
-    let width = number(svg, "width").expect("a width");
-    let height = number(svg, "height").expect("a height");
-    let mut seen = 0;
-    for part in svg.split("<text").skip(1) {
-        let (tag, words) = part.split_once('>').expect("a tag");
-        let words = words.split('<').next().expect("words");
-        let letter = if tag.contains("font-size=\"18\"") {
-            10.0
-        } else {
-            6.8
-        };
-        let long = letter * words.chars().count() as f64;
-        let start = number(tag, "x").expect("x");
-        let end = if tag.contains("middle") {
-            start + long / 2.0
-        } else {
-            start + long
-        };
-        assert!(
-            end <= width && number(tag, "y").expect("y") <= height - 4.0,
-            "{words} is cut"
-        );
-        seen += 1;
-    }
-    assert!(seen > 3);
 }
 
 #[test]
@@ -113,8 +82,8 @@ fn values_have_a_logarithmic_bar() {
     for words in [
         "&lt;&amp;&gt;",
         ">W/mm2, logarithmic<",
-        "e7 and less<",
-        ">1.0e13<",
+        ">1e7 and less<",
+        ">1e13<",
     ] {
         assert!(svg.contains(words), "{words}");
     }
@@ -236,6 +205,55 @@ fn links_are_seen_where_they_end() {
         assert!(svg.contains(words), "{words}");
         assert!(!bare.contains(words), "{words}");
     }
+    assert_uncut(&svg);
+}
+
+/// What leafnet prints tells layers apart: its picture is that of the board, but for the title.
+#[test]
+fn a_printed_text_has_the_picture_of_its_board() {
+    let boards = Path::new(env!("CARGO_MANIFEST_DIR")).join("../../boards");
+    let files = fs::read_dir(&boards)
+        .expect("the samples")
+        .map(|file| file.expect("a file").path());
+    let records: Vec<_> = files
+        .filter(|file| file.extension().is_some_and(|ending| ending == "record"))
+        .collect();
+    assert!(records.len() >= 7);
+    let mut panels = Vec::new();
+    for file in records {
+        let board = read(&fs::read(&file).expect("a record")).expect("a board");
+        let mesh = Mesh::of_board(&board).expect("a mesh");
+        let net = mesh.net().expect("a net");
+        let printed = printed::read(&printed::show(&board).expect("a net")).expect("a text");
+        let by_text = Picture::of_printed("A board", &printed, None).expect("a picture");
+        let by_board = Picture::of_mesh("A board", &mesh, net.rows()).expect("a picture");
+        assert!(by_text == by_board, "{}", file.display());
+        assert_eq!(
+            Picture::of_printed("A board", &printed, Some(&board)),
+            Ok(by_board)
+        );
+        let other = Picture::of_printed("Another", &printed, None).expect("a picture");
+        let svg = other.svg();
+        assert_eq!(svg.replace(">Another<", ">A board<"), by_text.svg());
+        panels.push(svg.matches(">layer ").count());
+    }
+    panels.sort_unstable();
+    assert_eq!(panels.last(), Some(&2));
+}
+
+/// With links, too: but for the footprints, which the text doesn't have.
+#[test]
+fn a_printed_text_with_links_has_two_panels() {
+    let (mesh, net, _) = linked_board();
+    let text = printed::show_mesh(&mesh.board(), &mesh, &net);
+    let printed = printed::read(&text).expect("a text");
+    let by_text = Picture::of_printed("A board", &printed, None).expect("a picture");
+    let by_board = Picture::of_mesh("A board", &mesh, net.rows()).expect("a picture");
+    assert!(by_text == by_board.with_links(&net, Links::default()));
+    let svg = by_text.with_borders().expect("borders").svg();
+    assert!(
+        svg.contains(">layer 1<") && svg.contains(">layer 2<") && svg.contains(" across layers<")
+    );
     assert_uncut(&svg);
 }
 
@@ -425,18 +443,9 @@ fn pictures_without_borders() {
     assert_uncut(&svg);
 }
 
-/// Of leafnet's text alone, all layers stand in one panel; over values the lines are the same.
+/// Over values the lines are the same, and above the cells.
 #[test]
-fn borders_of_leafnets_text_and_over_values() {
-    let name = Path::new(env!("CARGO_MANIFEST_DIR")).join("../../boards/two_layers.txt");
-    let board = text::parse(&fs::read_to_string(name).expect("a sample")).expect("a board");
-    let read = printed::read(&printed::show(&board).expect("a net")).expect("a text");
-    let picture = Picture::of_printed("A board", &read, None).expect("a picture");
-    let svg = picture.with_borders().expect("borders").svg();
-    let borders = read.borders().expect("borders").len();
-    assert_eq!(lines_of(&svg).len(), borders);
-    assert!(!svg.contains("across layers"));
-
+fn borders_lie_over_values() {
     let mesh = mesh_of("shunt.txt");
     let net = mesh.net().expect("a net");
     let picture = Picture::of_mesh("A board", &mesh, net.rows()).expect("a picture");

@@ -111,3 +111,27 @@ pub fn put_hanging([x, y]: [f64; 2], radius: f64, text: &mut String) -> fmt::Res
          stroke-width=\"{rim:.4}\"/>"
     )
 }
+
+/// A ring round the hottest leaf, so that it is found where leaves are small.
+pub fn put_hottest(picture: &Picture, layout: &Layout, text: &mut String) -> fmt::Result {
+    let Some(at) = picture.hottest() else {
+        return Ok(());
+    };
+    let cell = &picture.cells[at];
+    let [x0, y0, x1, y1] = layout.rect(cell.layer, cell.rect);
+    let radius = (0.8 * (x1 - x0).max(y1 - y0)).max(SMALLEST_RING);
+    put_ring([(x0 + x1) / 2.0, (y0 + y1) / 2.0], radius, text)
+}
+
+const SMALLEST_RING: f64 = 9.0;
+
+pub fn put_ring([x, y]: [f64; 2], radius: f64, text: &mut String) -> fmt::Result {
+    for (colour, wide) in [("#ffffff", 4.0), ("#000000", 1.5)] {
+        writeln!(
+            text,
+            "<circle cx=\"{x:.2}\" cy=\"{y:.2}\" r=\"{radius:.2}\" fill=\"none\" stroke=\"{colour}\" \
+             stroke-width=\"{wide}\"/>"
+        )?;
+    }
+    Ok(())
+}

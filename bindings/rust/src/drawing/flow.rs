@@ -30,6 +30,13 @@ impl Quantity {
         }
     }
 
+    pub(super) fn other(self) -> Self {
+        match self {
+            Quantity::PowerDensity => Quantity::SheetCurrent,
+            Quantity::SheetCurrent => Quantity::PowerDensity,
+        }
+    }
+
     /// A scale goes down to this share of the largest value. Power goes with the square of the current.
     fn deepest(self) -> f64 {
         match self {
@@ -134,20 +141,14 @@ impl Flows {
         Scale::of(values, self.quantity.deepest())
     }
 
-    /// The other quantity, on the scale of the first. None where it doesn't follow from it.
-    pub fn other(&self) -> Option<(Scale, Quantity)> {
+    /// The scale of the other quantity, where it follows from that of the first.
+    pub fn other_scale(&self) -> Option<Scale> {
         let sheet = self.sheet?;
-        let scale = self.scale();
-        Some(match self.quantity {
-            Quantity::PowerDensity => {
-                let current = |density: f64| (density / sheet).sqrt();
-                (scale.by(current), Quantity::SheetCurrent)
-            }
-            Quantity::SheetCurrent => {
-                let density = |current: f64| current * current * sheet;
-                (scale.by(density), Quantity::PowerDensity)
-            }
-        })
+        let other = |value: f64| match self.quantity {
+            Quantity::PowerDensity => (value / sheet).sqrt(),
+            Quantity::SheetCurrent => value * value * sheet,
+        };
+        Some(self.scale().by(other))
     }
 
     /// The cell with the most of a quantity, the first of several. None where there is none of it.

@@ -1,5 +1,6 @@
 //! Where things stand: one panel a layer, in rows and columns, each with a heading and room for labels.
 
+use super::svg::width_of;
 use super::{Cell, Place};
 use crate::Rect;
 use std::collections::BTreeSet;
@@ -18,7 +19,8 @@ const HEADING: f64 = 22.0;
 const WORTH: f64 = 0.7;
 /// Wide enough for a colour bar with its words.
 const LEAST: f64 = 600.0;
-const TITLE_LETTER: f64 = 11.0;
+/// Of a title's words.
+pub const TITLE_SIZE: f64 = 18.0;
 
 /// From ticks to the picture.
 pub struct Layout {
@@ -61,7 +63,7 @@ impl Layout {
             size: size.map(|ticks| ticks * unit),
             room: [0.0; 2],
             widest: 0.0,
-            title: TITLE_LETTER * title.chars().count() as f64,
+            title: width_of(title, TITLE_SIZE),
         }
     }
 

@@ -1,18 +1,18 @@
 //! What stands below the panels: a length, the scale of the colours, what is applied, and what the signs mean.
 
 use super::borders::scale_of;
-use super::cells::{colour_of, put_hanging, LINE};
+use super::cells::{colour_of, put_hanging, put_ring, LINE};
 use super::figures::round_length;
 use super::flow::{Flows, Quantity};
 use super::layout::{Layout, MARGIN};
-use super::scale::{put_bar, Marked};
-use super::svg::put_words;
+use super::scale::{put_bar, Marked, Scale};
+use super::svg::{put_words, width_of};
 use super::{border_lines, marks, Colouring, Picture};
 use std::collections::BTreeSet;
 use std::fmt::{self, Write};
 
-/// Wide enough for any letter of the text's size.
-const LETTER: f64 = 7.4;
+/// Of its words.
+const SIZE: f64 = 12.0;
 /// From one line of the legend to the next.
 const ROW: f64 = 22.0;
 
@@ -35,7 +35,7 @@ impl Pen {
 
     /// Where words go that stand so far behind a sign: here, or on the next line.
     fn entry(&mut self, sign: f64, words: &str) -> [f64; 2] {
-        let wide = sign + LETTER * words.chars().count() as f64;
+        let wide = sign + width_of(words, SIZE);
         if self.x + wide > self.width - MARGIN {
             self.break_line();
         }
@@ -46,22 +46,37 @@ impl Pen {
 
     /// On lines of their own, parts that hold together.
     fn put_parts(&mut self, parts: &[String], text: &mut String) -> fmt::Result {
-        let most = (self.width - 2.0 * MARGIN) / LETTER;
+        let most = self.width - 2.0 * MARGIN;
         let mut line = String::new();
         for part in parts {
-            if !line.is_empty() && (line.chars().count() + 1 + part.chars().count()) as f64 > most {
-                self.put_line(&line, text)?;
-                line.clear();
-            }
-            line = if line.is_empty() {
-                part.clone()
-            } else {
-                format!("{line} {part}")
+            let longer = match line.as_str() {
+                "" => part.clone(),
+                line => format!("{line} {part}"),
             };
+            if !line.is_empty() && width_of(&longer, SIZE) > most {
+                self.put_line(&line, text)?;
+                line = part.clone();
+            } else {
+                line = longer;
+            }
         }
-        if !line.is_empty() {
-            self.put_line(&line, text)?;
+        match line.as_str() {
+            "" => Ok(()),
+            line => self.put_line(line, text),
         }
+    }
+
+    /// A bar with words over it.
+    fn put_bar(
+        &mut self,
+        words: &str,
+        below: &Marked,
+        above: Option<&Marked>,
+        text: &mut String,
+    ) -> fmt::Result {
+        let parts: Vec<String> = words.split_whitespace().map(str::to_string).collect();
+        self.put_parts(&parts, text)?;
+        self.y = put_bar(below, above, self.y - 12.0, text)? + ROW + 4.0;
         Ok(())
     }
 
@@ -81,12 +96,12 @@ pub fn put(picture: &Picture, layout: &Layout, text: &mut String) -> Result<f64,
         width: layout.width(),
     };
     put_length(layout, &mut pen, text)?;
-    match &picture.colouring {
-        Colouring::Levels => {}
-        Colouring::Values { words, .. } => {
-            put_values(words, &picture.colouring, &mut pen, text)?;
+    match (&picture.colouring, picture.colouring.scale()) {
+        (Colouring::Values { words, .. }, Some(scale)) => {
+            put_values(words, scale, &mut pen, text)?;
         }
-        Colouring::Flows(flows) => put_flows(flows, picture, &mut pen, text)?,
+        (Colouring::Flows(flows), _) => put_flows(flows, picture, &mut pen, text)?,
+        _ => {}
     }
     pen.put_parts(&picture.terminals.words, text)?;
     put_levels(picture, &mut pen, text)?;
@@ -111,63 +126,61 @@ fn put_length(layout: &Layout, pen: &mut Pen, text: &mut String) -> fmt::Result 
     Ok(())
 }
 
-fn put_values(words: &str, colouring: &Colouring, pen: &mut Pen, text: &mut String) -> fmt::Result {
-    let Some(scale) = colouring.scale() else {
-        return Ok(());
-    };
-    let words = format!("{words}, logarithmic");
+fn put_values(words: &str, scale: Scale, pen: &mut Pen, text: &mut String) -> fmt::Result {
     let unit = "";
-    pen.y = put_bar(&words, &Marked { scale, unit }, None, pen.y, text)? + 28.0;
-    Ok(())
+    pen.put_bar(
+        &format!("{words}, logarithmic"),
+        &Marked { scale, unit },
+        None,
+        text,
+    )
 }
 
 /// Both quantities beside one bar, and the cells with the most of each.
 fn put_flows(flows: &Flows, picture: &Picture, pen: &mut Pen, text: &mut String) -> fmt::Result {
     let named = |quantity: Quantity| format!("{} in {}", quantity.words(), quantity.unit());
-    let own = Marked {
-        scale: flows.scale(),
-        unit: flows.quantity.unit(),
-    };
-    let other = flows.other().map(|(scale, quantity)| Marked {
+    let marked = |scale: Scale, quantity: Quantity| Marked {
         scale,
         unit: quantity.unit(),
-    });
-    let beside = match flows.quantity {
-        Quantity::PowerDensity => Quantity::SheetCurrent,
-        Quantity::SheetCurrent => Quantity::PowerDensity,
     };
-    let more = match other {
-        Some(_) => format!("above: {}", named(beside)),
-        None => format!("no scale in {}: sheet resistances differ", beside.unit()),
+    let (own, other) = (flows.quantity, flows.quantity.other());
+    let above = flows.other_scale().map(|scale| marked(scale, other));
+    let more = match above {
+        Some(_) => format!("above: {}", named(other)),
+        None => format!("no scale in {}: sheet resistances differ", other.unit()),
     };
-    let words = format!("{}, logarithmic ({more})", named(flows.quantity));
-    pen.y = put_bar(&words, &own, other.as_ref(), pen.y, text)? + 26.0;
-    for words in most_of(flows, picture) {
-        pen.put_line(&words, text)?;
-    }
-    Ok(())
+    let words = format!("{}, logarithmic ({more})", named(own));
+    pen.put_bar(&words, &marked(flows.scale(), own), above.as_ref(), text)?;
+    put_most(flows, picture, pen, text)
 }
 
-/// The hottest cell; and the one with the most current, where that is another one by a sheet resistance of its own.
-fn most_of(flows: &Flows, picture: &Picture) -> Vec<String> {
-    let said = |name: &str, at: usize| {
-        let (cell, flowing) = (&picture.cells[at], &flows.cells[at]);
-        format!(
-            "{name}: leaf {} (layer {}), {}",
-            cell.id,
-            cell.layer,
-            flowing.words()
-        )
+/// The hottest cell, with its ring; and the one with the most current, where a sheet resistance of its own makes it
+/// another one.
+fn put_most(flows: &Flows, picture: &Picture, pen: &mut Pen, text: &mut String) -> fmt::Result {
+    let said = |at: usize| {
+        let (cell, flowing) = (&picture.cells[at], flows.cells[at].words());
+        format!("leaf {} (layer {}), {flowing}", cell.id, cell.layer)
     };
-    let hottest = picture.hottest();
-    let Some(at) = hottest else {
-        return vec!["hottest: none, since no leaf takes power".to_string()];
+    let Some(hottest) = picture.hottest() else {
+        return pen.put_line("hottest: none, since no leaf takes power", text);
     };
+    put_ring([pen.x + 7.0, pen.y - 4.0], 5.5, text)?;
+    pen.x += SIGN;
+    put_words(
+        [pen.x, pen.y],
+        "",
+        &format!("hottest: {}", said(hottest)),
+        text,
+    )?;
+    pen.break_line();
     let most = flows.most(Quantity::SheetCurrent);
-    let other =
-        most.filter(|&most| flows.other().is_none() && most != at && most < picture.cells.len());
-    let other = other.map(|at| said("most current", at));
-    [said("hottest", at)].into_iter().chain(other).collect()
+    let is_other = |at: &usize| *at != hottest && *at < picture.cells.len();
+    match most.filter(is_other) {
+        Some(at) if flows.other_scale().is_none() => {
+            pen.put_line(&format!("most current: {}", said(at)), text)
+        }
+        _ => Ok(()),
+    }
 }
 
 fn put_levels(picture: &Picture, pen: &mut Pen, text: &mut String) -> fmt::Result {

@@ -56,7 +56,7 @@ use crate::{
 };
 use colouring::Colouring;
 use flow::Flows;
-use layout::{Layout, MARGIN};
+use layout::{Layout, MARGIN, TITLE_SIZE};
 use marks::Marks;
 use std::collections::BTreeSet;
 use std::fmt::{self, Write};
@@ -254,8 +254,8 @@ impl Picture {
             text,
             "<rect width=\"100%\" height=\"100%\" fill=\"#ffffff\"/>"
         )?;
-        let size = " font-size=\"18\"";
-        svg::put_words([MARGIN, MARGIN + 12.0], size, &self.title, text)?;
+        let size = format!(" font-size=\"{TITLE_SIZE}\"");
+        svg::put_words([MARGIN, MARGIN + 12.0], &size, &self.title, text)?;
         text.push_str(&body);
         writeln!(text, "</svg>")
     }
@@ -268,6 +268,7 @@ impl Picture {
         borders::put(self, layout, text)?;
         cells::put_nodes(self, layout, &sides, text)?;
         marks::put(&self.marks, layout, &sides, text)?;
-        self.terminals.put(layout, text)
+        self.terminals.put(layout, text)?;
+        cells::put_hottest(self, layout, text)
     }
 }

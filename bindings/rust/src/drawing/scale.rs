@@ -122,16 +122,14 @@ const STEPS: usize = 96;
 /// Of a line of the bar's words.
 const LINE: f64 = 20.0;
 
-/// The bar with words over it, one scale below it and another one above, if there is one. Answers where it ends.
+/// The bar, one scale below it and another one above, if there is one. Answers where its words end.
 pub fn put_bar(
-    words: &str,
     below: &Marked,
     above: Option<&Marked>,
     y: f64,
     text: &mut String,
 ) -> Result<f64, fmt::Error> {
-    put_words([MARGIN, y + 4.0], "", words, text)?;
-    let top = y + 12.0 + above.map_or(0.0, |_| LINE);
+    let top = y + above.map_or(0.0, |_| LINE);
     for step in 0..STEPS {
         let fill = heat((step as f64 + 0.5) / STEPS as f64);
         let x = MARGIN + BAR * step as f64 / STEPS as f64;

@@ -24,6 +24,18 @@ pub fn escaped(words: &str) -> String {
     out
 }
 
+/// What words take at most in a usual font of this size.
+pub fn width_of(words: &str, size: f64) -> f64 {
+    let share = |letter: char| match letter {
+        ' ' | '.' | ',' | ':' | ';' | '\'' | 'i' | 'j' | 'l' => 0.36,
+        'm' | 'w' | 'M' | 'W' | '%' | '@' => 1.0,
+        'A'..='Z' => 0.8,
+        letter if letter.is_ascii() => 0.66,
+        _ => 1.0,
+    };
+    size * words.chars().map(share).sum::<f64>()
+}
+
 /// Words of at most so many letters: longer ones end with dots.
 pub fn shortened(words: &str, most: usize) -> String {
     if words.chars().count() <= most {

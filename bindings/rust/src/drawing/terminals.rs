@@ -3,7 +3,7 @@
 use super::figures::with_unit;
 use super::layout::Layout;
 use super::outline::Outline;
-use super::svg::{escaped, put_words, shortened};
+use super::svg::{escaped, put_words, shortened, width_of};
 use super::{place_of, Cell, Place};
 use crate::solving::{Applied, Drive, Held};
 use crate::Node;
@@ -189,9 +189,8 @@ struct Label {
     wide: f64,
 }
 
-/// Of a label's words: their size, and wide enough for any letter of it.
+/// Of a label's words.
 const SIZE: f64 = 11.0;
-const LETTER: f64 = 7.0;
 /// Beside a label's words, on either hand.
 const PAD: f64 = 4.0;
 const HIGH: f64 = 16.0;
@@ -204,14 +203,13 @@ impl Labels {
     pub fn of(terminals: &Terminals, layout: &mut Layout) -> Self {
         let label = |mark: &Mark| {
             let is_above = mark.is_above(layout);
-            let letters = mark.label.chars().count() as f64;
             Some(Label {
                 words: mark.label.clone(),
                 anchor: mark.anchor(is_above)?,
                 is_above,
                 row: 0,
                 left: 0.0,
-                wide: LETTER * letters + 2.0 * PAD,
+                wide: width_of(&mark.label, SIZE) + 2.0 * PAD,
             })
         };
         let mut labels: Vec<Label> = terminals.marks.iter().filter_map(label).collect();

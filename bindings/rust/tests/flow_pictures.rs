@@ -1,0 +1,574 @@
+//! Pictures of what flows: both quantities beside each other, the hottest leaf, and terminals where they are.
+
+#[path = "shared/svg.rs"]
+mod svg;
+
+use leafmesh::drawing::{Picture, Quantity};
+use leafmesh::solving::{Applied, Drive, Held, Solution, Spot, System, Terminal};
+use leafmesh::{text, Edge, Leaf, Mesh, Net, OwnedLinks, Reason, Side};
+use std::fs;
+use std::path::Path;
+use std::time::{Duration, Instant};
+use svg::{assert_uncut, number, words_of};
+
+/// A board that was solved.
+struct Solved {
+    mesh: Mesh,
+    net: Net,
+    links: OwnedLinks,
+    held: Vec<Held>,
+    solution: Solution,
+}
+
+impl Solved {
+    fn of(words: &str, terminals: &[Terminal]) -> Self {
+        let whole = text::parse_whole(words).expect("a board");
+        let mesh = Mesh::of_board(&whole.board).expect("a mesh");
+        let net = mesh.linked_net(whole.links.rows()).expect("a net");
+        let held = mesh.held(&net, terminals);
+        let system = System::of_cells(&net).expect("aligned");
+        let solution = system.solve(&held).expect("a solution");
+        Solved {
+            mesh,
+            net,
+            links: whole.links,
+            held,
+            solution,
+        }
+    }
+
+    fn bare(&self) -> Picture {
+        let picture = Picture::of_mesh("A board", &self.mesh, self.net.rows());
+        let picture = picture.expect("a picture");
+        picture.with_links(&self.net, self.links.rows())
+    }
+
+    fn picture(&self, quantity: Quantity) -> Picture {
+        self.bare()
+            .by_flow(&self.mesh, &self.solution, quantity)
+            .with_terminals(&self.net.nodes, &self.held, &self.solution.terminals)
+    }
+
+    fn svg(&self, quantity: Quantity) -> String {
+        self.picture(quantity).svg()
+    }
+
+    /// W/mm2 and A/mm of each leaf.
+    fn values(&self) -> Vec<(Leaf, [f64; 2])> {
+        let value = |(leaf, watts): (Leaf, f64)| {
+            let both = [watts / (leaf.area() * 1e6), leaf.sheet_current(watts) / 1e3];
+            (leaf, both)
+        };
+        let watts = self.solution.cells.iter().map(|cell| cell.watts);
+        self.mesh.leaves().zip(watts).map(value).collect()
+    }
+}
+
+fn terminal(name: &str, layer: u16, component: u32, side: Side, drive: Drive) -> Terminal {
+    let spot = Spot::End {
+        layer,
+        component,
+        side,
+    };
+    Terminal::new(name, spot, drive)
+}
+
+/// 10 A in on the left of layer 1, out on the right.
+fn across() -> [Terminal; 2] {
+    [
+        terminal("in", 1, 0, Side::West, Drive::Amperes(10.0)),
+        terminal("out", 1, 0, Side::East, Drive::Volts(0.0)),
+    ]
+}
+
+/// Two pads of 8 by 8 mm and a neck of 2 by 0.2 mm that lies across between them, in cells of 0.1 mm.
+fn neck() -> String {
+    let ring = "0 0\n8 0\n8 4\n10 4\n10 0\n18 0\n18 8\n10 8\n10 4.2\n8 4.2\n8 8\n0 8\n";
+    // Twice 40 by 20 cells of the pads, then the row of 90 that the neck lies in.
+    let ids: Vec<String> = (1_600 + 40..1_600 + 50).map(|id| id.to_string()).collect();
+    let board = format!("level 2\npitch 0.2\npolygon 1 0 0.0005\n{ring}");
+    format!("{board}split {}\n", ids.join(" "))
+}
+
+fn sample(name: &str) -> String {
+    let boards = Path::new(env!("CARGO_MANIFEST_DIR")).join("../../boards");
+    fs::read_to_string(boards.join(name)).expect("a sample")
+}
+
+/// 10 A from the bottom of layer 1's plate to the top of layer 2's bar.
+fn vias() -> Solved {
+    let terminals = [
+        terminal("plate", 1, 0, Side::South, Drive::Amperes(10.0)),
+        terminal("bar", 2, 1, Side::North, Drive::Volts(0.0)),
+    ];
+    Solved::of(&sample("vias.txt"), &terminals)
+}
+
+/// What stands behind the words, up to the tag's end.
+fn behind<'a>(svg: &'a str, words: &str) -> &'a str {
+    let at = svg.find(words).unwrap_or_else(|| panic!("no {words}"));
+    svg[at + words.len()..].split('<').next().expect("an end")
+}
+
+fn is_near(said: f64, value: f64) -> bool {
+    (said - value).abs() <= 0.006 * value.abs()
+}
+
+#[test]
+fn a_neck_that_lies_across_is_the_hottest() {
+    let solved = Solved::of(&neck(), &across());
+    assert!(solved.net.cells.len() >= 1_500);
+    let svg = solved.svg(Quantity::PowerDensity);
+    let words = behind(&svg, ">hottest: leaf ");
+    let (id, rest) = words.split_once(" (layer 1), ").expect("a layer");
+    let (density, rest) = rest.split_once(" W/mm2, ").expect("a power density");
+    let current = rest.strip_suffix(" A/mm").expect("a sheet current");
+    let hottest = solved
+        .mesh
+        .leaf(id.parse().expect("an id"))
+        .expect("a leaf");
+    let millimetres = |ticks: i64| ticks as f64 * leafmesh::TICK * 1e3;
+    let [x0, y0, x1, y1] = hottest.rect.map(millimetres);
+    assert!(7.99 < x0 && x1 < 10.01 && 3.99 < y0 && y1 < 4.21);
+
+    let values = solved.values();
+    let by_heat = |a: &&(Leaf, [f64; 2]), b: &&(Leaf, [f64; 2])| a.1[0].total_cmp(&b.1[0]);
+    let (leaf, [most, amperes]) = values.iter().max_by(by_heat).expect("leaves");
+    assert_eq!(leaf.id, hottest.id);
+    assert!(is_near(density.parse().expect("a number"), *most));
+    assert!(is_near(current.parse().expect("a number"), *amperes));
+    // 10 A through 0.2 mm, and more at the corners of its ends.
+    assert!(*amperes > 50.0);
+    assert_uncut(&svg);
+}
+
+/// Every leaf says both quantities, in either picture, as the solution has them.
+#[test]
+fn leaves_say_both_quantities() {
+    let solved = Solved::of(&neck(), &across());
+    let values = solved.values();
+    for quantity in [Quantity::PowerDensity, Quantity::SheetCurrent] {
+        let svg = solved.svg(quantity);
+        assert_eq!(svg.matches("<title>leaf ").count(), values.len());
+        for (leaf, [density, current]) in &values {
+            let words = behind(
+                &svg,
+                &format!("<title>leaf {}, level {}, ", leaf.id, leaf.level),
+            );
+            let (said, rest) = words.split_once(" W/mm2, ").expect("a power density");
+            assert!(
+                is_near(said.parse().expect("a number"), *density),
+                "{words}"
+            );
+            let (said, direction) = rest.split_once(" A/mm to the ").expect("a sheet current");
+            assert!(
+                is_near(said.parse().expect("a number"), *current),
+                "{words}"
+            );
+            assert!(direction.contains("east") || *current < 3.0, "{words}");
+        }
+    }
+}
+
+/// The same cells have the same colours by power as by current where all have one sheet resistance.
+#[test]
+fn one_sheet_resistance_has_two_scales_of_one_bar() {
+    let solved = Solved::of(&neck(), &across());
+    let [power, current] =
+        [Quantity::PowerDensity, Quantity::SheetCurrent].map(|quantity| solved.svg(quantity));
+    let fills = |svg: &str| -> Vec<String> {
+        let own = svg.split(" fill=\"").skip(1);
+        own.map(|rest| rest[..7].to_string()).collect()
+    };
+    assert_eq!(fills(&power), fills(&current));
+    for (svg, words) in [
+        (
+            &power,
+            ">power density in W/mm2, logarithmic (above: sheet current in A/mm)<",
+        ),
+        (
+            &current,
+            ">sheet current in A/mm, logarithmic (above: power density in W/mm2)<",
+        ),
+    ] {
+        for words in [words, ">W/mm2<", ">A/mm<", ">hottest: leaf "] {
+            assert!(svg.contains(words), "{words}");
+        }
+        assert!(!svg.contains("most current"));
+        assert_uncut(svg);
+    }
+    // Both scales end with what the hottest leaf has, at one place.
+    let hottest = behind(&power, ">hottest: leaf ");
+    let (density, current) = hottest
+        .split_once(", ")
+        .and_then(|(_, both)| both.split_once(" W/mm2, "))
+        .expect("both");
+    let current = current.trim_end_matches(" A/mm");
+    let place = |words: &str| {
+        let all = words_of(&power);
+        let own = all.iter().find(|(own, _)| *own == words);
+        let [x0, _, x1, _] = own.unwrap_or_else(|| panic!("no {words}")).1;
+        (x0 + x1) / 2.0
+    };
+    assert!((place(density) - place(current)).abs() < 0.01);
+}
+
+/// Two pieces in a row, the second of four times the resistance: the hottest leaf is in it, and the most current
+/// elsewhere.
+#[test]
+fn sheet_resistances_that_differ_have_one_scale() {
+    let mut board = "level 2\npitch 0.5\npolygon 1 0 0.0005\n0 0\n10 0\n10 2\n0 2\n".to_string();
+    board += "polygon 2 0 0.005\n0 0\n10 0\n10 4\n0 4\n";
+    board += "via 1 2 0 10 1 0.5 1 0.0001\n";
+    let terminals = [
+        terminal("in", 1, 0, Side::West, Drive::Amperes(10.0)),
+        terminal("out", 2, 0, Side::West, Drive::Volts(0.0)),
+    ];
+    let solved = Solved::of(&board, &terminals);
+    for (quantity, other) in [
+        (Quantity::PowerDensity, "A/mm"),
+        (Quantity::SheetCurrent, "W/mm2"),
+    ] {
+        let svg = solved.svg(quantity);
+        let words = format!("(no scale in {other}: sheet resistances differ)<");
+        assert!(
+            svg.contains(&words) && !svg.contains(&format!(">{other}<")),
+            "{words}"
+        );
+        assert!(behind(&svg, ">hottest: leaf ").contains("(layer 2)"));
+        assert!(behind(&svg, ">most current: leaf ").contains("(layer 1)"));
+        assert_uncut(&svg);
+    }
+}
+
+/// What a terminal's band is drawn along, from its two paths: x0, y0, x1, y1 of each line, and its title.
+fn bands(svg: &str) -> Vec<(&str, Vec<[f64; 4]>)> {
+    let groups = svg
+        .split("<g fill=\"none\" stroke-linecap=\"square\"><title>")
+        .skip(1);
+    groups
+        .map(|group| {
+            let title = group.split('<').next().expect("a title");
+            let path = group.split(" d=\"").nth(1).expect("a path");
+            let path = path.split('"').next().expect("an end");
+            let lines = path.split('M').skip(1).map(|line| {
+                let numbers: Vec<f64> = line
+                    .split(['L', ' ', 'h'])
+                    .map(|number| number.parse().expect("a number"))
+                    .collect();
+                match numbers[..] {
+                    [ax, ay, bx, by] => [ax, ay, bx, by],
+                    [x, y, _] => [x, y, x, y],
+                    _ => panic!("{line}"),
+                }
+            });
+            (title, lines.collect())
+        })
+        .collect()
+}
+
+/// Where the leaves of a layer are drawn: x0, y0, x1, y1.
+fn panel(svg: &str, solved: &Solved, layer: u16) -> [f64; 4] {
+    let own = solved.mesh.leaves().filter(|leaf| leaf.layer == layer);
+    let rects = own.map(|leaf| {
+        let title = format!("><title>leaf {}, ", leaf.id);
+        let at = svg.find(&title).expect("a leaf");
+        let tag = &svg[svg[..at].rfind("<rect").expect("a tag")..at];
+        let [x, y, w, h] = ["x", "y", "width", "height"].map(|name| number(tag, name).expect(name));
+        [x, y, x + w, y + h]
+    });
+    rects
+        .reduce(|a, b| {
+            [
+                a[0].min(b[0]),
+                a[1].min(b[1]),
+                a[2].max(b[2]),
+                a[3].max(b[3]),
+            ]
+        })
+        .expect("leaves")
+}
+
+fn is_at(a: [f64; 4], b: [f64; 4]) -> bool {
+    a.iter().zip(b).all(|(a, b)| (a - b).abs() < 0.02)
+}
+
+#[test]
+fn terminals_are_bands_at_their_ends() {
+    let solved = Solved::of(&neck(), &across());
+    let svg = solved.svg(Quantity::PowerDensity);
+    let [x0, y0, x1, y1] = panel(&svg, &solved, 1);
+    let bands = bands(&svg);
+    let [(left, west), (right, east)] = &bands[..] else {
+        panic!("two bands");
+    };
+    let volts = solved.solution.terminals[0].volts;
+    let words = format!(
+        "{} mV, 10 A",
+        format!("{:.3e}", 1e3 * volts).parse::<f64>().expect("3")
+    );
+    assert!(
+        left.starts_with("terminal in: ") && left.ends_with(" mV, 10 A"),
+        "{left} {words}"
+    );
+    assert_eq!(*right, "terminal out: 0 V, -10 A");
+    assert!(
+        west.len() == 1 && is_at(west[0], [x0, y1, x0, y0]),
+        "{west:?}"
+    );
+    assert!(
+        east.len() == 1 && is_at(east[0], [x1, y1, x1, y0]),
+        "{east:?}"
+    );
+}
+
+/// On two layers: each in its own panel.
+#[test]
+fn terminals_stand_in_the_panels_of_their_layers() {
+    let solved = vias();
+    assert!(solved.net.cells.len() >= 1_500);
+    let svg = solved.svg(Quantity::PowerDensity);
+    let bands = bands(&svg);
+    assert_eq!(bands.len(), 2);
+    let [x0, _, x1, y1] = panel(&svg, &solved, 1);
+    assert!(bands[0].0.contains("plate") && is_at(bands[0].1[0], [x0, y1, x1, y1]));
+    let [x0, y0, x1, _] = panel(&svg, &solved, 2);
+    assert!(bands[1].0.contains("bar") && is_at(bands[1].1[0], [x0, y0, x1, y0]));
+    assert_labels_are_seen(&solved, &svg, 2);
+}
+
+/// Where labels are: x0, y0, x1, y1 of their boxes, and their words.
+fn labels(svg: &str) -> Vec<([f64; 4], &str)> {
+    let boxes = svg.split(" rx=\"3\"");
+    let tags: Vec<&str> = boxes.collect();
+    tags.windows(2)
+        .map(|two| {
+            let tag = &two[0][two[0].rfind("<rect").expect("a tag")..];
+            let [x, y, w, h] =
+                ["x", "y", "width", "height"].map(|name| number(tag, name).expect(name));
+            let words = two[1].split("<text").nth(1).expect("words");
+            let words = words.split(['>', '<']).nth(1).expect("words");
+            ([x, y, x + w, y + h], words)
+        })
+        .collect()
+}
+
+/// Labels lie in the picture, over no leaf and no other label, hold their words, and come last.
+fn assert_labels_are_seen(solved: &Solved, svg: &str, count: usize) {
+    assert_uncut(svg);
+    let all = labels(svg);
+    assert_eq!(all.len(), count);
+    let overlap =
+        |a: [f64; 4], b: [f64; 4]| a[0] < b[2] && b[0] < a[2] && a[1] < b[3] && b[1] < a[3];
+    let mut layers: Vec<u16> = solved.mesh.leaves().map(|leaf| leaf.layer).collect();
+    layers.dedup();
+    let panels: Vec<[f64; 4]> = layers
+        .iter()
+        .map(|&layer| panel(svg, solved, layer))
+        .collect();
+    let width = number(svg, "width").expect("a width");
+    let texts = words_of(svg);
+    for (at, &(own, words)) in all.iter().enumerate() {
+        assert!(
+            own[0] >= 0.0 && own[2] <= width && own[1] >= 0.0,
+            "{words} is cut"
+        );
+        assert!(
+            !panels.iter().any(|&panel| overlap(own, panel)),
+            "{words} hides leaves"
+        );
+        let others = all[..at].iter().map(|other| other.0);
+        assert!(
+            others.into_iter().all(|other| !overlap(own, other)),
+            "{words} is covered"
+        );
+        for (other, place) in texts.iter().filter(|(other, _)| *other != words) {
+            assert!(!overlap(own, *place), "{words} and {other}");
+        }
+        let long = 0.56 * 11.0 * words.chars().count() as f64;
+        assert!(long <= own[2] - own[0], "{words} is wider than its box");
+    }
+    let last = svg.rfind("<title>").expect("titles");
+    assert!(svg
+        .find(" rx=\"3\"")
+        .map_or(count == 0, |first| last < first));
+}
+
+#[test]
+fn labels_and_the_legend_say_what_is_applied() {
+    let solved = vias();
+    let svg = solved.svg(Quantity::SheetCurrent);
+    let volts = solved.solution.terminals[0].volts;
+    let three = |value: f64| format!("{value:.2e}").parse::<f64>().expect("a number");
+    let (millivolts, watts) = (three(1e3 * volts), three(10.0 * volts));
+    assert!((10.0..100.0).contains(&millivolts) && (0.1..1.0).contains(&watts));
+    for words in [
+        format!(">plate: {millivolts} mV, 10 A<"),
+        ">bar: 0 V, -10 A<".to_string(),
+        format!(">applied: plate 10 A at {millivolts} mV; bar -10 A at 0 V; {watts} W in all<"),
+    ] {
+        assert!(svg.contains(&words), "{words}");
+    }
+    // By level, too.
+    let picture = solved.bare();
+    let svg = picture
+        .with_terminals(&solved.net.nodes, &solved.held, &solved.solution.terminals)
+        .svg();
+    assert!(svg.contains(">applied: plate 10 A ") && svg.contains(">level 1<"));
+    assert_uncut(&svg);
+}
+
+/// Many terminals beside each other, with long names that have to be written otherwise in a picture.
+#[test]
+fn labels_stand_clear_of_each_other() {
+    let board = "level 2\npitch 0.5\npolygon 1 0 0.0005\n0 0\n20 0\n20 20\n0 20\n";
+    let mesh = Mesh::of_board(&text::parse(board).expect("a board")).expect("a mesh");
+    let [west, south, east, north] = {
+        let rects = mesh.leaves().map(|leaf| leaf.rect);
+        rects
+            .reduce(|a, b| {
+                [
+                    a[0].min(b[0]),
+                    a[1].min(b[1]),
+                    a[2].max(b[2]),
+                    a[3].max(b[3]),
+                ]
+            })
+            .expect("leaves")
+    };
+    let part = |from: i64, to: i64, of: i64| from + (to - from) / 12 * of;
+    let mut terminals = Vec::new();
+    for of in 0..12 {
+        let [x0, x1] = [of, of + 1].map(|of| part(west, east, of) + 1_000);
+        for (y0, y1, name) in [
+            (north, north, "top"),
+            (part(south, north, 6), part(south, north, 7), "<middle>&"),
+            (
+                south,
+                south,
+                "bottom-terminal-of-a-name-that-nobody-wants-to-read",
+            ),
+        ] {
+            let spot = Spot::Rect {
+                layer: 1,
+                component: 0,
+                rect: [x0, y0, x1 - 2_000, y1],
+            };
+            let drive = Drive::Volts(f64::from(of as i32));
+            terminals.push(Terminal::new(&format!("{name}{of}"), spot, drive));
+        }
+    }
+    let solved = Solved::of(board, &terminals);
+    let svg = solved.svg(Quantity::PowerDensity);
+    assert_labels_are_seen(&solved, &svg, terminals.len());
+    assert!(svg.contains("bottom-terminal-of-a-name-that-nobody-wants-to-read0: "));
+    assert!(svg.contains(">bottom-terminal-of-a-na\u{2026}: "));
+    assert!(svg.contains(">&lt;middle&gt;&amp;11: 11 V, "));
+    assert!(svg.contains(" W in all<"));
+    // Pads in the middle have a line round them.
+    let middle = bands(&svg)
+        .into_iter()
+        .filter(|band| band.0.contains("middle"));
+    assert!(middle.map(|band| band.1.len()).all(|lines| lines == 4));
+}
+
+/// What can't be drawn is passed over or refused, and never a panic.
+#[test]
+fn nets_and_terminals_that_make_no_sense() {
+    let solved = Solved::of(&neck(), &across());
+    let Solved { mesh, net, .. } = &solved;
+    let mut bad = net.clone();
+    bad.cells[7].corners[2] = net.nodes.len();
+    let why = Picture::of_mesh("A board", mesh, bad.rows()).expect_err("a bad net");
+    assert_eq!(why.reason, Reason::BadTable);
+    let mut short = net.clone();
+    short.cells.pop();
+    let why = Picture::of_mesh("A board", mesh, short.rows()).expect_err("another net");
+    assert_eq!(why.reason, Reason::BadTable);
+
+    let mut linked = net.clone();
+    linked.edges.push(Edge {
+        from: 0,
+        to: usize::MAX,
+        conductance: 1.0,
+    });
+    linked.links = 1;
+    let bare = solved.bare();
+    assert_eq!(bare.clone().with_links(&linked, solved.links.rows()), bare);
+    linked.links = usize::MAX;
+    assert!(bare
+        .clone()
+        .with_links(&linked, solved.links.rows())
+        .svg()
+        .contains(" links<"));
+
+    let held = |nodes: Vec<usize>, volts: f64| Held {
+        terminal: "any".to_string(),
+        nodes,
+        drive: Drive::Volts(volts),
+    };
+    let nowhere = [
+        held(vec![net.nodes.len(), usize::MAX], 1.0),
+        held(vec![], f64::NAN),
+    ];
+    let svg = bare.clone().with_terminals(&net.nodes, &nowhere, &[]).svg();
+    assert!(bands(&svg).is_empty() && svg.contains(">applied: any 1 V; any NaN V<"));
+    let all = [held((0..net.nodes.len()).rev().collect(), -0.5)];
+    let applied = [Applied {
+        terminal: "any".to_string(),
+        volts: f64::INFINITY,
+        amperes: -0.0,
+    }];
+    let svg = bare
+        .clone()
+        .with_terminals(&net.nodes, &all, &applied)
+        .svg();
+    assert_eq!(bands(&svg).len(), 1);
+    assert_uncut(&svg);
+    assert_eq!(bare.clone().with_terminals(&net.nodes, &[], &[]), bare);
+
+    // A solution of another mesh, or of none of the cells.
+    let mut other = solved.solution.clone();
+    other.cells.truncate(9);
+    let svg = bare
+        .clone()
+        .by_flow(mesh, &other, Quantity::PowerDensity)
+        .svg();
+    assert_eq!(svg.matches("<title>leaf ").count(), net.cells.len());
+    other.cells.clear();
+    let svg = bare.by_flow(mesh, &other, Quantity::SheetCurrent).svg();
+    assert!(svg.contains(">hottest: none, since no leaf takes power<"));
+    assert_uncut(&svg);
+}
+
+/// Some 16,000 leaves.
+#[test]
+fn a_large_picture_is_made_at_once() {
+    let board = "level 1\npitch 0.25\npolygon 1 0 0.0005\n0 0\n32 0\n32 31\n0 31\n";
+    let board = text::parse(board).expect("a board");
+    let mesh = Mesh::of_board(&board).expect("a mesh");
+    let net = mesh.net().expect("a net");
+    assert!(net.cells.len() > 15_800);
+    let flow = leafmesh::solving::Flow {
+        watts: 1e-3,
+        current: [1.0, 0.0],
+    };
+    let solution = Solution {
+        volts: vec![0.0; net.nodes.len()],
+        terminals: Vec::new(),
+        cells: vec![flow; net.cells.len()],
+        edges: Vec::new(),
+        edge_watts: Vec::new(),
+    };
+    let held = mesh.held(&net, &across());
+    let start = Instant::now();
+    let picture = Picture::of_mesh("A board", &mesh, net.rows()).expect("a picture");
+    let svg = picture
+        .by_flow(&mesh, &solution, Quantity::PowerDensity)
+        .with_terminals(&net.nodes, &held, &[])
+        .svg();
+    let took = start.elapsed();
+    assert_eq!(svg.matches("<title>leaf ").count(), net.cells.len());
+    // Less than half a second where nothing else runs, without optimizing.
+    assert!(took < Duration::from_secs(5), "{took:?}");
+}
