@@ -9,7 +9,7 @@ use leafmesh::{text, Edge, Leaf, Mesh, Net, OwnedLinks, Reason, Side};
 use std::fs;
 use std::path::Path;
 use std::time::{Duration, Instant};
-use svg::{assert_uncut, number, words_of};
+use svg::{assert_uncut, number, width_of, words_of};
 
 /// A board that was solved.
 struct Solved {
@@ -81,11 +81,11 @@ fn across() -> [Terminal; 2] {
     ]
 }
 
-/// Two pads of 8 by 8 mm and a neck of 2 by 0.2 mm that lies across between them, in cells of 0.1 mm.
+/// Two pads of 6 by 6 mm and a neck of 2 by 0.2 mm that lies across between them, in cells of 0.1 mm.
 fn neck() -> String {
-    let ring = "0 0\n8 0\n8 4\n10 4\n10 0\n18 0\n18 8\n10 8\n10 4.2\n8 4.2\n8 8\n0 8\n";
-    // Twice 40 by 20 cells of the pads, then the row of 90 that the neck lies in.
-    let ids: Vec<String> = (1_600 + 40..1_600 + 50).map(|id| id.to_string()).collect();
+    let ring = "0 0\n6 0\n6 3\n8 3\n8 0\n14 0\n14 6\n8 6\n8 3.2\n6 3.2\n6 6\n0 6\n";
+    // Twice 30 by 15 cells of the pads, then the row of 70 that the neck lies in.
+    let ids: Vec<String> = (930..940).map(|id| id.to_string()).collect();
     let board = format!("level 2\npitch 0.2\npolygon 1 0 0.0005\n{ring}");
     format!("{board}split {}\n", ids.join(" "))
 }
@@ -129,7 +129,7 @@ fn a_neck_that_lies_across_is_the_hottest() {
         .expect("a leaf");
     let millimetres = |ticks: i64| ticks as f64 * leafmesh::TICK * 1e3;
     let [x0, y0, x1, y1] = hottest.rect.map(millimetres);
-    assert!(7.99 < x0 && x1 < 10.01 && 3.99 < y0 && y1 < 4.21);
+    assert!(5.99 < x0 && x1 < 8.01 && 2.99 < y0 && y1 < 3.21);
 
     let values = solved.values();
     let by_heat = |a: &&(Leaf, [f64; 2]), b: &&(Leaf, [f64; 2])| a.1[0].total_cmp(&b.1[0]);
@@ -149,12 +149,13 @@ fn leaves_say_both_quantities() {
     let values = solved.values();
     for quantity in [Quantity::PowerDensity, Quantity::SheetCurrent] {
         let svg = solved.svg(quantity);
-        assert_eq!(svg.matches("<title>leaf ").count(), values.len());
-        for (leaf, [density, current]) in &values {
-            let words = behind(
-                &svg,
-                &format!("<title>leaf {}, level {}, ", leaf.id, leaf.level),
-            );
+        let titles: Vec<&str> = svg.split("<title>leaf ").skip(1).collect();
+        assert_eq!(titles.len(), values.len());
+        let leaves = values.iter().zip(&solved.solution.cells);
+        for (((leaf, [density, current]), flow), title) in leaves.zip(titles) {
+            let words = title.split('<').next().expect("a title");
+            let named = format!("{}, level {}, ", leaf.id, leaf.level);
+            let words = words.strip_prefix(&named).expect("the leaves in order");
             let (said, rest) = words.split_once(" W/mm2, ").expect("a power density");
             assert!(
                 is_near(said.parse().expect("a number"), *density),
@@ -165,9 +166,28 @@ fn leaves_say_both_quantities() {
                 is_near(said.parse().expect("a number"), *current),
                 "{words}"
             );
-            assert!(direction.contains("east") || *current < 3.0, "{words}");
+            assert_eq!(direction, nearest_of_eight(flow.current), "{words}");
         }
     }
+}
+
+fn nearest_of_eight([x, y]: [f64; 2]) -> &'static str {
+    let half = 0.5_f64.sqrt();
+    let ways = [
+        ("east", 1.0, 0.0),
+        ("north-east", half, half),
+        ("north", 0.0, 1.0),
+        ("north-west", -half, half),
+        ("west", -1.0, 0.0),
+        ("south-west", -half, -half),
+        ("south", 0.0, -1.0),
+        ("south-east", half, -half),
+    ];
+    let along = |way: &(&str, f64, f64)| way.1 * x + way.2 * y;
+    let nearest = ways
+        .into_iter()
+        .max_by(|a, b| along(a).total_cmp(&along(b)));
+    nearest.expect("eight").0
 }
 
 /// The same cells have the same colours by power as by current where all have one sheet resistance.
@@ -206,7 +226,7 @@ fn one_sheet_resistance_has_two_scales_of_one_bar() {
     let current = current.trim_end_matches(" A/mm");
     let place = |words: &str| {
         let all = words_of(&power);
-        let own = all.iter().find(|(own, _)| *own == words);
+        let own = all.iter().find(|(own, _)| own == words);
         let [x0, _, x1, _] = own.unwrap_or_else(|| panic!("no {words}")).1;
         (x0 + x1) / 2.0
     };
@@ -337,56 +357,39 @@ fn terminals_stand_in_the_panels_of_their_layers() {
     assert_labels_are_seen(&solved, &svg, 2);
 }
 
-/// Where labels are: x0, y0, x1, y1 of their boxes, and their words.
-fn labels(svg: &str) -> Vec<([f64; 4], &str)> {
-    let boxes = svg.split(" rx=\"3\"");
-    let tags: Vec<&str> = boxes.collect();
-    tags.windows(2)
-        .map(|two| {
-            let tag = &two[0][two[0].rfind("<rect").expect("a tag")..];
-            let [x, y, w, h] =
-                ["x", "y", "width", "height"].map(|name| number(tag, name).expect(name));
-            let words = two[1].split("<text").nth(1).expect("words");
-            let words = words.split(['>', '<']).nth(1).expect("words");
-            ([x, y, x + w, y + h], words)
-        })
-        .collect()
+/// Where the boxes of labels are: x0, y0, x1, y1.
+fn boxes(svg: &str) -> Vec<[f64; 4]> {
+    let tags = svg.split("<rect").filter(|tag| tag.contains(" rx=\"3\""));
+    let edges = tags.map(|tag| ["x", "y", "width", "height"].map(|name| number(tag, name)));
+    let numbers = edges.map(|edges| edges.map(|edge| edge.expect("a number")));
+    numbers.map(|[x, y, w, h]| [x, y, x + w, y + h]).collect()
 }
 
-/// Labels lie in the picture, over no leaf and no other label, hold their words, and come last.
+fn overlap(a: [f64; 4], b: [f64; 4]) -> bool {
+    a[0] < b[2] && b[0] < a[2] && a[1] < b[3] && b[1] < a[3]
+}
+
+/// Labels lie in the picture, over no leaf, no other label and no other words, hold their own, and come last.
 fn assert_labels_are_seen(solved: &Solved, svg: &str, count: usize) {
     assert_uncut(svg);
-    let all = labels(svg);
-    assert_eq!(all.len(), count);
-    let overlap =
-        |a: [f64; 4], b: [f64; 4]| a[0] < b[2] && b[0] < a[2] && a[1] < b[3] && b[1] < a[3];
+    let boxes = boxes(svg);
+    assert_eq!(boxes.len(), count);
     let mut layers: Vec<u16> = solved.mesh.leaves().map(|leaf| leaf.layer).collect();
     layers.dedup();
-    let panels: Vec<[f64; 4]> = layers
-        .iter()
-        .map(|&layer| panel(svg, solved, layer))
-        .collect();
+    let panels = layers.iter().map(|&layer| panel(svg, solved, layer));
+    let panels: Vec<[f64; 4]> = panels.collect();
     let width = number(svg, "width").expect("a width");
-    let texts = words_of(svg);
-    for (at, &(own, words)) in all.iter().enumerate() {
-        assert!(
-            own[0] >= 0.0 && own[2] <= width && own[1] >= 0.0,
-            "{words} is cut"
-        );
-        assert!(
-            !panels.iter().any(|&panel| overlap(own, panel)),
-            "{words} hides leaves"
-        );
-        let others = all[..at].iter().map(|other| other.0);
-        assert!(
-            others.into_iter().all(|other| !overlap(own, other)),
-            "{words} is covered"
-        );
-        for (other, place) in texts.iter().filter(|(other, _)| *other != words) {
-            assert!(!overlap(own, *place), "{words} and {other}");
-        }
-        let long = 0.56 * 11.0 * words.chars().count() as f64;
-        assert!(long <= own[2] - own[0], "{words} is wider than its box");
+    let words = words_of(svg);
+    for (at, &own) in boxes.iter().enumerate() {
+        assert!(own[0] >= 0.0 && own[2] <= width && own[1] >= 0.0);
+        assert!(!panels.iter().any(|&panel| overlap(own, panel)));
+        assert!(!boxes[..at].iter().any(|&other| overlap(own, other)));
+        let held: Vec<_> = words.iter().filter(|words| overlap(own, words.1)).collect();
+        let [(label, [x0, y0, x1, y1])] = held[..] else {
+            panic!("one label's words: {held:?}");
+        };
+        let is_in = own[0] <= *x0 && own[1] <= *y0 && *x1 <= own[2] && *y1 <= own[3];
+        assert!(is_in && width_of(label, 11.0) <= own[2] - own[0], "{label}");
     }
     let last = svg.rfind("<title>").expect("titles");
     assert!(svg
@@ -464,7 +467,7 @@ fn labels_stand_clear_of_each_other() {
     assert!(svg.contains("bottom-terminal-of-a-name-that-nobody-wants-to-read0: "));
     assert!(svg.contains(">bottom-terminal-of-a-na\u{2026}: "));
     assert!(svg.contains(">&lt;middle&gt;&amp;11: 11 V, "));
-    assert!(svg.contains(" W in all<"));
+    assert!(svg.contains("W in all<"));
     // Pads in the middle have a line round them.
     let middle = bands(&svg)
         .into_iter()
@@ -494,7 +497,7 @@ fn nets_and_terminals_that_make_no_sense() {
     });
     linked.links = 1;
     let bare = solved.bare();
-    assert_eq!(bare.clone().with_links(&linked, solved.links.rows()), bare);
+    assert!(bare.clone().with_links(&linked, solved.links.rows()) == bare);
     linked.links = usize::MAX;
     assert!(bare
         .clone()
@@ -525,7 +528,7 @@ fn nets_and_terminals_that_make_no_sense() {
         .svg();
     assert_eq!(bands(&svg).len(), 1);
     assert_uncut(&svg);
-    assert_eq!(bare.clone().with_terminals(&net.nodes, &[], &[]), bare);
+    assert!(bare.clone().with_terminals(&net.nodes, &[], &[]) == bare);
 
     // A solution of another mesh, or of none of the cells.
     let mut other = solved.solution.clone();

@@ -20,8 +20,18 @@ pub fn colour_of(level: u64) -> &'static str {
 /// Of what separates cells, and of dots.
 pub const LINE: &str = "#1c2733";
 
-pub fn put_headings(layout: &Layout, text: &mut String) -> fmt::Result {
+/// Where there is no copper: pale leaves are seen on it as well as dark ones.
+const BOARD: &str = "#c9ced6";
+
+/// What lies below the cells.
+pub fn put_boards(layout: &Layout, text: &mut String) -> fmt::Result {
+    let [w, h] = layout.size;
     for &layer in &layout.layers {
+        let [x, y] = layout.corner(layer);
+        writeln!(
+            text,
+            "<rect x=\"{x:.2}\" y=\"{y:.2}\" width=\"{w:.2}\" height=\"{h:.2}\" fill=\"{BOARD}\"/>"
+        )?;
         if layout.layers.len() > 1 || layer != 0 {
             let words = format!("layer {layer}");
             put_words(layout.heading(layer), " font-size=\"13\"", &words, text)?;
@@ -112,25 +122,31 @@ pub fn put_hanging([x, y]: [f64; 2], radius: f64, text: &mut String) -> fmt::Res
     )
 }
 
-/// A ring round the hottest leaf, so that it is found where leaves are small.
+/// A target round the hottest leaf, so that it is found where leaves are small.
 pub fn put_hottest(picture: &Picture, layout: &Layout, text: &mut String) -> fmt::Result {
     let Some(at) = picture.hottest() else {
         return Ok(());
     };
     let cell = &picture.cells[at];
     let [x0, y0, x1, y1] = layout.rect(cell.layer, cell.rect);
-    let radius = (0.8 * (x1 - x0).max(y1 - y0)).max(SMALLEST_RING);
-    put_ring([(x0 + x1) / 2.0, (y0 + y1) / 2.0], radius, text)
+    let radius = (0.8 * (x1 - x0).max(y1 - y0)).max(SMALLEST_TARGET);
+    put_target([(x0 + x1) / 2.0, (y0 + y1) / 2.0], radius, text)
 }
 
-const SMALLEST_RING: f64 = 9.0;
+const SMALLEST_TARGET: f64 = 8.0;
 
-pub fn put_ring([x, y]: [f64; 2], radius: f64, text: &mut String) -> fmt::Result {
+/// A ring with four strokes out of it, black on white.
+pub fn put_target([x, y]: [f64; 2], radius: f64, text: &mut String) -> fmt::Result {
+    let (west, north) = (x - radius, y - radius);
+    let (around, out) = (2.0 * radius, 0.6 * radius);
     for (colour, wide) in [("#ffffff", 4.0), ("#000000", 1.5)] {
         writeln!(
             text,
-            "<circle cx=\"{x:.2}\" cy=\"{y:.2}\" r=\"{radius:.2}\" fill=\"none\" stroke=\"{colour}\" \
-             stroke-width=\"{wide}\"/>"
+            "<path d=\"M{west:.2} {y:.2}a{radius:.2} {radius:.2} 0 1 1 0 0.01z\
+             m0 0h-{out:.2}M{:.2} {y:.2}h{out:.2}M{x:.2} {north:.2}v-{out:.2}m0 {:.2}v{out:.2}\" fill=\"none\" \
+             stroke=\"{colour}\" stroke-width=\"{wide}\"/>",
+            west + around,
+            around + out
         )?;
     }
     Ok(())

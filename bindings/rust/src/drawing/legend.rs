@@ -1,7 +1,7 @@
 //! What stands below the panels: a length, the scale of the colours, what is applied, and what the signs mean.
 
 use super::borders::scale_of;
-use super::cells::{colour_of, put_hanging, put_ring, LINE};
+use super::cells::{colour_of, put_hanging, put_target, LINE};
 use super::figures::round_length;
 use super::flow::{Flows, Quantity};
 use super::layout::{Layout, MARGIN};
@@ -154,7 +154,7 @@ fn put_flows(flows: &Flows, picture: &Picture, pen: &mut Pen, text: &mut String)
     put_most(flows, picture, pen, text)
 }
 
-/// The hottest cell, with its ring; and the one with the most current, where a sheet resistance of its own makes it
+/// The hottest cell, with its target; and the one with the most current, where a sheet resistance of its own makes it
 /// another one.
 fn put_most(flows: &Flows, picture: &Picture, pen: &mut Pen, text: &mut String) -> fmt::Result {
     let said = |at: usize| {
@@ -164,7 +164,7 @@ fn put_most(flows: &Flows, picture: &Picture, pen: &mut Pen, text: &mut String) 
     let Some(hottest) = picture.hottest() else {
         return pen.put_line("hottest: none, since no leaf takes power", text);
     };
-    put_ring([pen.x + 7.0, pen.y - 4.0], 5.5, text)?;
+    put_target([pen.x + 7.0, pen.y - 4.0], 4.5, text)?;
     pen.x += SIGN;
     put_words(
         [pen.x, pen.y],

@@ -263,7 +263,7 @@ impl Picture {
     /// From what lies lowest upwards.
     fn put_panels(&self, layout: &Layout, text: &mut String) -> fmt::Result {
         let sides = cells::Sides::of(self, layout.unit);
-        cells::put_headings(layout, text)?;
+        cells::put_boards(layout, text)?;
         cells::put_cells(self, layout, text)?;
         borders::put(self, layout, text)?;
         cells::put_nodes(self, layout, &sides, text)?;

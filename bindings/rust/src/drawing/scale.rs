@@ -5,15 +5,15 @@ use super::layout::MARGIN;
 use super::svg::put_words;
 use std::fmt::{self, Write};
 
-/// From the least to the largest value.
+/// From the least to the largest value: ever lighter, and the lightest far from white and from the board.
 const HEAT: [[f64; 3]; 7] = [
     [12.0, 8.0, 60.0],
-    [82.0, 14.0, 109.0],
-    [147.0, 38.0, 103.0],
-    [206.0, 68.0, 70.0],
-    [242.0, 125.0, 22.0],
-    [250.0, 193.0, 39.0],
-    [252.0, 255.0, 180.0],
+    [75.0, 12.0, 107.0],
+    [137.0, 34.0, 106.0],
+    [193.0, 58.0, 80.0],
+    [233.0, 100.0, 38.0],
+    [249.0, 158.0, 20.0],
+    [255.0, 221.0, 64.0],
 ];
 
 /// The range of values that colours tell apart.
@@ -98,7 +98,7 @@ impl Scale {
 
 /// Between ticks, as shares of the bar; and behind a first one with more words.
 const CLEAR: f64 = 0.12;
-const WORDY: f64 = 0.26;
+const WORDY: f64 = 0.28;
 
 fn heat(share: f64) -> String {
     let at = share * (HEAT.len() - 1) as f64;
@@ -119,6 +119,8 @@ pub struct Marked {
 const BAR: f64 = 480.0;
 const HIGH: f64 = 16.0;
 const STEPS: usize = 96;
+/// A tick goes so far into the bar and out of it.
+const STROKE: f64 = 5.0;
 /// Of a line of the bar's words.
 const LINE: f64 = 20.0;
 
@@ -140,10 +142,11 @@ pub fn put_bar(
         )?;
     }
     if let Some(above) = above {
-        put_ticks(above, [top + HIGH, -HIGH - 5.0], top - 8.0, text)?;
+        put_ticks(above, [top + STROKE, -2.0 * STROKE], top - 8.0, text)?;
     }
-    put_ticks(below, [top, HIGH + 5.0], top + HIGH + 17.0, text)?;
-    Ok(top + HIGH + 17.0)
+    let bottom = top + HIGH;
+    put_ticks(below, [bottom - STROKE, 2.0 * STROKE], bottom + 17.0, text)?;
+    Ok(bottom + 17.0)
 }
 
 /// Strokes from one height so far down, words at another one.

@@ -105,6 +105,9 @@ fn beside(one: &Held, applied: Option<&Applied>) -> String {
 
 /// What the legend says.
 fn words_of(held: &[Held], applied: &[Applied]) -> Vec<String> {
+    if held.is_empty() {
+        return Vec::new();
+    }
     let said = |(number, one): (usize, &Held)| match applied.get(number) {
         Some(Applied { volts, amperes, .. }) => {
             let [volts, amperes] = [with_unit(*volts, "V"), with_unit(*amperes, "A")];
@@ -119,9 +122,7 @@ fn words_of(held: &[Held], applied: &[Applied]) -> Vec<String> {
     }
     let last = words.len().saturating_sub(1);
     words[..last].iter_mut().for_each(|part| part.push(';'));
-    if let Some(first) = words.first_mut().filter(|_| !held.is_empty()) {
-        first.insert_str(0, "applied: ");
-    }
+    words[0].insert_str(0, "applied: ");
     words
 }
 

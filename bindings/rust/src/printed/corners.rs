@@ -37,7 +37,7 @@ impl Copper {
 /// A polygon's leaves, and what the nodes say of it.
 pub(super) struct Polygon<'a> {
     pub leaves: &'a [Leaf],
-    /// What its copper can be. Of several, each gives the same text, and the first one is taken.
+    /// What its copper can be. Each of several has all corners, and the first one is taken.
     pub coppers: Vec<Copper>,
     /// Of each leaf: SW, SE, NE, NW.
     pub corners: Vec<[usize; 4]>,
@@ -97,32 +97,34 @@ impl<'a> Walk<'a> {
 
     /// Goes over the leaves of a polygon. Its copper is that of the next node, if they agree: if it has another one
     /// after all, and lies on corners that were met, then the next nodes are those of a later polygon, and come in the
-    /// same order. Otherwise all its corners were met.
+    /// same order. Otherwise all its corners were met, of one copper or of several.
     fn step<'b>(&mut self, leaves: &'b [Leaf]) -> Result<Polygon<'b>, String> {
         let next = self.nodes.get(self.met.len()).map(Copper::of);
         let fresh = next.and_then(|copper| Some((copper, self.tried(leaves, copper)?)));
-        let others = self.coppers.iter().filter(|&&copper| Some(copper) != next);
-        let covered = others.filter_map(|&copper| {
-            let own = self.tried(leaves, copper)?;
-            own.1.is_empty().then_some((copper, own))
-        });
-        let mut all = fresh.into_iter().chain(covered).peekable();
-        let (corners, new) = match all.peek() {
-            Some((_, own)) => own.clone(),
-            None => {
-                return Err(format!(
-                    "not leafnet's text: the nodes don't come as the corners of the leaves of polygon {} do",
-                    leaves[0].polygon
-                ))
-            }
+        let all: Vec<(Copper, Try)> = match fresh {
+            Some(own) => vec![own],
+            None => self.covering(leaves).collect(),
         };
-        let coppers = all.map(|(copper, _)| copper).collect();
+        let coppers = all.iter().map(|(copper, _)| *copper).collect();
+        let Some((_, (corners, new))) = all.into_iter().next() else {
+            return Err(format!(
+                "not leafnet's text: the nodes don't come as the corners of the leaves of polygon {} do",
+                leaves[0].polygon
+            ));
+        };
         self.met.extend(new);
         Ok(Polygon {
             leaves,
             coppers,
             corners,
         })
+    }
+
+    /// The coppers of which all corners were met.
+    fn covering<'b>(&'b self, leaves: &'b [Leaf]) -> impl Iterator<Item = (Copper, Try)> + 'b {
+        let tried = |&copper: &Copper| Some((copper, self.tried(leaves, copper)?));
+        let all = self.coppers.iter().filter_map(tried);
+        all.filter(|(_, (_, new))| new.is_empty())
     }
 
     /// None where a corner is neither a node that was met nor the next one.
