@@ -151,12 +151,13 @@ impl Flows {
         Some(self.scale().by(other))
     }
 
-    /// The cell with the most of a quantity, the first of several. None where there is none of it.
+    /// The cell with the most of a quantity, of several the last, as [`Solution::hottest`]. None where there is none of
+    /// it.
     pub fn most(&self, quantity: Quantity) -> Option<usize> {
         let value = |cell: usize| self.cells[cell].value(quantity);
         let above = (0..self.cells.len()).filter(|&cell| value(cell) > 0.0);
         above.reduce(|best, cell| {
-            if value(cell) > value(best) {
+            if value(cell) >= value(best) {
                 cell
             } else {
                 best

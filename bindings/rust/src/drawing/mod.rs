@@ -11,14 +11,10 @@
 //! let board = text::parse("level 2\ntarget 8\npolygon 1 0 1\n0 0\n8 0\n8 16\n0 16\nsplit 0\n")?;
 //! let mesh = Mesh::of_board(&board)?;
 //! let net = mesh.net()?;
-//! let terminal = |name: &str, side, drive| Terminal {
-//!     name: name.to_string(),
-//!     spot: Spot::End { layer: 1, component: 0, side },
-//!     drive,
-//! };
+//! let end = |side| Spot::End { layer: 1, component: 0, side };
 //! let terminals = [
-//!     terminal("in", Side::North, Drive::Amperes(3.0)),
-//!     terminal("out", Side::South, Drive::Volts(0.0)),
+//!     Terminal::new("in", end(Side::North), Drive::Amperes(3.0)),
+//!     Terminal::new("out", end(Side::South), Drive::Volts(0.0)),
 //! ];
 //! let held = mesh.held(&net, &terminals);
 //! let solution = System::of_cells(&net)?.solve(&held)?;
@@ -214,7 +210,7 @@ impl Picture {
         self
     }
 
-    /// The cell with the largest power over area, by its place, the first of several.
+    /// The cell with the largest power over area, by its place.
     fn hottest(&self) -> Option<usize> {
         let Colouring::Flows(flows) = &self.colouring else {
             return None;
