@@ -1,61 +1,20 @@
 //! The tools, run: what they make, and that they end with 1 and say why wherever they can't.
 
+mod programs;
+
 use leafmesh::{printed, text, Mesh};
-use std::fs::{self, OpenOptions};
-use std::io::Write;
-use std::path::{Path, PathBuf};
-use std::process::{Command, Output, Stdio};
+use programs::{made, refused, run, sample, sample_name, text_made, Folder, BOARD, DRAW, RELAX};
+use std::fs;
+use std::path::Path;
+use std::process::Command;
 
-const BOARD: &str = env!("CARGO_BIN_EXE_board");
-const DRAW: &str = env!("CARGO_BIN_EXE_draw");
-const RELAX: &str = env!("CARGO_BIN_EXE_relax");
-
-fn sample(name: &str) -> PathBuf {
-    Path::new(env!("CARGO_MANIFEST_DIR"))
-        .join("../../boards")
-        .join(name)
-}
-
-fn run_into(tool: &str, words: &[&str], input: &[u8], output: Stdio) -> Output {
-    let mut child = Command::new(tool)
-        .args(words)
-        .stdin(Stdio::piped())
-        .stdout(output)
-        .stderr(Stdio::piped())
-        .spawn()
-        .expect("the tool");
-    // A tool that asks for nothing may be gone already.
-    let _ = child.stdin.take().expect("piped").write_all(input);
-    child.wait_with_output().expect("an end")
-}
-
-fn run(tool: &str, words: &[&str], input: &[u8]) -> Output {
-    run_into(tool, words, input, Stdio::piped())
-}
-
-/// What it wrote; it must have ended well.
-fn made(tool: &str, words: &[&str], input: &[u8]) -> Vec<u8> {
-    let output = run(tool, words, input);
-    assert!(output.status.success(), "{tool} {words:?}: {output:?}");
-    output.stdout
-}
-
-/// What it said; it must have ended with 1, without a panic, and written nothing.
-fn refused(tool: &str, words: &[&str], input: &[u8]) -> String {
-    let output = run(tool, words, input);
-    assert_eq!(
-        output.status.code(),
-        Some(1),
-        "{tool} {words:?}: {output:?}"
-    );
-    assert!(output.stdout.is_empty(), "{tool} {words:?} wrote");
-    let said = String::from_utf8(output.stderr).expect("words");
-    assert!(
-        !said.contains("panicked") && !said.trim().is_empty(),
-        "{tool} {words:?}: {said}"
-    );
-    said
-}
+/// A current from the bottom to the top of layer 1, component 0.
+const UP: [&str; 4] = [
+    "--terminal",
+    "in 10 A end 1 0 south",
+    "--terminal",
+    "out 0 V end 1 0 north",
+];
 
 fn net_of(name: &str) -> Vec<u8> {
     made(BOARD, &["net"], &fs::read(sample(name)).expect("a sample"))
@@ -72,56 +31,6 @@ fn text_to_record_and_back() {
         if cut % 37 == 0 {
             assert!(refused(BOARD, &["unpack"], &record[..cut]).starts_with("refused 2 "));
         }
-    }
-}
-
-#[test]
-fn full_and_closed_outputs_are_told() {
-    // No byte of this record is a newline, at which a buffer would be written out.
-    let text = b"polygon 1 0 1\n0 0\n8 0\n8 8\n0 8\n";
-    assert!(!made(BOARD, &["pack"], text).contains(&b'\n'));
-    let record = fs::read(sample("neck.record")).expect("a sample");
-    let (net, file) = (net_of("neck.txt"), sample("neck.record"));
-    let file = file.to_str().expect("a name");
-    let runs: [(&str, Vec<&str>, &[u8]); 7] = [
-        (BOARD, vec!["pack"], text),
-        (BOARD, vec!["unpack"], &record),
-        (BOARD, vec!["net"], &record),
-        (BOARD, vec!["vtk"], &record),
-        (DRAW, vec![], &net),
-        (DRAW, vec!["--board", file, "--power"], b""),
-        (RELAX, vec![], &net),
-    ];
-    for (tool, words, input) in runs {
-        let full = OpenOptions::new()
-            .write(true)
-            .open("/dev/full")
-            .expect("a full device");
-        let output = run_into(tool, &words, input, full.into());
-        let said = String::from_utf8_lossy(&output.stderr).into_owned();
-        assert_eq!(output.status.code(), Some(1), "{tool} {words:?}: {said}");
-        assert!(
-            said.starts_with("standard output: "),
-            "{tool} {words:?}: {said}"
-        );
-
-        let mut child = Command::new(tool)
-            .args(&words)
-            .stdin(Stdio::piped())
-            .stdout(Stdio::piped())
-            .stderr(Stdio::piped())
-            .spawn()
-            .expect("the tool");
-        // The reader goes before there is anything to read, as `head` may.
-        drop(child.stdout.take());
-        let _ = child.stdin.take().expect("piped").write_all(input);
-        let output = child.wait_with_output().expect("an end");
-        let said = String::from_utf8_lossy(&output.stderr).into_owned();
-        assert_eq!(output.status.code(), Some(1), "{tool} {words:?}: {said}");
-        assert!(
-            said.starts_with("standard output: "),
-            "{tool} {words:?}: {said}"
-        );
     }
 }
 
@@ -157,41 +66,34 @@ fn another_boards_record_or_potentials_are_told() {
     }
     let record = sample("neck.record");
     let record = record.to_str().expect("a name");
-    let folder = std::env::temp_dir().join(format!("leafmesh-tools-{}", std::process::id()));
-    fs::create_dir_all(&folder).expect("a folder");
-    let volts = folder.join("volts");
-    let volts_name = volts.to_str().expect("a name");
-    fs::write(&volts, "0\n1\n").expect("a file");
-    let words = ["--record", record, "--potentials", volts_name];
-    assert!(refused(DRAW, &words, &net).contains("refused 3 0"));
-    fs::write(&volts, "zero\n").expect("a file");
-    refused(DRAW, &words, &net);
-    fs::write(&volts, made(RELAX, &[], &net)).expect("a file");
-    let picture = String::from_utf8(made(DRAW, &words, &net)).expect("text");
-    assert!(picture.contains("power density in W/mm2, logarithmic"));
-    assert!(!picture.contains("borders"));
-    fs::remove_dir_all(&folder).expect("a folder");
-    refused(DRAW, &["--record", "/no/such/file"], &net);
-}
-
-#[test]
-fn words_that_make_no_sense_get_the_usage() {
-    for (tool, words) in [
-        (BOARD, vec![]),
-        (BOARD, vec!["park"]),
-        (DRAW, vec!["--potentials", "file"]),
-        (DRAW, vec!["--power"]),
-        (DRAW, vec!["--borders", "--power"]),
-        (DRAW, vec!["--border"]),
-        (DRAW, vec!["--board"]),
-        (DRAW, vec!["picture"]),
-        (RELAX, vec!["--help"]),
+    let folder = Folder::new("potentials");
+    let volts = folder.put("volts", b"0\n1 2 3\n4\n");
+    let words = ["--record", record, "--potentials", &volts];
+    let refused_by = |content: &str| {
+        folder.put("volts", content.as_bytes());
+        refused(DRAW, &words, &net)
+    };
+    assert_eq!(
+        refused_by("0\n1 2 3\n4\n"),
+        format!("{volts}: 5 potentials for 66 nodes\n")
+    );
+    for (content, wrong) in [
+        ("0\nzero\n", "zero"),
+        ("0\n1 NaN\n", "NaN"),
+        ("\n1e7", "1e7"),
     ] {
-        assert!(
-            refused(tool, &words, b"").starts_with("usage: "),
-            "{tool} {words:?}"
+        assert_eq!(
+            refused_by(content),
+            format!(
+                "{volts}: line 2: {wrong} is no potential: a number from -1048576 to 1048576\n"
+            )
         );
     }
+    folder.put("volts", &made(RELAX, &UP, &net));
+    let picture = text_made(DRAW, &words, &net);
+    assert!(picture.contains("power density in W/mm2, logarithmic"));
+    assert!(!picture.contains("borders"));
+    refused(DRAW, &["--record", "/no/such/file"], &net);
 }
 
 #[test]
@@ -204,22 +106,18 @@ fn draw_sh_says_its_usage_and_leaves_no_empty_file() {
         "usage: draw.sh BOARD [OUT]\n"
     );
 
-    let folder = std::env::temp_dir().join(format!("leafmesh-draw-{}", std::process::id()));
-    fs::create_dir_all(&folder).expect("a folder");
-    let names = || fs::read_dir(&folder).expect("a folder").count();
-    fs::write(folder.join("bad.record"), b"\x01\0\0\0\0").expect("a file");
-    let output = Command::new(&script)
-        .arg(folder.join("bad.record"))
-        .output()
-        .expect("the script");
-    assert_eq!((output.status.code(), names()), (Some(1), 1), "{output:?}");
-    let output = Command::new(&script)
-        .arg(sample("neck.txt"))
-        .arg(folder.join("neck"))
-        .output()
-        .expect("the script");
-    assert_eq!((output.status.code(), names()), (Some(0), 4), "{output:?}");
-    fs::remove_dir_all(&folder).expect("a folder");
+    let folder = Folder::new("draw");
+    let bad = folder.put("bad.record", b"\x01\0\0\0\0");
+    let drawn = |board: &str, name: &str| {
+        let mut script = Command::new(&script);
+        let script = script.arg(board).arg(folder.name(name));
+        let output = script.output().expect("the script");
+        (output.status.code(), folder.count())
+    };
+    assert_eq!(drawn(&bad, "bad"), (Some(1), 1));
+    // Without terminals there is no power to be drawn.
+    assert_eq!(drawn(&sample_name("neck.txt"), "neck"), (Some(0), 3));
+    assert_eq!(drawn(&sample_name("across.txt"), "across"), (Some(0), 6));
 }
 
 /// A board whose lower strip is so many pitches long, its upper strip ten.
@@ -231,19 +129,20 @@ fn of_pitches(long: u32) -> String {
 /// Every tool that makes a net or a picture.
 fn refused_by_all(board: &str, words: &str) {
     // Tests run side by side.
-    let own = format!("leafmesh-long-{}-{:p}", std::process::id(), board);
-    let folder = std::env::temp_dir().join(own);
-    fs::create_dir_all(&folder).expect("a folder");
-    let file = folder.join("board.txt");
-    fs::write(&file, board).expect("a file");
-    let name = file.to_str().expect("a name");
-    for tool in [["net"], ["vtk"]] {
+    let folder = Folder::new(&format!("long-{:p}", board));
+    let name = &*folder.put("board.txt", board.as_bytes());
+    for command in ["net", "vtk", "msh", "csv", "solve"] {
         assert_eq!(
-            refused(BOARD, &tool, board.as_bytes()),
+            refused(BOARD, &[command], board.as_bytes()),
             format!("{words}\n")
+        );
+        assert_eq!(
+            refused(BOARD, &[command, name], b""),
+            format!("{name}: {words}\n")
         );
     }
     for tool in [
+        vec![name],
         vec!["--board", name],
         vec!["--board", name, "--power"],
         vec!["--record", name],
@@ -262,7 +161,6 @@ fn refused_by_all(board: &str, words: &str) {
     );
     // Of a record there are no lines to name.
     assert!(!refused(BOARD, &["net"], &output.stdout).contains("line"));
-    fs::remove_dir_all(&folder).expect("a folder");
 }
 
 /// 300 pitches make uneven cells, which the library refuses; 768 make cells of three pitches, whose corners don't meet
@@ -308,9 +206,8 @@ fn bands_that_do_not_meet_are_told_by_their_polygon() {
     // Here the upper cells' edges join the nodes along the lower cell's side.
     let joined = in_bands(6, "0 0\n6 0\n6 2\n8 2\n8 4\n0 4");
     let printed = made(BOARD, &["net"], joined.as_bytes());
-    for tool in [DRAW, RELAX] {
-        made(tool, &[], &printed);
-    }
+    made(DRAW, &[], &printed);
+    made(RELAX, &UP, &printed);
     let text = text::parse(bands).expect("a board");
     let mesh = Mesh::unjudged(&text).expect("a mesh");
     let made = mesh.unjudged_net().expect("a net");
@@ -347,17 +244,18 @@ fn links_of_a_text_are_in_its_net_and_its_pictures() {
         .expect("totals")
         .ends_with(" links 82"));
 
-    let folder = std::env::temp_dir().join(format!("leafmesh-links-{}", std::process::id()));
-    fs::create_dir_all(&folder).expect("a folder");
-    let file = folder.join("board.txt");
-    fs::write(&file, &board).expect("a file");
-    let name = file.to_str().expect("a name");
-    let volts = folder.join("volts");
-    fs::write(&volts, made(RELAX, &[], &net)).expect("a file");
-    let volts = volts.to_str().expect("a name");
+    let folder = Folder::new("links");
+    let name = &*folder.put("board.txt", board.as_bytes());
+    let through = [
+        "--terminal",
+        "in 1 A end 1 0 west",
+        "--terminal",
+        "out 0 V end 2 0 east",
+    ];
+    let volts = &*folder.put("volts", &made(RELAX, &through, &net));
     for (words, input) in [
         (vec!["--board", name], &b""[..]),
-        (vec!["--board", name, "--power"], b""),
+        ([&["--board", name, "--power"], &through[..]].concat(), b""),
         (vec!["--record", name], &net),
         (vec!["--record", name, "--potentials", volts], &net),
         (vec![], &net),
@@ -380,10 +278,9 @@ fn links_of_a_text_are_in_its_net_and_its_pictures() {
         );
     }
     // The same board without its links has another net.
-    fs::write(&file, TWO_LAYERS).expect("a file");
+    folder.put("board.txt", TWO_LAYERS.as_bytes());
     let said = refused(DRAW, &["--record", name], &net);
     assert_eq!(said, "the text is of another board than the record\n");
     let vtk = String::from_utf8(made(BOARD, &["vtk"], board.as_bytes())).expect("text");
     assert!(vtk.contains("SCALARS siemens double 1"));
-    fs::remove_dir_all(&folder).expect("a folder");
 }

@@ -1,7 +1,7 @@
 //! Files of a mesh for other programs.
 
 use crate::{given, TERMINAL};
-use leafmesh::field::Flows;
+use leafmesh::field::{Field, Flows};
 use leafmesh::tool::{By, Command, Given, Solved, Stop, Switch, Takes, Words};
 use leafmesh::{csv, msh, vtk, Mesh, Net, Refusal};
 
@@ -19,9 +19,7 @@ The mesh as a file for ParaView (VTK's legacy form): leaves as quads, links as l
   --terminal   where current enters or leaves, as in a line of the text; instead of one of the same name
 ",
     switches: &[POWER, TERMINAL],
-    make: |words| of_mesh(words, |mesh, net, flows| {
-        vtk::of_linked_mesh(mesh, net, &flows.map_or(Vec::new(), Flows::fields))
-    }),
+    make: |words| of_mesh(words, vtk::of_linked_mesh),
 };
 
 pub const MSH: Command = Command {
@@ -36,9 +34,7 @@ and one for the links.
   --terminal   where current enters or leaves, as in a line of the text; instead of one of the same name
 ",
     switches: &[POWER, TERMINAL],
-    make: |words| of_mesh(words, |mesh, net, flows| {
-        msh::of_mesh(mesh, net, &flows.map_or(Vec::new(), Flows::fields))
-    }),
+    make: |words| of_mesh(words, msh::of_mesh),
 };
 
 pub const CSV: Command = Command {
@@ -58,35 +54,43 @@ A line a leaf, behind a heading: its names, its sides in millimetres or ticks, i
 /// A file of the mesh, and of what flows if that is asked for.
 fn of_mesh(
     words: &Words,
-    file: impl Fn(&Mesh, &Net, Option<&Flows>) -> Result<String, Refusal>,
+    file: impl Fn(&Mesh, &Net, &[Field]) -> Result<String, Refusal>,
 ) -> Result<Vec<u8>, Stop> {
-    let given = given(words)?;
-    let text = match flowing(words, &given)? {
-        Some(solved) => {
-            let flows = Flows::of(&solved.mesh, &solved.solution);
-            file(&solved.mesh, &solved.net, Some(&flows))
-        }
+    let (given, solved) = read(words)?;
+    let text = match solved {
+        Some(Solved {
+            mesh,
+            net,
+            solution,
+            ..
+        }) => file(&mesh, &net, &Flows::of(&mesh, &solution).fields()),
         None => {
             let (mesh, net) = given.mesh()?;
-            file(&mesh, &net, None)
+            file(&mesh, &net, &[])
         }
     };
     Ok(text.map_err(|why| given.said(&why))?.into_bytes())
 }
 
 fn table(words: &Words) -> Result<Vec<u8>, Stop> {
-    let given = given(words)?;
+    let (given, solved) = read(words)?;
     let pitch = given.pitch();
-    let text = match flowing(words, &given)? {
-        Some(solved) => csv::of_mesh(&solved.mesh, pitch, &solved.solution.cells),
+    let text = match solved {
+        Some(Solved { mesh, solution, .. }) => csv::of_mesh(&mesh, pitch, &solution.cells),
         None => csv::of_mesh(&given.mesh()?.0, pitch, &[]),
     };
     Ok(text.map_err(|why| given.said(&why))?.into_bytes())
 }
 
-/// What flows, if it is asked for.
-fn flowing(words: &Words, given: &Given) -> Result<Option<Solved>, String> {
+/// The board, and what flows if that is asked for.
+fn read(words: &Words) -> Result<(Given, Option<Solved>), Stop> {
     let is_asked = words.has(POWER.0);
+    if !is_asked && words.has(TERMINAL.0) {
+        let why = "--terminal says nothing without --power";
+        return Err(Stop::Senseless(why.to_string()));
+    }
+    let given = given(words)?;
     let solved = is_asked.then(|| given.solved(By::Cells, POWER.0));
-    solved.transpose()
+    let solved = solved.transpose()?;
+    Ok((given, solved))
 }
