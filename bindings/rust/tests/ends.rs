@@ -17,7 +17,7 @@ const COMMANDS: [&str; 8] = [
 ];
 
 /// A text whose record has no byte that is a newline, at which a buffer would be written out.
-const SQUARE: &[u8] = b"polygon 1 0 1\n0 0\n32 0\n32 32\n0 32\n";
+const SQUARE: &[u8] = b"level 2\ntarget 32\npolygon 1 0 1\n0 0\n32 0\n32 32\n0 32\n";
 const TERMINALS: [&str; 4] = [
     "--terminal",
     "in 1 A end 1 0 west",

@@ -14,8 +14,14 @@ pub struct Given {
     pub links: OwnedLinks,
     pub terminals: Terminals,
     from: End,
-    /// With the lines of its parts; none of a record.
-    text: Option<(String, Lines)>,
+    /// None of a record.
+    text: Option<Text>,
+}
+
+/// A text, and the lines of its board's parts.
+struct Text {
+    words: String,
+    lines: Lines,
 }
 
 impl Given {
@@ -56,7 +62,10 @@ impl Given {
             links,
             terminals: Terminals::of_text(terminals, &lines.terminals),
             from: from.clone(),
-            text: Some((String::from_utf8_lossy(&bytes).into_owned(), lines)),
+            text: Some(Text {
+                words: String::from_utf8_lossy(&bytes).into_owned(),
+                lines,
+            }),
         })
     }
 
@@ -94,11 +103,11 @@ impl Given {
 
     /// The text, if it was given as one.
     pub fn text(&self) -> Option<&str> {
-        self.text.as_ref().map(|(text, _)| text.as_str())
+        self.text.as_ref().map(|text| text.words.as_str())
     }
 
     fn lines(&self) -> Option<&Lines> {
-        self.text.as_ref().map(|(_, lines)| lines)
+        self.text.as_ref().map(|text| &text.lines)
     }
 
     /// Of a text in millimetres.
@@ -109,7 +118,7 @@ impl Given {
     /// A place in the text's unit; of a record in ticks.
     pub fn place(&self, [x, y]: Point) -> String {
         match self.pitch() {
-            Some(pitch) => format!("({} mm, {} mm)", pitch.millimetres(x), pitch.millimetres(y)),
+            Some(pitch) => format!("({} mm, {} mm)", pitch.short(x), pitch.short(y)),
             None => format!("({x}, {y})"),
         }
     }

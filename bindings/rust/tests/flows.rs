@@ -1,0 +1,457 @@
+//! What flows between terminals: `board solve`, `board refine`, `relax`, and terminals that are named beside a board.
+
+mod programs;
+
+use leafmesh::solving::{Solution, System};
+use leafmesh::{read, text, Mesh, Net};
+use programs::{made, refused, run, sample, sample_name, text_made, Folder, BOARD, DRAW, RELAX};
+use std::fs;
+
+/// A strip of four squares, one ohm a square, from the left to the right: 4 ohms.
+const STRIP: &str = "level 3\ntarget 16\npolygon 1 0 1\n0 0\n64 0\n64 16\n0 16\n";
+const IN: &str = "terminal in 3 A end 1 0 west\n";
+const OUT: &str = "terminal out 0 V end 1 0 east\n";
+
+fn strip() -> String {
+    [STRIP, IN, OUT].concat()
+}
+
+/// The value behind a word that begins a line.
+fn behind<'a>(text: &'a str, word: &str) -> &'a str {
+    let line = text.lines().find_map(|line| line.strip_prefix(word));
+    line.unwrap_or_else(|| panic!("no {word} in {text}")).trim()
+}
+
+#[test]
+fn a_strip_has_the_resistance_of_its_squares() {
+    let board = format!("{}split 0\n", strip());
+    let table = text_made(BOARD, &["solve"], board.as_bytes());
+    assert_eq!(behind(&table, "in "), "12            3");
+    assert_eq!(behind(&table, "out "), "0           -3");
+    for (word, value) in [("power ", "36 W"), ("V x A ", "36 W"), ("V / A ", "4 ohm")] {
+        assert_eq!(behind(&table, word), value);
+    }
+    // All of it runs evenly, over a width of 16 ticks: 3 A / (16 / 2^38 m).
+    assert!(behind(&table, "hottest ").ends_with(" W/mm2, 5.15396e7 A/mm"));
+    // Its conductances aren't the copper's where the level changes.
+    let by_net = text_made(BOARD, &["solve", "--net"], board.as_bytes());
+    assert_ne!(behind(&by_net, "V / A "), "4 ohm");
+    let whole = text_made(BOARD, &["solve", "--net"], strip().as_bytes());
+    assert_eq!(behind(&whole, "V / A "), "4 ohm");
+}
+
+#[test]
+fn the_hottest_leaf_lies_in_the_neck() {
+    let table = text_made(BOARD, &["solve", &sample_name("across.txt")], b"");
+    let hottest = behind(&table, "hottest ");
+    let place = hottest.split(&['(', ')'][..]).nth(3).expect("a place");
+    let [x, y] = [0, 1].map(|at| {
+        let word = place.split(", ").nth(at).expect("a coordinate");
+        let word = word.strip_suffix(" mm").expect("millimetres");
+        word.parse::<f64>().expect("a number")
+    });
+    assert!(
+        (5.8..8.2).contains(&x) && (1.9..2.3).contains(&y),
+        "{hottest}"
+    );
+    // Its id, its name and its level are those of one leaf.
+    let words = fs::read_to_string(sample("across.txt")).expect("a sample");
+    let mesh = Mesh::of_board(&text::parse(&words).expect("a board")).expect("a mesh");
+    let (id, rest) = hottest
+        .strip_prefix("leaf ")
+        .and_then(|rest| rest.split_once(" ("))
+        .expect("an id");
+    let (name, rest) = rest.split_once("), ").expect("a name");
+    let id: usize = id.parse().expect("an id");
+    assert!(mesh.is_leaf(id) && rest.starts_with("layer 1, component 0, at ("));
+    assert_eq!(mesh.name(id).expect("a cell").to_string(), name);
+}
+
+/// The sixteen vias of a motor drive carry all of its current, from layer 1 to layer 2.
+#[test]
+fn links_have_their_currents() {
+    let board = sample_name("drive.txt");
+    for words in [vec!["solve", &board], vec!["solve", &board, "--net"]] {
+        let table = text_made(BOARD, &words, b"");
+        let vias = table.lines().filter(|line| line.starts_with("via "));
+        let amperes: Vec<f64> = vias
+            .map(|line| {
+                line.rsplit(' ')
+                    .next()
+                    .expect("a word")
+                    .parse()
+                    .expect("a number")
+            })
+            .collect();
+        assert_eq!(amperes.len(), 16);
+        let sum: f64 = amperes.iter().sum();
+        assert!(
+            (sum - 20.0).abs() < 1e-3 && amperes.iter().all(|one| *one > 0.5),
+            "{table}"
+        );
+        assert!(behind(&table, "power ").ends_with(" W of it in links"));
+    }
+    // The sense line of this board carries none, and what the iteration leaves isn't said.
+    let words = [
+        "--terminal",
+        "in 10 A end 1 0 south",
+        "--terminal",
+        "out 0 V end 2 1 north",
+    ];
+    let vias = sample_name("vias.txt");
+    let words = [&["solve", &vias], &words[..]].concat();
+    let table = text_made(BOARD, &words, b"");
+    assert_eq!(
+        behind(&table, "contact 0 ").split_whitespace().last(),
+        Some("0")
+    );
+}
+
+#[test]
+fn terminals_beside_a_board() {
+    let solved = |board: &str, words: &[&str]| {
+        let words: Vec<&str> = words.iter().flat_map(|one| ["--terminal", *one]).collect();
+        text_made(BOARD, &[&["solve"], &words[..]].concat(), board.as_bytes())
+    };
+    // One instead of another of the same name, one more; the order is the text's.
+    let other = solved(&strip(), &["in 1 V end 1 0 west"]);
+    assert_eq!(behind(&other, "in "), "1         0.25");
+    let middle = solved(&strip(), &["tap 0 V rect 1 0 31 -1 33 17"]);
+    assert_eq!(behind(&middle, "in "), "6            3");
+    let names: Vec<&str> = middle
+        .lines()
+        .skip(1)
+        .take(3)
+        .filter_map(|line| line.split(' ').next())
+        .collect();
+    assert_eq!(names, ["in", "out", "tap"]);
+    assert!(!middle.contains("V / A"));
+    // Of a record all are named beside it, in ticks.
+    let record = made(BOARD, &["pack"], STRIP.as_bytes());
+    let words = [
+        "solve",
+        "--terminal",
+        "a 2 V edge 1 0 0 0 0 16",
+        "--terminal",
+        "b 0 V edge 1 0 64 0 64 16",
+    ];
+    let table = text_made(BOARD, &words, &record);
+    assert_eq!(behind(&table, "a "), "2          0.5");
+    // Under a pitch they are in millimetres.
+    let board = "pitch 0.5\npolygon 1 0 1\n0 0\n2 0\n2 1\n0 1\n";
+    let table = solved(board, &["a 3 V edge 1 0 0 0 0 1", "b 0 V edge 1 0 2 0 2 1"]);
+    assert_eq!(behind(&table, "a "), "3          1.5");
+}
+
+#[test]
+fn without_terminals_nothing_flows() {
+    let needs = |asker: &str| {
+        format!(
+            "{asker} needs terminals: where current enters and leaves (a line `terminal` in the text, or --terminal)\n"
+        )
+    };
+    let folder = Folder::new("no-terminals");
+    let file = &*folder.put("board.txt", STRIP.as_bytes());
+    for (words, asker) in [
+        (vec!["vtk", file, "--power"], "--power"),
+        (vec!["msh", file, "--power"], "--power"),
+        (vec!["csv", file, "--power"], "--power"),
+        (vec!["solve", file], "board solve"),
+        (vec!["refine", file, "--rounds", "1"], "board refine"),
+    ] {
+        assert_eq!(
+            refused(BOARD, &words, b""),
+            format!("{file}: {}", needs(asker))
+        );
+    }
+    for asker in ["--power", "--current"] {
+        let said = refused(DRAW, &[file, asker], b"");
+        assert_eq!(said, format!("{file}: {}", needs(asker)));
+    }
+    let net = made(BOARD, &["net", file], b"");
+    assert_eq!(refused(RELAX, &[], &net), needs("relax"));
+    let said = refused(RELAX, &["--board", file], &net);
+    assert_eq!(said, format!("{file}: {}", needs("relax")));
+}
+
+/// What the solver refuses is told by the terminal's line, or by the switch.
+#[test]
+fn terminals_that_hold_nothing_are_told_by_their_line() {
+    let two = "polygon 1 1 1\n0 32\n16 32\n16 48\n0 48\n";
+    for (board, words) in [
+        (
+            format!("{STRIP}{IN}terminal out 0 V end 1 1 east\n"),
+            "line 9: terminal out: no corner of a leaf lies in it",
+        ),
+        (
+            format!("{STRIP}{IN}terminal out 0 V end 1 0 west\n"),
+            "line 9: terminals in and out share node 0",
+        ),
+        (
+            format!("{STRIP}{two}{OUT}# in\nterminal in 1 A end 1 1 west\n"),
+            "line 15: terminal in: a current into copper that no terminal with a potential is joined to",
+        ),
+    ] {
+        let said = refused(BOARD, &["solve"], board.as_bytes());
+        assert_eq!(said, format!("{words}\n"));
+        let folder = Folder::new("blame");
+        let file = folder.put("board.txt", board.as_bytes());
+        for (tool, words_of_tool) in [
+            (BOARD, vec!["vtk", &file, "--power"]),
+            (BOARD, vec!["refine", &file, "--rounds", "1"]),
+            (DRAW, vec![&file, "--power"]),
+            (DRAW, vec![&file, "--current"]),
+        ] {
+            let said = refused(tool, &words_of_tool, b"");
+            assert_eq!(said, format!("{file}: {words}\n"));
+        }
+    }
+    let words = ["solve", "--terminal", "out 0 V end 1 1 east"];
+    let said = refused(BOARD, &words, strip().as_bytes());
+    assert_eq!(
+        said,
+        "--terminal: terminal out: no corner of a leaf lies in it\n"
+    );
+    for words in ["out", "out 0 V end 1 1 up", "out x V end 1 0 east"] {
+        let said = refused(BOARD, &["solve", "--terminal", words], strip().as_bytes());
+        assert!(
+            said.starts_with(&format!("--terminal \"{words}\": ")),
+            "{said}"
+        );
+    }
+}
+
+/// Cells that don't fit together have a net whose conductances would be taken for want of anything better; they are not.
+#[test]
+fn cells_that_do_not_fit_are_told_by_their_line() {
+    let bands = "level 0\ntarget 6\npolygon 1 0 1\n0 0\n6 0\n6 2\n8 2\n8 4\n0 4\nterminal in 1 A end 1 0 south\nterminal out 0 V end 1 0 north\n";
+    let folder = Folder::new("no-fit");
+    let file = folder.put("board.txt", bands.as_bytes());
+    let words = "line 3: at (4, 2): node 4 stands inside a cell's side, not at its middle";
+    for (tool, own) in [
+        (BOARD, vec!["solve", &file]),
+        (BOARD, vec!["csv", &file, "--power"]),
+        (DRAW, vec![&file, "--power"]),
+    ] {
+        let said = refused(tool, &own, b"");
+        assert!(said.starts_with(&format!("{file}: {words}")), "{said}");
+    }
+    // The net's conductances are asked for by name.
+    made(BOARD, &["solve", &file, "--net"], b"");
+    made(DRAW, &[&file], b"");
+}
+
+fn solved(mesh: &Mesh, net: &Net, text: &str) -> Solution {
+    let whole = text::parse_whole(text).expect("a board");
+    let system = System::of_cells(net).expect("aligned");
+    let held = mesh.held(net, &whole.terminals);
+    system.solve(&held).expect("a solution")
+}
+
+/// The mesh of a text behind so many rounds.
+fn refined(text: &str, rounds: usize, share: f64) -> Mesh {
+    let board = text::parse(text).expect("a board");
+    let mut mesh = Mesh::of_board(&board).expect("a mesh");
+    for _ in 0..rounds {
+        let net = mesh.net().expect("a net");
+        let watts: Vec<f64> = solved(&mesh, &net, text)
+            .cells
+            .iter()
+            .map(|cell| cell.watts)
+            .collect();
+        mesh.refine_hottest(&watts, share).expect("room");
+    }
+    mesh
+}
+
+/// What is written means the same mesh, number by number, by text and by record.
+#[test]
+fn the_hottest_leaves_are_split_in_rounds() {
+    let file = sample_name("across.txt");
+    let words = fs::read_to_string(&file).expect("a sample");
+    for (rounds, share) in [(1, None), (2, None), (2, Some("1/4")), (2, Some("0.25"))] {
+        let count = rounds.to_string();
+        let mut asked = vec!["refine", &file, "--rounds", &count];
+        asked.extend(share.iter().flat_map(|share| ["--share", *share]));
+        let output = run(BOARD, &asked, b"");
+        assert_eq!(output.status.code(), Some(0), "{output:?}");
+        let text = String::from_utf8(output.stdout).expect("text");
+        assert!(text.starts_with(&words), "the text as it stands");
+        let board = text::parse(&text).expect("a board");
+        let own = refined(&words, rounds, share.map_or(1.0 / 6.0, |_| 0.25));
+        assert_eq!(Mesh::of_board(&board).expect("a mesh"), own);
+        assert_eq!(board.splits, own.board().splits);
+
+        let said = String::from_utf8(output.stderr).expect("words");
+        let last = said.lines().last().expect("a line");
+        let leaves = own.leaves().count();
+        assert_eq!(said.lines().count(), rounds + 1);
+        assert!(
+            last.starts_with(&format!("round {rounds}: {leaves} leaves, ")),
+            "{said}"
+        );
+        assert!(
+            last.contains(" ohm, ") && last.ends_with(" in 100"),
+            "{said}"
+        );
+    }
+    // A record goes the same way.
+    let record = made(BOARD, &["pack", &file], b"");
+    let ends = [
+        "--terminal",
+        "in 2 A end 1 0 west",
+        "--terminal",
+        "out 0 V end 1 0 east",
+    ];
+    let asked = [&["refine", "--rounds", "2"], &ends[..]].concat();
+    let refined_record = made(BOARD, &asked, &record);
+    let board = read(&refined_record).expect("a record");
+    assert_eq!(
+        Mesh::of_board(&board).expect("a mesh"),
+        refined(&words, 2, 1.0 / 6.0)
+    );
+}
+
+/// Where rounds come to an end before their number, what was reached is written.
+#[test]
+fn rounds_end_where_nothing_more_can_be_split() {
+    let refine = |words: &[&str], board: &str| {
+        let output = run(BOARD, &[&["refine"], words].concat(), board.as_bytes());
+        assert_eq!(output.status.code(), Some(0), "{output:?}");
+        let board = text::parse(&String::from_utf8(output.stdout).expect("text"));
+        let mesh = Mesh::of_board(&board.expect("a board")).expect("a mesh");
+        let said = String::from_utf8(output.stderr).expect("words");
+        (
+            mesh.leaves().count(),
+            said.lines().last().unwrap_or("").to_string(),
+        )
+    };
+    // Four base cells of three levels: 4, 16, 64, 256 leaves.
+    let all = ["--rounds", "9", "--share", "1"];
+    let (leaves, said) = refine(&all, &strip());
+    assert_eq!(leaves, 256);
+    assert_eq!(
+        said,
+        "no round 4: of 256 leaves none is to be split that isn't at the finest level"
+    );
+    let (leaves, said) = refine(&[&all[..], &["--leaves", "100"]].concat(), &strip());
+    assert_eq!(leaves, 64);
+    assert_eq!(said, "no round 3: it would have 256 leaves, more than 100");
+    let (leaves, said) = refine(&[&all[..], &["--leaves", "256"]].concat(), &strip());
+    assert_eq!((leaves, said.starts_with("no round 4: of ")), (256, true));
+    // A share of four leaves that is none.
+    let (leaves, said) = refine(&["--rounds", "1", "--share", "0.2"], &strip());
+    assert_eq!(
+        (leaves, said.starts_with("no round 1: of 4 leaves none")),
+        (4, true)
+    );
+    // 1,024 leaves in 1,360 cells, then 4,096 in 5,456, and no room for 16,384 in 21,840.
+    let deep = "level 7\ntarget 256\npolygon 1 0 1\n0 0\n1024 0\n1024 256\n0 256\n";
+    let (leaves, said) = refine(&all, &[deep, IN, OUT].concat());
+    assert_eq!(leaves, 4096);
+    assert_eq!(said, "no round 6: it would have more than 16,384 cells");
+}
+
+/// More than two terminals are told one by one.
+#[test]
+fn rounds_of_three_terminals_say_what_stands_at_each() {
+    let board = format!("{}terminal tap 0 V rect 1 0 31 -1 33 17\n", strip());
+    let output = run(
+        BOARD,
+        &["refine", "--rounds", "1", "--share", "1"],
+        board.as_bytes(),
+    );
+    let said = String::from_utf8(output.stderr).expect("words");
+    assert_eq!(
+        said.lines().collect::<Vec<_>>(),
+        [
+            "round 0: 4 leaves, in 6 V 3 A, out 0 V 0 A, tap 0 V -3 A, 18 W",
+            "round 1: 16 leaves, in 6 V 3 A, out 0 V 0 A, tap 0 V -3 A, 18 W, +0.000 in 100"
+        ]
+    );
+}
+
+/// By the net's conductances; with the board its text's terminals and pads are taken.
+#[test]
+fn potentials_of_what_leafnet_printed() {
+    let file = sample_name("neck.record");
+    let net = made(BOARD, &["net", &file], b"");
+    let printed = leafmesh::printed::read(std::str::from_utf8(&net).expect("text")).expect("a net");
+    let volts = |words: &[&str], net: &[u8]| -> Vec<f64> {
+        let text = text_made(RELAX, words, net);
+        text.lines()
+            .map(|line| line.parse().expect("a number"))
+            .collect()
+    };
+    let ends = [
+        "--terminal",
+        "in 2 V end 1 0 south",
+        "--terminal",
+        "out -1 V end 1 0 north",
+    ];
+    let own = volts(&ends, &net);
+    assert_eq!(own.len(), printed.nodes.len());
+    let most = printed
+        .nodes
+        .iter()
+        .map(|node| node.y)
+        .max()
+        .expect("nodes");
+    for (volts, node) in own.iter().zip(&printed.nodes) {
+        assert!((-1.0..=2.0).contains(volts));
+        assert_eq!(*volts == 2.0, node.y == 0);
+        assert_eq!(*volts == -1.0, node.y == most);
+    }
+    assert_eq!(
+        volts(&[&["--board", &*file], &ends[..]].concat(), &net),
+        own
+    );
+
+    // The other terminal of the same name.
+    let again = [&ends[..], &["--terminal", "out 2 V end 1 0 north"]].concat();
+    assert!(volts(&again, &net)
+        .iter()
+        .all(|volts| (volts - 2.0).abs() < 1e-9));
+
+    let board = [STRIP, IN, "terminal out 0 V pad 0\n"].concat();
+    let pads = board.replace(IN, "");
+    let folder = Folder::new("relax");
+    let pads = folder.put("pads.txt", pads.as_bytes());
+    let net = made(BOARD, &["net", &pads], b"");
+    assert!(volts(&["--board", &pads], &net)
+        .iter()
+        .all(|volts| *volts == 0.0));
+    let said = refused(RELAX, &["--terminal", "out 0 V pad 0"], &net);
+    assert_eq!(said, "--terminal: terminal out: a pad needs --board\n");
+    let said = refused(RELAX, &["--board", &sample_name("across.txt")], &net);
+    assert_eq!(said, "the text is of another board than the record\n");
+    let said = refused(RELAX, &["--terminal", "out 0 V end 2 0 east"], &net);
+    assert_eq!(
+        said,
+        "--terminal: terminal out: no corner of a leaf lies in it\n"
+    );
+}
+
+/// A warning of a text goes to standard error, with its file's name, and changes nothing else.
+#[test]
+fn warnings_are_said_beside_what_is_made() {
+    // The ring crosses itself at (16, 16).
+    let board =
+        "level 2\ntarget 8\npolygon 1 0 1\n0 0\n24 0\n24 16\n8 16\n8 8\n16 8\n16 24\n0 24\n";
+    let folder = Folder::new("warnings");
+    let file = folder.put("board.txt", board.as_bytes());
+    let output = run(BOARD, &["net", &file], b"");
+    assert_eq!(output.status.code(), Some(0));
+    let said = String::from_utf8(output.stderr).expect("words");
+    assert!(
+        said.starts_with(&format!("{file}: warning: line 3: ")),
+        "{said}"
+    );
+    let output = run(BOARD, &["pack", &sample_name("across.txt")], b"");
+    let said = String::from_utf8(output.stderr).expect("words");
+    let name = sample_name("across.txt");
+    assert_eq!(
+        said,
+        format!("{name}: warning: line 18: a record has no terminals\n")
+    );
+}
