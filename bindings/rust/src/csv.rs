@@ -65,7 +65,7 @@ fn heading(pitch: Option<Pitch>, with_flows: bool) -> Vec<String> {
 fn own_values(mesh: &Mesh, pitch: Option<Pitch>, leaf: &Leaf) -> Vec<String> {
     let name = mesh.name(leaf.id).map(|name| name.to_string());
     let side = |ticks: i64| match pitch {
-        Some(pitch) => pitch.millimetres(ticks).to_string(),
+        Some(pitch) => pitch.short(ticks).to_string(),
         None => ticks.to_string(),
     };
     let mut all = vec![

@@ -2,6 +2,7 @@
 
 use crate::{Leaf, Mesh, NetRows, Node, Reason, Refusal, TICK};
 use std::collections::BTreeSet;
+use std::iter::repeat;
 
 /// A number of a leaf.
 pub type Number = fn(&Leaf) -> f64;
@@ -15,6 +16,17 @@ pub const NUMBERS: [(&str, Number); 6] = [
     ("component", |leaf| f64::from(leaf.component)),
     ("r_sheet", |leaf| leaf.sheet),
 ];
+
+/// Values with so many zeros behind them that each link has one, too. None where they are neither as many as the cells
+/// nor as many as cells and links.
+pub fn with_links<T: Copy + Default>(
+    all: &[T],
+    [cells, links]: [usize; 2],
+) -> Option<impl Iterator<Item = T> + '_> {
+    let fits = [cells, cells + links].contains(&all.len());
+    let zeros = repeat(T::default()).take((cells + links).saturating_sub(all.len()));
+    fits.then(|| all.iter().copied().chain(zeros))
+}
 
 /// The leaves of a mesh that a net is of.
 ///

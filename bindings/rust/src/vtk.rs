@@ -2,11 +2,10 @@
 //! height of its own; level, polygon, layer, component and ohms a square stand with the cells, hanging nodes with
 //! the points. Links are lines between their nodes, behind the leaves.
 
-use crate::grid::{leaves_of, places, NUMBERS};
+use crate::grid::{leaves_of, places, with_links, NUMBERS};
 use crate::sides::hanging;
 use crate::{Edge, Leaf, Mesh, Net, NetRows, Refusal};
 use std::fmt::{self, Write};
-use std::iter::repeat;
 
 pub use crate::field::Field;
 
@@ -51,7 +50,7 @@ fn put(
     writeln!(text, "CELL_DATA {}", leaves.len() + links.len())?;
     put_leaves(leaves, links, text)?;
     for field in fields {
-        put_of_cells(field, leaves.len(), links.len(), text)?;
+        put_of_cells(field, [leaves.len(), links.len()], text)?;
     }
     writeln!(text, "POINT_DATA {nodes}")?;
     let hangs = |at: usize| f64::from(u8::from(hangs.binary_search(&at).is_ok()));
@@ -106,20 +105,20 @@ fn put_leaves(leaves: &[Leaf], links: &[Edge], text: &mut String) -> fmt::Result
     put_field("siemens", none.chain(conductances), text)
 }
 
-/// A field of so many cells, and of so many links, where it has no values of these.
-fn put_of_cells(field: &Field, cells: usize, links: usize, text: &mut String) -> fmt::Result {
+fn put_of_cells(field: &Field, counts: [usize; 2], text: &mut String) -> fmt::Result {
     match field {
-        Field::Cells(name, all) if [cells, cells + links].contains(&all.len()) => {
-            let zeros = repeat(0.0).take(cells + links - all.len());
-            put_field(name, all.iter().copied().chain(zeros), text)
-        }
-        Field::Vectors(name, all) if all.len() == cells => {
-            writeln!(text, "VECTORS {} double", joined(name))?;
-            let zeros = repeat([0.0; 2]).take(links);
-            let mut all = all.iter().copied().chain(zeros);
-            all.try_for_each(|[x, y]| writeln!(text, "{x:?} {y:?} 0"))
-        }
-        _ => Ok(()),
+        Field::Cells(name, all) => match with_links(all, counts) {
+            Some(all) => put_field(name, all, text),
+            None => Ok(()),
+        },
+        Field::Vectors(name, all) => match with_links(all, counts) {
+            Some(mut all) => {
+                writeln!(text, "VECTORS {} double", joined(name))?;
+                all.try_for_each(|[x, y]| writeln!(text, "{x:?} {y:?} 0"))
+            }
+            None => Ok(()),
+        },
+        Field::Nodes(..) => Ok(()),
     }
 }
 

@@ -100,15 +100,10 @@ fn of_vtk(file: &str) -> Read {
                     assert_eq!(lines.next(), Some("LOOKUP_TABLE default"));
                 }
                 let values = lines.by_ref().take(count).map(numbers).collect();
-                let to = if at_nodes {
-                    &mut read.of_nodes
-                } else {
-                    &mut read.of_cells
-                };
-                assert!(
-                    to.insert(name.to_string(), values).is_none(),
-                    "{name} twice"
-                );
+                assert!(read
+                    .row(at_nodes)
+                    .insert(name.to_string(), values)
+                    .is_none());
             }
             _ => panic!("what is this? {line}"),
         }
@@ -122,64 +117,130 @@ fn of_vtk(file: &str) -> Read {
     read
 }
 
-/// Gmsh's form 2.2, with the name of each element's group.
+/// Gmsh's form 4.1, with the name of each element's group.
 fn of_msh(file: &str) -> (Read, Vec<String>) {
     let mut lines = file.lines();
-    for wanted in ["$MeshFormat", "2.2 0 8", "$EndMeshFormat"] {
+    for wanted in ["$MeshFormat", "4.1 0 8", "$EndMeshFormat"] {
         assert_eq!(lines.next(), Some(wanted));
     }
     let mut read = Read::default();
-    let (mut names, mut groups) = (BTreeMap::new(), Vec::new());
+    let mut parts = Parts::default();
     while let Some(start) = lines.next() {
         let section = start.strip_prefix('$').expect("a section");
         let end = format!("$End{section}");
         let body: Vec<&str> = lines.by_ref().take_while(|line| *line != end).collect();
         match section {
-            "PhysicalNames" => {
-                for line in &body[1..] {
-                    let (key, name) = line.split_once(" \"").expect("a name");
-                    names.insert(key.to_string(), name.trim_end_matches('"').to_string());
-                }
-                assert_eq!(body[0], names.len().to_string());
-            }
-            "Nodes" => read.places = numbered(&body, 3),
-            "Elements" => {
-                for (at, line) in (1..).zip(&body[1..]) {
-                    let all = whole_numbers(line);
-                    let [number, kind, tags, group, _, corners @ ..] = &all[..] else {
-                        panic!("{line}");
-                    };
-                    assert_eq!((*number, *tags), (at, 2));
-                    let dimension = if *kind == 3 { 2 } else { 1 };
-                    groups.push(names[&format!("{dimension} {group}")].clone());
-                    let corners: Vec<usize> = corners.iter().map(|node| node - 1).collect();
-                    match kind {
-                        3 => read.quads.push(corners),
-                        1 => read.lines.push(corners),
-                        _ => panic!("{line}"),
-                    }
-                }
-                assert_eq!(body[0], groups.len().to_string());
-            }
+            "PhysicalNames" => parts.take_names(&body),
+            "Entities" => parts.take_entities(&body),
+            "Nodes" => read.take_nodes(&body),
+            "Elements" => parts.take_elements(&body, &mut read),
             "ElementData" | "NodeData" => {
                 let [one, name, "1", "0", "3", "0", parts, values @ ..] = &body[..] else {
                     panic!("{body:?}");
                 };
                 assert_eq!(*one, "1");
                 let values = numbered(values, parts.parse().expect("a number"));
-                let to = if section == "NodeData" {
-                    &mut read.of_nodes
-                } else {
-                    &mut read.of_cells
-                };
-                assert!(to
-                    .insert(name.trim_matches('"').to_string(), values)
+                let name = name.trim_matches('"').to_string();
+                assert!(read
+                    .row(section == "NodeData")
+                    .insert(name, values)
                     .is_none());
             }
             _ => panic!("what is this? {section}"),
         }
     }
-    (read, groups)
+    (read, parts.groups)
+}
+
+/// The names of groups and the groups of entities, each by its dimension and its number, and the group of each element.
+#[derive(Default)]
+struct Parts {
+    names: BTreeMap<[usize; 2], String>,
+    entities: BTreeMap<[usize; 2], String>,
+    groups: Vec<String>,
+}
+
+impl Parts {
+    fn take_names(&mut self, body: &[&str]) {
+        for line in &body[1..] {
+            let (key, name) = line.split_once(" \"").expect("a name");
+            let key = whole_numbers(key).try_into().expect("two numbers");
+            self.names
+                .insert(key, name.trim_end_matches('"').to_string());
+        }
+        assert_eq!(body[0], self.names.len().to_string());
+    }
+
+    fn take_entities(&mut self, body: &[&str]) {
+        let [0, curves, surfaces, 0] = whole_numbers(body[0])[..] else {
+            panic!("{}", body[0]);
+        };
+        assert_eq!(body.len(), 1 + curves + surfaces);
+        for (at, line) in body[1..].iter().enumerate() {
+            let dimension = if at < curves { 1 } else { 2 };
+            let words: Vec<&str> = line.split(' ').collect();
+            let [number, x0, y0, z0, x1, y1, z1, "1", group, "0"] = words[..] else {
+                panic!("{line}");
+            };
+            let [number, group] = [number, group].map(|word| word.parse().expect("a number"));
+            let ends = [x0, y0, z0, x1, y1, z1].map(|word| word.parse::<f64>().expect("a number"));
+            assert!((0..3).all(|axis| ends[axis] <= ends[axis + 3]));
+            let name = self.names[&[dimension, group]].clone();
+            self.entities.insert([dimension, number], name);
+        }
+    }
+
+    fn take_elements(&mut self, body: &[&str], read: &mut Read) {
+        let mut lines = body[1..].iter();
+        let mut blocks = 0;
+        while let Some(block) = lines.next() {
+            let [dimension, entity, kind, count] = whole_numbers(block)[..] else {
+                panic!("{block}");
+            };
+            for line in lines.by_ref().take(count) {
+                let all = whole_numbers(line);
+                self.groups
+                    .push(self.entities[&[dimension, entity]].clone());
+                assert_eq!(all[0], self.groups.len());
+                let corners = all[1..].iter().map(|node| node - 1).collect();
+                match (dimension, kind, all.len()) {
+                    (2, 3, 5) => read.quads.push(corners),
+                    (1, 1, 3) => read.lines.push(corners),
+                    _ => panic!("{line}"),
+                }
+            }
+            blocks += 1;
+        }
+        let all = self.groups.len();
+        assert_eq!(whole_numbers(body[0]), [blocks, all, 1, all]);
+    }
+}
+
+impl Read {
+    fn take_nodes(&mut self, body: &[&str]) {
+        let mut lines = body[1..].iter();
+        let mut blocks = 0;
+        while let Some(block) = lines.next() {
+            let [2, _, 0, count] = whole_numbers(block)[..] else {
+                panic!("{block}");
+            };
+            for (number, line) in (self.places.len() + 1..).zip(lines.by_ref().take(count)) {
+                assert_eq!(*line, number.to_string());
+            }
+            self.places
+                .extend(lines.by_ref().take(count).map(|line| numbers(line)));
+            blocks += 1;
+        }
+        let all = self.places.len();
+        assert_eq!(whole_numbers(body[0]), [blocks, all, 1, all]);
+    }
+
+    fn row(&mut self, is_of_nodes: bool) -> &mut BTreeMap<String, Vec<Vec<f64>>> {
+        match is_of_nodes {
+            true => &mut self.of_nodes,
+            false => &mut self.of_cells,
+        }
+    }
 }
 
 /// Lines of a number, counted from 1, and so many values, behind a line that says how many there are.
@@ -325,8 +386,9 @@ fn a_file_for_gmsh_has_what_flows_and_its_groups() {
         for (leaf, sheet) in board.mesh.leaves().zip(&read.of_cells["r_sheet"]) {
             assert_eq!(sheet[..], [leaf.sheet]);
         }
-        // Numbers of leaves are left out of links.
-        assert_eq!(read.of_cells["r_sheet"].len(), board.net.cells.len());
+        // Some readers want a value of every element.
+        let all = groups.len();
+        assert!(read.of_cells.values().all(|values| values.len() == all));
     }
 }
 
@@ -348,7 +410,9 @@ fn a_table_has_every_leaf_in_the_texts_unit() {
             let cell = row["name"].parse().expect("a name");
             assert_eq!(board.mesh.id_of(&cell), Some(leaf.id));
             for (side, &ticks) in ["x0_mm", "y0_mm", "x1_mm", "y1_mm"].iter().zip(&leaf.rect) {
-                assert_eq!(number(side), pitch.millimetres(ticks));
+                // No digits but those of a tick.
+                assert!((number(side) - pitch.millimetres(ticks)).abs() <= 5e-10);
+                assert!(row[*side].len() <= 14, "{}", row[*side]);
             }
             let whole = ["polygon", "layer", "component", "level"].map(&number);
             let [polygon, level] = [leaf.polygon as f64, leaf.level as f64];

@@ -27,7 +27,7 @@ pub const MSH: Command = Command {
     help: "\
 usage: board msh [FILE] [--power] [--terminal \"NAME VALUE V|A PLACE\"].. [-o FILE]
 
-The mesh as a file for Gmsh (form 2.2): leaves as quads, links as lines, a physical group for each component of a layer
+The mesh as a file for Gmsh (form 4.1): leaves as quads, links as lines, a physical group for each component of a layer
 and one for the links.
 
   --power      with what flows between the terminals, as in the file for ParaView
