@@ -1,6 +1,6 @@
 #!/bin/sh
 # test_usage.sh: every script answers --help on standard output, and words that make no sense by its usage on standard
-# error and status 2, before it does anything else.
+# error and status 2, before it does anything else. All are clean by shellcheck, where that is.
 set -eu
 # shellcheck source=usage.sh
 . "$(dirname "$0")/usage.sh"
@@ -79,5 +79,12 @@ if command -v python3 >/dev/null; then
     refuses python3 "$root/oracle/faults.py" no-fault-has-this-word
 else
     echo "usage of docs/*.py and oracle/*.py left out: that needs python3"
+fi
+
+if command -v shellcheck >/dev/null; then
+    (cd "$root" && find install.sh bindings oracle -name '*.sh' -not -path '*/target/*' -exec shellcheck {} +) >&2 ||
+        fail "shellcheck has complaints"
+else
+    echo "shellcheck of all scripts left out: that needs shellcheck"
 fi
 echo "usage: as expected"

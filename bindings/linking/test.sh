@@ -19,11 +19,9 @@ for tool in cc c++ pkg-config nm readelf; do
         exit 1
     }
 done
-if [ -z "${LEAFMESH_LIBRARY:-}" ]; then
-    ../library.sh
-    LEAFMESH_LIBRARY=$root/crates/leafmesh/out
-fi
-LEAFMESH_LIBRARY=$(cd "$LEAFMESH_LIBRARY" && pwd)
+[ -n "${LEAFMESH_LIBRARY:-}" ] || ../library.sh
+# As cargo sees it.
+LEAFMESH_LIBRARY=$(cd ../rust && cd "${LEAFMESH_LIBRARY:-../../crates/leafmesh/out}" && pwd)
 export LEAFMESH_LIBRARY
 folder=$(mktemp -d)
 trap 'rm -rf "$folder"' EXIT

@@ -29,7 +29,9 @@ if command -v cargo >/dev/null; then
 else
     echo "python: boards past leafnet's 64 slots left out: that needs cargo"
 fi
-../linking/shared.sh "${LEAFMESH_LIBRARY:-$root/crates/leafmesh/out}/libleafmesh.a" "$folder"
+# As cargo sees it.
+library=$(cd ../rust && cd "${LEAFMESH_LIBRARY:-../../crates/leafmesh/out}" && pwd)
+../linking/shared.sh "$library/libleafmesh.a" "$folder"
 LEAFMESH_PROGRAM=${LEAFMESH_PROGRAM:-$root/crates/leafnet/out/leafnet}
 export LEAFMESH_PROGRAM
 LEAFMESH_LIBRARY=$folder "$python" -B -W error -m unittest discover -q -s tests -t . 2>"$folder/said" || {
