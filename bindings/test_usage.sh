@@ -8,7 +8,13 @@ take_no_words "$@"
 root=$(cd "$(dirname "$0")/.." && pwd)
 folder=$(mktemp -d)
 trap 'rm -rf "$folder"' EXIT
-mkdir "$folder/empty"
+# Whatever a script does with its words, nothing is proved or built.
+mkdir "$folder/empty" "$folder/bin"
+for tool in rt cargo cc mpicc; do
+    printf '#!/bin/sh\necho "%s is called" >&2\nexit 1\n' $tool >"$folder/bin/$tool"
+    chmod +x "$folder/bin/$tool"
+done
+PATH=$folder/bin:$PATH
 cd "$folder/empty"
 
 fail() {
@@ -27,8 +33,12 @@ helps() { # SCRIPT WORD..
     ends_with 0 "$@" --help
     [ -s "$folder/printed" ] || fail "$*: says nothing"
     [ ! -s "$folder/said" ] || fail "$1 --help: said $(cat "$folder/said")"
-    # The comment at its top and no line of its code.
-    ! grep -q '^#!\|^set -eu\|^import ' "$folder/printed" || fail "$1 --help: shows its code"
+}
+# The comment at its top, and no other.
+shows_its_top() { # SCRIPT
+    helps "$1"
+    awk 'NR > 1 && !/^#/ { exit } NR > 1' "$1" | sed 's/^# //; s/^#$//' | diff - "$folder/printed" >&2 ||
+        fail "$1 --help: prints another text than its comment"
 }
 refuses() { # SCRIPT WORD..
     ends_with 2 "$@"
@@ -42,7 +52,7 @@ for script in $(cd "$root" && find install.sh bindings oracle -name '*.sh' -not 
     # Read by others and not run.
     bindings/usage.sh | bindings/linking/version.sh | bindings/python/which.sh) continue ;;
     esac
-    helps "$root/$script"
+    shows_its_top "$root/$script"
     refuses "$root/$script" --no-such-word
     refuses "$root/$script" --help --no-such-word
     refuses "$root/$script" one two three four five
