@@ -35,7 +35,7 @@ class Mesh:
 
     @property
     def head(self) -> Head:
-        """How many cells there are, how many of them are leaves, and the deepest level."""
+        """How many cells there are, how many of them are leaves, and the deepest level that they may have."""
         return self._table.head
 
     @property

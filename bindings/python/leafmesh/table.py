@@ -13,7 +13,7 @@ from .rows import CELL, EDGE, LAYER, NODE, entries, lent_table, number, slots
 
 
 class Head(NamedTuple):
-    """How many cells a table has, how many of them are leaves, and its deepest level."""
+    """How many cells a table has, how many of them are leaves, and the deepest level that they may have."""
 
     count: int
     leaves: int

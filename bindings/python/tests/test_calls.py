@@ -31,7 +31,7 @@ class OneSquare(Refused):
         self.assertEqual(self.mesh.balance(), 0)
 
     def test_cells_and_leaves(self):
-        self.assertEqual(self.mesh.head, (5, 4, 1))
+        self.assertEqual(self.mesh.head, (5, 4, 2))
         self.assertEqual(self.mesh.table.leaf_count(), 4)
         self.assertEqual(self.mesh.leaves().tolist(), [1, 2, 3, 4])
         self.assertEqual(self.mesh.leaf_order().tolist(), [1, 2, 3, 4])
@@ -71,7 +71,7 @@ class OneSquare(Refused):
     def test_several_are_split_or_none(self):
         before = self.mesh.cells.tolist()
         self.refused(8, 99, self.mesh.refine, [1, 2, 99])
-        self.assertEqual((self.mesh.head, self.mesh.cells.tolist()), ((5, 4, 1), before))
+        self.assertEqual((self.mesh.head, self.mesh.cells.tolist()), ((5, 4, 2), before))
         self.mesh.refine([1, 2])
         self.assertEqual(self.mesh.head, (13, 10, 2))
         self.refused(10, 5, self.mesh.refine, 5)
@@ -126,7 +126,7 @@ class Rings(Refused):
 
     def test_refused_rings(self):
         self.refused(4, 0, leafmesh.strips, [(0, 0), (4, 4), (0, 4)])
-        self.refused(5, 1, Mesh, Settings(8, 3), Polygons.of([(1, 0, 1.0, square(16)), (1, 0, 1.0, square(8))]))
+        self.refused(5, 1, Mesh, Settings(16, 3), Polygons.of([(1, 0, 1.0, square(16)), (1, 0, 1.0, square(8))]))
         self.refused(3, 1, Mesh, Settings(8, 2), Polygons.of([(1, 0, 1.0, square(8)), (1, 0, 0.0, square(8))]))
         rows = Polygons([1], [0], [1.0, 1.0], [4], square(8))
         self.refused(7, 0, Mesh, Settings(8, 2), rows)
@@ -134,7 +134,7 @@ class Rings(Refused):
 
     def test_no_polygons_have_no_cells(self):
         mesh = Mesh(Settings(8), Polygons.of([]))
-        self.assertEqual((mesh.head, mesh.balance(), len(mesh.network().nodes)), ((0, 0, 0), 0, 0))
+        self.assertEqual((mesh.head, mesh.balance(), len(mesh.network().nodes)), ((0, 0, 4), 0, 0))
 
     def test_nets_that_would_be_wrong(self):
         # The three rings of docs/RULES.md, "The checks".
@@ -216,8 +216,8 @@ class Given(unittest.TestCase):
         row = mesh.table.row.copy()
         table = Table(row, mesh.head)
         table.refine(0)
-        self.assertEqual((table.head, row[8:12].tolist()), ((5, 4, 1), [0, 0, 4, 4]))
-        self.assertEqual(mesh.head, (1, 1, 0))
+        self.assertEqual((table.head, row[8:12].tolist()), ((5, 4, 2), [0, 0, 4, 4]))
+        self.assertEqual(mesh.head, (1, 1, 2))
 
     def test_any_bytes_are_read_or_refused(self):
         draw = random.Random(1)
