@@ -1,5 +1,9 @@
-//! leafnet, between a reader and a writer.
-use leafnet_text::{leafnet, text_of};
+//! leafnet, between a reader and a writer, and by the words of a command line.
+use leafnet_command::ending::Ending;
+use leafnet_command::run::run;
+use leafnet_text::failure::Failure;
+use leafnet_text::{answer_to, leafnet, text_of};
+use refusals::Refusal;
 use std::io::{self, Error, ErrorKind, Read, Write};
 use std::test::Fail;
 
@@ -64,7 +68,8 @@ impl Write for BrokenWriter {
 #[test]
 fn a_square(rt: HostRuntime) -> Result<(), Fail> {
     let mut text = Vec::new(rt.alloc());
-    leafnet(rt.alloc(), &mut &SQUARE[..], &mut text)?;
+    let refusal = leafnet(rt.alloc(), &mut &SQUARE[..], &mut text)?;
+    assert_eq!(rt; refusal, None);
     assert_eq!(rt; text.as_slice(), TEXT.as_bytes());
     Ok(())
 }
@@ -77,8 +82,9 @@ fn refusals(rt: HostRuntime) -> Result<(), Fail> {
     assert_eq!(rt; text.as_str(), "refused 1 0\n");
     let text = text_of(rt.alloc(), &SQUARE[..SQUARE.len() - 1])?;
     assert_eq!(rt; text.as_str(), "refused 2 1\n");
-    let text = text_of(rt.alloc(), &[0; 16_385])?;
-    assert_eq!(rt; text.as_str(), "refused 6 0\n");
+    let answer = answer_to(rt.alloc(), &[0; 16_385])?;
+    assert_eq!(rt; answer.text.as_str(), "refused 6 0\n");
+    assert_eq!(rt; answer.refusal, Some(Refusal::NoRoom));
     Ok(())
 }
 
@@ -86,7 +92,11 @@ fn refusals(rt: HostRuntime) -> Result<(), Fail> {
 fn a_read_fails_in_mid_stream(rt: HostRuntime) -> Result<(), Fail> {
     let mut text = Vec::new(rt.alloc());
     let mut reader = BrokenReader(&SQUARE[..20]);
-    assert!(rt; leafnet(rt.alloc(), &mut reader, &mut text).is_err());
+    let failed = matches!(
+        leafnet(rt.alloc(), &mut reader, &mut text),
+        Err(Failure::Reading(_))
+    );
+    assert!(rt; failed);
     assert!(rt; text.is_empty());
     Ok(())
 }
@@ -94,6 +104,86 @@ fn a_read_fails_in_mid_stream(rt: HostRuntime) -> Result<(), Fail> {
 #[test]
 fn a_write_fails_in_mid_stream(rt: HostRuntime) {
     let mut writer = BrokenWriter { room: 10, taken: 0 };
-    assert!(rt; leafnet(rt.alloc(), &mut &SQUARE[..], &mut writer).is_err());
+    let failed = matches!(
+        leafnet(rt.alloc(), &mut &SQUARE[..], &mut writer),
+        Err(Failure::Writing(_))
+    );
+    assert!(rt; failed);
     assert_eq!(rt; writer.taken, 10);
+}
+
+// What a command line of one word prints, or of none, and its status and what it says, a record being on standard input.
+fn run_on(rt: &HostRuntime, word: &str, record: &[u8]) -> Result<(String, u8, String), Fail> {
+    let mut words = Vec::new(rt.alloc());
+    if !word.is_empty() {
+        words.push(String::from_str(rt.alloc(), word)?)?;
+    }
+    let mut printed = Vec::new(rt.alloc());
+    let ending = run(rt, rt.alloc(), &words, &mut &record[..], &mut printed);
+    let status = ending.status();
+    let said = format!(in rt.alloc(); "{ending}")?;
+    Ok((String::from_utf8(printed)?, status, said))
+}
+
+#[test]
+fn command_lines(rt: HostRuntime) -> Result<(), Fail> {
+    for word in ["", "-"] {
+        let (printed, status, said) = run_on(&rt, word, SQUARE)?;
+        assert_eq!(rt; printed.as_str(), TEXT);
+        assert_eq!(rt; status, 0);
+        assert_eq!(rt; said.as_str(), "");
+        let (printed, status, said) = run_on(&rt, word, b"level 3")?;
+        assert_eq!(rt; printed.as_str(), "refused 1 0\n");
+        assert_eq!(rt; status, 1);
+        assert_eq!(rt;
+            said.as_str(),
+            "leafnet: refused 1 0: the record is not of version 1\n"
+        );
+    }
+    let (printed, status, said) = run_on(&rt, "--version", SQUARE)?;
+    assert_eq!(rt; printed.as_str(), "leafnet 0.10.0\n");
+    assert_eq!(rt; status, 0);
+    assert_eq!(rt; said.as_str(), "");
+    let (printed, status, said) = run_on(&rt, "no such file", SQUARE)?;
+    assert_eq!(rt; printed.as_str(), "");
+    assert_eq!(rt; status, 1);
+    assert_eq!(rt;
+        said.as_str(),
+        "leafnet: no such file: No such file or directory (os error 2)\n"
+    );
+    let (usage, _, _) = run_on(&rt, "--help", SQUARE)?;
+    let (printed, status, said) = run_on(&rt, "-h", SQUARE)?;
+    assert_eq!(rt; printed.as_str(), "");
+    assert_eq!(rt; status, 2);
+    assert_eq!(rt; said.as_str(), usage.as_str());
+    Ok(())
+}
+
+#[test]
+fn failures_name_their_end(rt: HostRuntime) -> Result<(), Fail> {
+    let mut printed = Vec::new(rt.alloc());
+    let ending = run(
+        &rt,
+        rt.alloc(),
+        &[],
+        &mut BrokenReader(&SQUARE[..20]),
+        &mut printed,
+    );
+    assert_eq!(rt; ending.status(), 1);
+    let said = format!(in rt.alloc(); "{ending}")?;
+    assert_eq!(rt;
+        said.as_str(),
+        "leafnet: cannot read standard input: other error\n"
+    );
+    let mut writer = BrokenWriter { room: 10, taken: 0 };
+    let ending = run(&rt, rt.alloc(), &[], &mut &SQUARE[..], &mut writer);
+    assert_eq!(rt; ending.status(), 1);
+    let said = format!(in rt.alloc(); "{ending}")?;
+    assert_eq!(rt;
+        said.as_str(),
+        "leafnet: cannot write standard output: other error\n"
+    );
+    let said = format!(in rt.alloc(); "{}", Ending::OutOfMemory)?;
+    assert_eq!(rt; said.as_str(), "leafnet: out of memory\n");
+    Ok(())
 }

@@ -1,8 +1,32 @@
-//! leafnet: reads a board record from standard input and writes its mesh and net as text.
+//! leafnet: prints the mesh and the net of a board record. All that it does stands in crate leafnet_command; here it
+//! gets the command line, the files and the standard streams.
 #![tactic(auto)]
 
-use std::io;
+use leafnet_command::ending::Ending;
+use leafnet_command::run::run;
+use std::io::{ErrorKind, Write};
+use std::process::ExitCode;
+use std::{env, io};
 
-fn main(rt: HostRuntime) -> io::Result<()> {
-    leafnet_text::leafnet(rt.alloc(), &mut rt.reader(), &mut io::writer(&rt))
+// The words behind the program's name.
+fn words(rt: &HostRuntime) -> io::Result<Vec<String>> {
+    Ok(env::args(rt)?.skip(1).collect(rt.alloc())?)
+}
+
+// Says how it ended. Where standard error takes nothing, the status is all that is left to say it.
+fn conclude(rt: &HostRuntime, ending: Ending<'_>) -> ExitCode {
+    let _ = write!(rt.stderr(), "{ending}");
+    ExitCode::from(ending.status())
+}
+
+fn main(rt: HostRuntime) -> ExitCode {
+    match words(&rt) {
+        Ok(words) => {
+            let ending = run(&rt, rt.alloc(), &words, &mut rt.reader(), &mut io::writer(&rt));
+            conclude(&rt, ending)
+        }
+        Err(why) if why.kind() == ErrorKind::OutOfMemory => conclude(&rt, Ending::OutOfMemory),
+        // A word is no text.
+        Err(_) => conclude(&rt, Ending::Misused),
+    }
 }

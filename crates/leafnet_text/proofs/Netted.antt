@@ -22,8 +22,8 @@ use Rattle.network.specs.declared.NetSize.{NetSize}
 use Rattle.table.specs.Rows.{leaves_in, order_in}
 use Rattle.leafnet_text.specs.Rooms.{net_rows}
 use Rattle.leafnet_text.specs.Boards.{Given, polygons_in, polygons_of}
-use Rattle.leafnet_text.specs.Output.{lines_text, net_text, unless_refused}
-use Rattle.leafnet_text.proofs.Refusing.{accepted-if, refused-text}
+use Rattle.leafnet_text.specs.Output.{lines_text, net_says}
+use Rattle.leafnet_text.proofs.Refusing.{accepted-if, refused-first}
 
 -- the values of an accepted call
 unspoilt : (bad : Option ℕ) (o : Said) (vs : List ℕ) → accepted vs ≡ unless_bad bad o → accepted vs ≡ o
@@ -58,7 +58,7 @@ pub record Left (g : Given) (row : List ℤ) (head : Head) (c : NetSize) (r : Ro
   pub few_nodes : c.nodes ≤ length r.nodes
   pub few_edges : c.edges ≤ length r.edges
   pub numbers : All (λ e. NotNan e.conductance) (take c.edges r.edges)
-  pub text : (splits : ℕ) → net_text g row head splits ≡ lines_text row head splits (order_in row head) (take c.nodes r.nodes) (take c.edges r.edges)
+  pub says : (splits : ℕ) → net_says g row head splits ≡ accepted (lines_text row head splits (order_in row head) (take c.nodes r.nodes) (take c.edges r.edges))
 
 module _ (g : Given) (row : List ℤ) (head : Head) (p : Polygons) (sheets : List Float) (layers-are : p.layers.now ≡ g.board.layers)
     (components-are : p.components.now ≡ g.components) (sheets-are : sheets ≡ g.sheets) (l : Links) (contacts-are : l.contacts.now ≡ []) (vias-are : l.vias.now ≡ [])
@@ -72,13 +72,13 @@ module _ (g : Given) (row : List ℤ) (head : Head) (p : Polygons) (sheets : Lis
   unfolding network_says network_leaves judged links_in_range linked_network linked links_of
   same-left = λ i. network_leaves row head (polygons_in (layers-are i) (components-are i)) (sheets-are i) (links_in (contacts-are i) (vias-are i) (layer-is i) (channels-are i)) net_rows
 
-  pub net-refused : (why : Refusal) (splits : ℕ) → refusal why ≡ network_says row head p sheets l net_rows → net_text g row head splits ≡ unless_refused (refusal why) []
-  unfolding net_text
-  net-refused why splits e = refused-text why (network_says row head (polygons_of g) g.sheets no_links net_rows) _ (e ∙ same-said)
+  pub net-refused : (why : Refusal) (splits : ℕ) → refusal why ≡ network_says row head p sheets l net_rows → net_says g row head splits ≡ refusal why
+  unfolding net_says
+  net-refused why splits e = refused-first why (network_says row head (polygons_of g) g.sheets no_links net_rows) _ (e ∙ same-said)
 
   pub net-left : (c : NetSize) (r : Rows) → accepted (c.nodes ∷ c.edges ∷ c.cells ∷ c.links ∷ []) ≡ network_says row head p sheets l net_rows
       → r ≡ network_leaves row head p sheets l net_rows → Left g row head c r
-  unfolding network_leaves net_text
+  unfolding network_leaves net_says
   net-left c r answer left =
       let w = net_of row head (polygons_of g) g.sheets no_links in
       let vs = c.nodes ∷ c.edges ∷ c.cells ∷ c.links ∷ [] in
@@ -94,5 +94,5 @@ module _ (g : Given) (row : List ℤ) (head : Head) (p : Polygons) (sheets : Lis
         few_nodes = rw held (within-written (map in_ticks w.nodes) net_rows.nodes c.nodes node_count);
         few_edges = rw held (within-written w.edges net_rows.edges c.edges edge_count);
         numbers = subst (All (λ e. NotNan e.conductance)) (sym edges) (λ k d h. finite-number _ (all k d h).finite);
-        text = λ splits. rw (← e) (λ i. lines_text row head splits (order_in row head) (sym nodes i) (sym edges i));
+        says = λ splits. rw (← e) (λ i. accepted (lines_text row head splits (order_in row head) (sym nodes i) (sym edges i)));
       }

@@ -18,7 +18,7 @@ use Rattle.record.specs.Rows.{Rows, entry_row, polygon_row, sheet_of, point_row,
 use Rattle.record.specs.Reading.{counts_of, numbers, has_room, reading, says, leaves}
 use Rattle.leafnet_text.specs.Rooms.{layer_room, polygon_room, point_room, split_room, record_rows}
 use Rattle.leafnet_text.specs.Boards.{given, given_by, settings_of, board_in, column, AreNarrow}
-use Rattle.leafnet_text.specs.Output.{board_text, record_text}
+use Rattle.leafnet_text.specs.Output.{board_says, record_says}
 use Rattle.leafnet_text.proofs.Fronts.{front}
 use Rattle.leafnet_text.proofs.Narrowing.{record-narrow}
 
@@ -86,8 +86,8 @@ pub record Held (s : List ℕ) (r : Read) (rows : Rows) : Type 0 where
   pub few_points : r.counts.points ≤ point_room
   pub few_splits : r.counts.splits ≤ split_room
   pub narrow : AreNarrow (take r.counts.polygons rows.polygons)
-  pub text : record_text (board_in s)
-      ≡ board_text (given (settings_of r.settings) (take r.counts.layers rows.layers) (column 0 (take r.counts.polygons rows.polygons)) (column 1 (take r.counts.polygons rows.polygons))
+  pub says : record_says (board_in s)
+      ≡ board_says (given (settings_of r.settings) (take r.counts.layers rows.layers) (column 0 (take r.counts.polygons rows.polygons)) (column 1 (take r.counts.polygons rows.polygons))
       (take r.counts.polygons rows.sheets) (column 2 (take r.counts.polygons rows.polygons)) (take r.counts.points rows.points) (take r.counts.splits rows.splits))
 
 module _ (s : List ℕ) (r : Read) (rows : Rows) (x : IsRead s r rows) where
@@ -146,7 +146,7 @@ module _ (s : List ℕ) (r : Read) (rows : Rows) (x : IsRead s r rows) where
         few_points = rw x.counts room.points;
         few_splits = rw x.counts room.splits;
         narrow = subst AreNarrow (sym polygons-front) (record-narrow s bytes b (found s b x.read).0);
-        text = ap record_text x.read ∙ ap board_text (sym given-is);
+        says = ap record_says x.read ∙ ap board_says (sym given-is);
       }
 
 pub held : (s : List ℕ) → ((i : ℕ) → get_or s i 0 < 256) → (r : Read) (rows : Rows) → accepted (numbers r.settings r.counts) ≡ says (board_in s)

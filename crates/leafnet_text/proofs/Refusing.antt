@@ -1,5 +1,5 @@
--- What a refusal prints. Assumes nothing.
-use Rattle.std.proofs.Common.{◌<◌, ◌≤◌, ◌≡◌, refl, length, le-leb, sym, ap, subst, ◌∙◌, Bool, true, false, cond, List, ℕ, [], Result, Err}
+-- What a refusal says. Assumes nothing.
+use Rattle.std.proofs.Common.{◌<◌, ◌≤◌, ◌≡◌, refl, length, le-leb, sym, ap, subst, ◌∙◌, Bool, true, false, cond, List, ℕ, Result, Err}
 use Rattle.refusals.specs.declared.Refusal.{Refusal}
 use borrow.Author.Tests.{lt-leb}
 use Rattle.refusals.specs.Said.{Said, accepted, refused, refusal, is_accepted}
@@ -9,13 +9,11 @@ use Rattle.leafnet_text.specs.declared.stop.Stop.{Stop}
 use Rattle.leafnet_text.specs.declared.stop.Stop.TheVariants.{Refused, OutOfMemory}
 use Rattle.leafnet_text.specs.Rooms.{input_room}
 use Rattle.leafnet_text.specs.Boards.{board_in}
-use Rattle.leafnet_text.specs.Output.{unless_refused, record_text, output_text, Prints, PrintsNext}
+use Rattle.leafnet_text.specs.Output.{unless_refused, record_says, leafnet_says, Prints, PrintsNext}
 
--- a refusal prints itself, whatever text there would be
-pub refused-text : (why : Refusal) (said : Said) (text : List ℕ) → refusal why ≡ said → unless_refused said text ≡ unless_refused (refusal why) []
-refused-text why said text e =
-    let r = as-refused why in
-    ap (λ (s : Said). unless_refused s text) (sym e ∙ r.2) ∙ sym (ap (λ (s : Said). unless_refused s []) r.2)
+-- a refusal is what is said, whatever would be next
+pub refused-first : (why : Refusal) (said next : Said) → refusal why ≡ said → unless_refused said next ≡ refusal why
+refused-first why said next e = let r = as-refused why in ap (λ (s : Said). unless_refused s next) (sym e ∙ r.2) ∙ sym r.2
 
 -- a refusal is not accepted
 pub not-accepted : (why : Refusal) → is_accepted (refusal why) ≡ false
@@ -27,25 +25,25 @@ accepted-if true passed why vs e = (refl, e)
 accepted-if false passed why vs e = let r = as-refused why in absurd (refused-accepted r.0 r.1 vs (sym (e ∙ r.2)))
 
 -- an answer that is this refusal
-pub prints-refused : {A : Type 0} (r : Result A Refusal) (why : Refusal) (next : A → List ℕ) (text : List ℕ)
-    → r ≡ Err why → text ≡ unless_refused (refusal why) [] → PrintsNext r next text
-prints-refused r why next text e h = subst (λ x. PrintsNext x next text) (sym e) h
+pub prints-refused : {A : Type 0} (r : Result A Refusal) (why : Refusal) (next : A → Said) (says : Said)
+    → r ≡ Err why → says ≡ refusal why → PrintsNext r next says
+prints-refused r why next says e h = subst (λ x. PrintsNext x next says) (sym e) h
 
-pub prints-stopped : {A : Type 0} (r : Result A Stop) (why : Refusal) (next : A → List ℕ) (text : List ℕ)
-    → r ≡ Err (Refused why) → text ≡ unless_refused (refusal why) [] → Prints r next text
-prints-stopped r why next text e h = subst (λ x. Prints x next text) (sym e) h
+pub prints-stopped : {A : Type 0} (r : Result A Stop) (why : Refusal) (next : A → Said) (says : Said)
+    → r ≡ Err (Refused why) → says ≡ refusal why → Prints r next says
+prints-stopped r why next says e h = subst (λ x. Prints x next says) (sym e) h
 
 -- an answer that another step's is passed on as
-pub prints-passed : {A B : Type 0} (stop : Stop) (r : Result B Stop) (made : A → List ℕ) (next : B → List ℕ) (text text' : List ℕ)
-    → r ≡ Err stop → text ≡ text' → Prints {A = A} (Err stop) made text' → Prints r next text
-prints-passed (Refused why) r made next text text' e h p = subst (λ x. Prints x next text) (sym e) (h ∙ p)
-prints-passed (OutOfMemory o) r made next text text' e h p = subst (λ x. Prints x next text) (sym e) tt
+pub prints-passed : {A B : Type 0} (stop : Stop) (r : Result B Stop) (made : A → Said) (next : B → Said) (says says' : Said)
+    → r ≡ Err stop → says ≡ says' → Prints {A = A} (Err stop) made says' → Prints r next says
+prints-passed (Refused why) r made next says says' e h p = subst (λ x. Prints x next says) (sym e) (h ∙ p)
+prints-passed (OutOfMemory o) r made next says says' e h p = subst (λ x. Prints x next says) (sym e) tt
 
 -- input that is too long, and input that is read
-pub too_long : (s : List ℕ) → input_room < length s → output_text s ≡ unless_refused (refused 6 0) []
-unfolding output_text
+pub too_long : (s : List ℕ) → input_room < length s → leafnet_says s ≡ refused 6 0
+unfolding leafnet_says
 too_long s h = rw (lt-leb (length s) input_room h) refl
 
-pub short-enough : (s : List ℕ) → length s ≤ input_room → output_text s ≡ record_text (board_in s)
-unfolding output_text
+pub short-enough : (s : List ℕ) → length s ≤ input_room → leafnet_says s ≡ record_says (board_in s)
+unfolding leafnet_says
 short-enough s h = rw (le-leb (length s) input_room h) refl

@@ -1,5 +1,5 @@
--- From a board to its balanced table: what is printed where a step refuses, and what an accepted step leaves. Assumes nothing.
-use Rattle.std.proofs.Common.{ℕ, ◌/◌, ◌≡◌, sym, ap, ◌∙◌, List, [], ◌∷◌, leb, ltb, ℤ, length, Result, Ok, Err}
+-- From a board to its balanced table: what is said where a step refuses, and what an accepted step leaves. Assumes nothing.
+use Rattle.std.proofs.Common.{ℕ, ◌/◌, ◌≡◌, sym, ap, ◌∙◌, List, ◌∷◌, leb, ltb, ℤ, length, Result, Ok, Err}
 use Rattle.std.specs.Prelude.{IfOk, OnOk}
 use Rattle.refusals.specs.declared.Refusal.{Refusal}
 use Rattle.refusals.specs.declared.Refusal.TheVariants.{OutOfRange, BadTable, NoRoom}
@@ -17,8 +17,8 @@ use Rattle.even.specs.Even.{even_cells, even_says, even_head, even_splits}
 use Rattle.leafnet_text.specs.Rooms.{table_room}
 use Rattle.leafnet_text.specs.Boards.{Given}
 use Rattle.leafnet_text.specs.Growing.{roots_say, roots_row, roots_head, splits_say, split_row, split_head, balance_says, balanced_row, balanced_head, balance_splits}
-use Rattle.leafnet_text.specs.Output.{unless_refused, table_text, board_text}
-use Rattle.leafnet_text.proofs.Refusing.{accepted-if, refused-text}
+use Rattle.leafnet_text.specs.Output.{unless_refused, table_says, board_says}
+use Rattle.leafnet_text.proofs.Refusing.{accepted-if, refused-first}
 use Rattle.leafnet_text.proofs.Refining.{same_head, all-head}
 
 -- the values of an accepted balance
@@ -29,20 +29,20 @@ even-values row head vs e =
     (accepted-if (leb (length (even_cells Balancing row head)) (length row / 8)) _ NoRoom vs (accepted-if (well_formed row head) _ BadTable vs e).1).1
 
 module _ (g : Given) where
-  -- what is printed once nothing refuses, and from each step on
-  abbrev last : List ℕ
-  last = table_text g (balanced_row g) (balanced_head g) (balance_splits g)
+  -- what is said once nothing refuses, and from each step on
+  abbrev last : Said
+  last = table_says g (balanced_row g) (balanced_head g) (balance_splits g)
 
-  abbrev from_balance : List ℕ
+  abbrev from_balance : Said
   from_balance = unless_refused (balance_says g) last
 
-  abbrev from_splits : List ℕ
+  abbrev from_splits : Said
   from_splits = unless_refused (splits_say g) from_balance
 
   -- build refuses
-  pub roots-refused : (why : Refusal) → refusal why ≡ roots_say g → board_text g ≡ unless_refused (refusal why) []
-  unfolding board_text
-  roots-refused why e = refused-text why (roots_say g) from_splits e
+  pub roots-refused : (why : Refusal) → refusal why ≡ roots_say g → board_says g ≡ refusal why
+  unfolding board_says
+  roots-refused why e = refused-first why (roots_say g) from_splits e
 
   -- build is accepted
   pub built-head : (r : Result Head Refusal) → built_said r ≡ roots_say g → IfOk r (λ head. head ≡ roots_head g)
@@ -65,9 +65,9 @@ module _ (g : Given) where
   built-row (Err why) before row e left = tt
 
   -- a split refuses
-  pub split-refused : (roots : Head) (why : Refusal) → accepted (head_values roots) ≡ roots_say g → refusal why ≡ splits_say g → board_text g ≡ unless_refused (refusal why) []
-  unfolding board_text
-  split-refused roots why e f = ap (λ (s : Said). unless_refused s from_splits) (sym e) ∙ refused-text why (splits_say g) from_balance f
+  pub split-refused : (roots : Head) (why : Refusal) → accepted (head_values roots) ≡ roots_say g → refusal why ≡ splits_say g → board_says g ≡ refusal why
+  unfolding board_says
+  split-refused roots why e f = ap (λ (s : Said). unless_refused s from_splits) (sym e) ∙ refused-first why (splits_say g) from_balance f
 
   -- none does
   pub split-is : (head : Head) → accepted (head_values head) ≡ splits_say g → head ≡ split_head g
@@ -75,19 +75,19 @@ module _ (g : Given) where
 
   -- balance refuses
   pub balance-refused : (roots refined : Head) (why : Refusal) → accepted (head_values roots) ≡ roots_say g → accepted (head_values refined) ≡ splits_say g → refusal why ≡ balance_says g
-      → board_text g ≡ unless_refused (refusal why) []
-  unfolding board_text
+      → board_says g ≡ refusal why
+  unfolding board_says
   balance-refused roots refined why e f h =
       ap (λ (s : Said). unless_refused s from_splits) (sym e)
       ∙ ap (λ (s : Said). unless_refused s from_balance) (sym f)
-      ∙ refused-text why (balance_says g) last h
+      ∙ refused-first why (balance_says g) last h
 
   -- nothing refuses
-  pub grown-text : (roots refined : Head) (splits : ℕ) (head : Head) (row : List ℤ) → accepted (head_values roots) ≡ roots_say g → accepted (head_values refined) ≡ splits_say g
+  pub grown : (roots refined : Head) (splits : ℕ) (head : Head) (row : List ℤ) → accepted (head_values roots) ≡ roots_say g → accepted (head_values refined) ≡ splits_say g
       → accepted (splits ∷ head_values head) ≡ balance_says g → row ≡ balanced_row g
-      → board_text g ≡ table_text g row head splits
-  unfolding board_text
-  grown-text roots refined splits head row e f h r =
+      → board_says g ≡ table_says g row head splits
+  unfolding board_says
+  grown roots refined splits head row e f h r =
       let v = even-values (split_row g) (split_head g) (splits ∷ head_values head) h in
       let s : splits ≡ balance_splits g = cc in
       let values : accepted (head_values head) ≡ accepted (head_values (balanced_head g)) = cc in
@@ -95,4 +95,4 @@ module _ (g : Given) where
       ap (λ (s : Said). unless_refused s from_splits) (sym e)
       ∙ ap (λ (s : Said). unless_refused s from_balance) (sym f)
       ∙ ap (λ (s : Said). unless_refused s last) (sym h)
-      ∙ sym (λ i. table_text g (r i) (same i) (s i))
+      ∙ sym (λ i. table_says g (r i) (same i) (s i))

@@ -17,8 +17,8 @@ use Rattle.table.specs.Leaves.{list_says, listed_row}
 use Rattle.table.proofs.Shape.{formed-within}
 use Rattle.leafnet_text.specs.Rooms.{leaf_room}
 use Rattle.leafnet_text.specs.Boards.{Given}
-use Rattle.leafnet_text.specs.Output.{unless_refused, net_text, table_text}
-use Rattle.leafnet_text.proofs.Refusing.{accepted-if, refused-text}
+use Rattle.leafnet_text.specs.Output.{unless_refused, net_says, table_says}
+use Rattle.leafnet_text.proofs.Refusing.{accepted-if, refused-first}
 
 All-flat_map : {A B : Type 0} (P : B → Type 0) (f : A → List B) → ((a : A) → All P (f a)) → (l : List A) → All P (flat_map f l)
 All-flat_map P f h [] = All-nil P
@@ -53,13 +53,13 @@ ordered row head leaves order e left =
     ∙ ap (λ k. take k (ids ++ drop (length ids) out)) count ∙ take-append_seam ids (drop (length ids) out) in
     record { front = front; slots = subst (All (λ id. id * 8 + 8 ≤ length row)) (sym front) (order-slots row head formed.0) }
 
--- what is printed for it, or where it is refused
+-- what is said of it, or where it is refused
 module _ (g : Given) (row : List ℤ) (head : Head) (splits : ℕ) where
-  pub order-accepted : (vs : List ℕ) → accepted vs ≡ list_says row head (order_in row head) (replicate leaf_room 0) → table_text g row head splits ≡ net_text g row head splits
-  unfolding table_text
-  order-accepted vs e = ap (λ s. unless_refused s (net_text g row head splits)) (sym e)
+  pub order-accepted : (vs : List ℕ) → accepted vs ≡ list_says row head (order_in row head) (replicate leaf_room 0) → table_says g row head splits ≡ net_says g row head splits
+  unfolding table_says
+  order-accepted vs e = ap (λ s. unless_refused s (net_says g row head splits)) (sym e)
 
   pub order-refused : (why : Refusal) → refusal why ≡ list_says row head (order_in row head) (replicate leaf_room 0)
-      → table_text g row head splits ≡ unless_refused (refusal why) []
-  unfolding table_text
-  order-refused why e = refused-text why _ (net_text g row head splits) e
+      → table_says g row head splits ≡ refusal why
+  unfolding table_says
+  order-refused why e = refused-first why _ (net_says g row head splits) e

@@ -1,8 +1,8 @@
--- What `leafnet` prints for a record: totals, leaves, nodes and edges, each on a line; or the first refusal of any step, on a line, and nothing else.
-use Rattle.std.specs.Prelude.{ℕ, List, [], ◌++◌, codes, ◌≡◌, ⊤, if◌then◌else◌, nat_le, ℤ, length, map, replicate, Result, Ok, Err}
+-- What `leafnet` says of a record, and prints for it: totals, leaves, nodes and edges, each on a line; or the first refusal of any step, on a line, and nothing else.
+use Rattle.std.specs.Prelude.{ℕ, List, ◌++◌, codes, ◌≡◌, ⊤, if◌then◌else◌, nat_le, ℤ, length, map, replicate, Option, Some, None, Result, Ok, Err, IsTrue}
 use Rattle.std.specs.List.{flat_map, enumerate_from}
 use Rattle.refusals.specs.declared.Refusal.{Refusal}
-use Rattle.refusals.specs.Said.{Said, accepted, refused, refusal}
+use Rattle.refusals.specs.Said.{Said, accepted, refused, refusal, is_accepted}
 use Rattle.cell.specs.Ticks.{on}
 use Rattle.table.specs.declared.Head.{Head}
 use Rattle.table.specs.Slots.{cell_at}
@@ -57,46 +57,61 @@ lines_text row head splits order nodes edges =
 
 -- ---- the steps
 
--- what is printed for a call: its refusal, or what comes of its being accepted
-abbrev pub unless_refused : Said → List ℕ → List ℕ
-unless_refused (accepted values) text = text
-unless_refused (refused number place) text = ended (refusal_line (refused number place))
+-- what comes of a call: its refusal, or what the next says once it is accepted
+abbrev pub unless_refused : Said → Said → Said
+unless_refused (accepted values) next = next
+unless_refused (refused number place) next = refused number place
 
--- of a board's table and what balance split: its net. A record has no links
-unfoldable pub net_text : Given → List ℤ → Head → ℕ → List ℕ
-net_text g row head splits =
+-- of a board's table and what balance split: the text, as bytes, or the refusal of its net. A record has no links
+unfoldable pub net_says : Given → List ℤ → Head → ℕ → Said
+net_says g row head splits =
     let net = net_of row head (polygons_of g) g.sheets no_links in
-    unless_refused (network_says row head (polygons_of g) g.sheets no_links net_rows) (lines_text row head splits (order_in row head) (map in_ticks net.nodes) net.edges)
+    unless_refused (network_says row head (polygons_of g) g.sheets no_links net_rows)
+    (accepted (lines_text row head splits (order_in row head) (map in_ticks net.nodes) net.edges))
 
 -- its leaf order, and its net
-unfoldable pub table_text : Given → List ℤ → Head → ℕ → List ℕ
-table_text g row head splits = unless_refused (list_says row head (order_in row head) (replicate leaf_room 0)) (net_text g row head splits)
+unfoldable pub table_says : Given → List ℤ → Head → ℕ → Said
+table_says g row head splits = unless_refused (list_says row head (order_in row head) (replicate leaf_room 0)) (net_says g row head splits)
 
 -- a board: its roots, the record's splits one by one, balance
-unfoldable pub board_text : Given → List ℕ
-board_text g =
+unfoldable pub board_says : Given → Said
+board_says g =
     unless_refused (roots_say g)
     (unless_refused (splits_say g)
     (unless_refused (balance_says g)
-    (table_text g (balanced_row g) (balanced_head g) (balance_splits g))))
+    (table_says g (balanced_row g) (balanced_head g) (balance_splits g))))
 
-abbrev pub record_text : Result Board Refusal → List ℕ
-record_text (Ok b) = board_text (given_by b)
-record_text (Err why) = unless_refused (refusal why) []
+abbrev pub record_says : Result Board Refusal → Said
+record_says (Ok b) = board_says (given_by b)
+record_says (Err why) = refusal why
 
--- all that is printed for a record. Input past 16,384 bytes is 6 unread
-unfoldable pub output_text : List ℕ → List ℕ
-output_text s = if nat_le (length s) input_room then record_text (board_in s) else unless_refused (refused 6 0) []
+-- a record: the text of its mesh and net, as bytes, or the first refusal. Input past 16,384 bytes is 6 unread
+unfoldable pub leafnet_says : List ℕ → Said
+leafnet_says s = if nat_le (length s) input_room then record_says (board_in s) else refused 6 0
+
+-- the text itself, or the refusal on a line
+abbrev pub printed : Said → List ℕ
+printed (accepted text) = text
+printed (refused number place) = ended (refusal_line (refused number place))
+
+-- all that is printed for a record
+abbrev pub output_text : List ℕ → List ℕ
+output_text s = printed (leafnet_says s)
 
 -- ---- what the code's answers say of it
 
--- where a step answers this, the text is what the next makes of its value, or its refusal. Nothing is known where memory runs out
-abbrev pub Prints : {A : Type 0} → Result A Stop → (A → List ℕ) → List ℕ → Type 0
-Prints (Ok a) next text = text ≡ next a
-Prints (Err (Refused why)) next text = text ≡ unless_refused (refusal why) []
-Prints (Err (OutOfMemory e)) next text = ⊤
+-- where a step answers this, what is said is what the next says of its value, or its refusal. Nothing is known where memory runs out
+abbrev pub Prints : {A : Type 0} → Result A Stop → (A → Said) → Said → Type 0
+Prints (Ok a) next says = says ≡ next a
+Prints (Err (Refused why)) next says = says ≡ refusal why
+Prints (Err (OutOfMemory e)) next says = ⊤
 
 -- the same of a step that takes no memory
-abbrev pub PrintsNext : {A : Type 0} → Result A Refusal → (A → List ℕ) → List ℕ → Type 0
-PrintsNext (Ok a) next text = text ≡ next a
-PrintsNext (Err why) next text = text ≡ unless_refused (refusal why) []
+abbrev pub PrintsNext : {A : Type 0} → Result A Refusal → (A → Said) → Said → Type 0
+PrintsNext (Ok a) next says = says ≡ next a
+PrintsNext (Err why) next says = says ≡ refusal why
+
+-- the refusal, or none where it is accepted
+abbrev pub Tells : Option Refusal → Said → Type 0
+Tells None says = IsTrue (is_accepted says)
+Tells (Some why) says = says ≡ refusal why

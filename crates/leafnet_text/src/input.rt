@@ -74,10 +74,10 @@ struct Rows {
 impl Rows {
     ghost use Rattle.leafnet_text.specs.Boards.{given_of, board_in};
     ghost use Rattle.leafnet_text.specs.Held.{given_in};
-    ghost use Rattle.leafnet_text.specs.Output.{PrintsNext, board_text, record_text};
+    ghost use Rattle.leafnet_text.specs.Output.{PrintsNext, board_says, record_says};
 
     fn read(bytes: &[u8]) -> Result<Rows, Refusal>
-        ensures { PrintsNext result (λ r. board_text (given_in r)) (record_text (board_in bytes.now)) }
+        ensures { PrintsNext result (λ r. board_says (given_in r)) (record_says (board_in bytes.now)) }
     {
         let mut list = [[0u64; 2]; LAYERS];
         let mut polygons = [[0u64; 3]; POLYGONS];
@@ -131,11 +131,11 @@ impl Rows {
 
 impl Board {
     ghost use Rattle.leafnet_text.specs.Boards.{given_of, board_in};
-    ghost use Rattle.leafnet_text.specs.Output.{Prints, board_text, record_text};
+    ghost use Rattle.leafnet_text.specs.Output.{Prints, board_says, record_says};
 
     /// The board of a record that fits the program's room.
     pub fn read(alloc: Global, bytes: &[u8]) -> Result<Board, Stop>
-        ensures { Prints result (λ b. board_text (given_of b)) (record_text (board_in bytes.now)) }
+        ensures { Prints result (λ b. board_says (given_of b)) (record_says (board_in bytes.now)) }
     {
         let rows = Rows::read(bytes)?;
         Ok(rows.board(alloc)?)

@@ -78,7 +78,8 @@ fn write_edges(text: &mut String, edges: &[Edge]) -> Result<(), AllocError>
 
 impl Mesh {
     ghost use Rattle.leafnet_text.specs.Boards.{given_of};
-    ghost use Rattle.leafnet_text.specs.Output.{Prints, lines_text, table_text};
+    ghost use Rattle.leafnet_text.specs.Output.{Prints, lines_text, table_says};
+    ghost use Rattle.refusals.specs.Said.{accepted};
 
     // The lines of a mesh with this leaf order, and of its net.
     #[tactic(auto, unfolding(crate::specs::Output::lines_text))]
@@ -104,8 +105,8 @@ impl Mesh {
 
     /// The text of a mesh of this board, or the refusal of its leaf order or its net.
     pub fn text(&self, alloc: Global, board: &Board) -> Result<String, Stop>
-        ensures { Prints result (λ text. string_bytes text)
-            (table_text (given_of board.now) self.now.row self.now.head self.now.splits) }
+        ensures { Prints result (λ text. accepted (string_bytes text))
+            (table_says (given_of board.now) self.now.row self.now.head self.now.splits) }
     {
         let mut order = [0u64; LEAVES];
         let leaves = leaf_order(&self.row, self.head, &mut order)?;

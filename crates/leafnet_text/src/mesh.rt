@@ -51,12 +51,12 @@ fn refine_all(row: &mut [i64], head: Head, ids: &[u64]) -> Result<Head, Refusal>
 }
 
 impl Mesh {
-    ghost use Rattle.leafnet_text.specs.Output.{PrintsNext, board_text, table_text};
+    ghost use Rattle.leafnet_text.specs.Output.{PrintsNext, board_says, table_says};
 
     /// The mesh of a board.
     pub fn of_board(board: &Board) -> Result<Mesh, Refusal>
-        ensures { PrintsNext result (λ m. table_text (given_of board.now) m.row m.head m.splits)
-            (board_text (given_of board.now)) }
+        ensures { PrintsNext result (λ m. table_says (given_of board.now) m.row m.head m.splits)
+            (board_says (given_of board.now)) }
     {
         let mut row = [0i64; TABLE];
         let roots = make_roots(board, &mut row)?;

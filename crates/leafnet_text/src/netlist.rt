@@ -54,15 +54,16 @@ pub struct Net {
 
 impl Net {
     ghost use Rattle.leafnet_text.specs.Boards.{given_of};
-    ghost use Rattle.leafnet_text.specs.Output.{Prints, lines_text, net_text};
+    ghost use Rattle.leafnet_text.specs.Output.{Prints, lines_text, net_says};
+    ghost use Rattle.refusals.specs.Said.{accepted};
     ghost use Rattle.table.specs.Rows.{order_in};
 
     /// The net of a mesh, or its refusal.
     pub fn of_mesh(alloc: Global, mesh: &Mesh, board: &Board) -> Result<Net, Stop>
         ensures { Prints result
-            (λ n. lines_text mesh.now.row mesh.now.head mesh.now.splits (order_in mesh.now.row mesh.now.head)
-            n.nodes.items n.edges.items)
-            (net_text (given_of board.now) mesh.now.row mesh.now.head mesh.now.splits) }
+            (λ n. accepted (lines_text mesh.now.row mesh.now.head mesh.now.splits (order_in mesh.now.row mesh.now.head)
+            n.nodes.items n.edges.items))
+            (net_says (given_of board.now) mesh.now.row mesh.now.head mesh.now.splits) }
     {
         let polygons = Polygons {
             layers: &board.layers,

@@ -1,5 +1,6 @@
 -- Too long, refused by a step, or printed.
 use Rattle.std.proofs.Common.{◌≡◌, ◌∙◌, Err, sym, subst, string_bytes, rules}
+use Rattle.refusals.specs.Said.{accepted}
 use Rattle.leafnet_text.specs.declared.stop.Stop.TheVariants.{Refused}
 use Rattle.leafnet_text.specs.Output.{Prints}
 use Rattle.leafnet_text.proofs.Refusing.{prints-passed, prints-stopped, too_long, short-enough}
@@ -23,5 +24,5 @@ returns-in_err-mesh c =
 
 pub returns : goal.returns
 returns c =
-    subst (λ text. Prints c.text.result (λ t. string_bytes t) text)
+    subst (Prints c.text.result (λ text. accepted (string_bytes text)))
     (sym (short-enough c.args.record.now c.if-record-gt-INPUT.false ∙ c.in_ok-board.ensures ∙ c.in_ok-mesh.ensures)) c.text.ensures

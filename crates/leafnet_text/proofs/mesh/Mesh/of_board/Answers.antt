@@ -1,4 +1,4 @@
--- The first refusal is printed, or the text is the table's.
+-- The first refusal is said, or what the table says.
 use Rattle.std.proofs.Common.{◌≡◌, ◌∙◌, Err, rules}
 use Rattle.refusals.specs.Said.{accepted, refusal}
 use Rattle.table.specs.Rows.{head_values}
@@ -8,7 +8,7 @@ use Rattle.leafnet_text.specs.Boards.{given_of}
 use Rattle.leafnet_text.specs.Refining.{refine_all_says, refine_all_row}
 use Rattle.leafnet_text.specs.Growing.{splits_say, split_row, balance_says}
 use Rattle.leafnet_text.proofs.Refusing.{prints-refused}
-use Rattle.leafnet_text.proofs.Steps.{roots-refused, split-refused, split-is, balance-refused, grown-text}
+use Rattle.leafnet_text.proofs.Steps.{roots-refused, split-refused, split-is, balance-refused, grown}
 use Rattle.leafnet_text.proofs.mesh.Mesh.of_board.Goals as goal
 
 pub returns-in_err-roots : goal.returns-in_err-roots
@@ -56,6 +56,6 @@ returns c =
     let row : c.refine_all.new.row ≡ split_row g =
     r.ensures.row_after ∙ (λ i. refine_all_row (d.ensures.row_after i) (d.ensures.head i) (c.deref.ensures.value i)) in
     let head = split-is g r.refined split in
-    grown-text g d.roots r.refined x.field-0.splits x.field-0.head c.balance.new.row
+    grown g d.roots r.refined x.field-0.splits x.field-0.head c.balance.new.row
     d.ensures.says split (x.ensures.says ∙ (λ i. even_says Balancing (row i) (head i)))
     (x.ensures.row_after ∙ (λ i. even_row Balancing (row i) (head i)))

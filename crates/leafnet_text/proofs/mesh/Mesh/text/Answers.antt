@@ -1,5 +1,6 @@
 -- The first refusal is printed, or the lines of the leaf order and the net.
 use Rattle.std.proofs.Common.{◌≡◌, ◌∙◌, ap, Err, rules, sym}
+use Rattle.refusals.specs.Said.{accepted}
 use Rattle.leafnet_text.specs.declared.stop.Stop.TheVariants.{Refused}
 use Rattle.leafnet_text.specs.Output.{lines_text}
 use Rattle.leafnet_text.proofs.Refusing.{prints-stopped, prints-passed}
@@ -30,4 +31,4 @@ returns c =
     let n = c.in_ok-net.net in
     let order = (ordered _ _ x.leaves c.leaf_order.new.out x.ensures.answer x.ensures.out_after).front in
     order-accepted _ _ _ _ _ x.ensures.answer ∙ c.in_ok-net.ensures
-    ∙ ap (λ ids. lines_text m.row m.head m.splits ids n.nodes.items n.edges.items) (sym order) ∙ sym c.in_ok-lines.ensures
+    ∙ ap (λ ids. accepted (lines_text m.row m.head m.splits ids n.nodes.items n.edges.items)) (sym order) ∙ ap accepted (sym c.in_ok-lines.ensures)

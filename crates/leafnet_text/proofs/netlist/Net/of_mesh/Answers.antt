@@ -1,6 +1,7 @@
 -- The call's polygons are the board's.
 use Rattle.std.proofs.Common.{◌≡◌, ◌∙◌, Err, sym, rules, subst, length-take-le, take, All}
 use Rattle.std.specs.Float.{NotNan}
+use Rattle.refusals.specs.Said.{accepted}
 use Rattle.table.specs.Rows.{order_in}
 use Rattle.leafnet_text.specs.declared.stop.Stop.TheVariants.{Refused}
 use Rattle.leafnet_text.specs.Boards.{given_of}
@@ -59,4 +60,4 @@ returns c =
     x.size _ x.ensures.answer x.ensures.rows in
     let nodes : take x.size.nodes c.network.new.nodes ≡ c.in_ok-to_vec.field-0.items = search rules in
     let edges : take x.size.edges c.network.new.edges ≡ c.in_ok-to_vec-2.field-0.items = search rules in
-    left.text m.splits ∙ (λ i. lines_text m.row m.head m.splits (order_in m.row m.head) (nodes i) (edges i))
+    left.says m.splits ∙ (λ i. accepted (lines_text m.row m.head m.splits (order_in m.row m.head) (nodes i) (edges i)))

@@ -1,0 +1,3 @@
+-- What a command line of leafnet asks for, and how its run ends.
+pub mod Asked
+pub mod Ended
