@@ -10,7 +10,7 @@ set -eu
 answer_help "$@"
 case "$#${1:-}" in
 0) crate=leafmesh made=crates/leafmesh/out/libleafmesh.a what="rt lib" ;;
-1leafnet) crate=leafnet made=crates/leafnet/out/leafnet what="rt run" ;;
+1leafnet) crate=leafnet made=crates/leafnet/out/leafnet what="rt run -- --version" ;;
 *) refuse_words "[leafnet]" ;;
 esac
 cd "$(dirname "$0")/.."
@@ -53,7 +53,7 @@ command -v rt >/dev/null || {
 log=$(mktemp)
 trap 'rm -f "$log"' EXIT
 echo "$what in crates/$crate: the first run proves every crate it needs and takes a quarter of an hour or more" >&2
-# The program is run once, on nothing.
+# The program is run once, for its version.
 (cd "crates/$crate" && $what >"$log" 2>&1 </dev/null) || {
     tail -n 20 "$log" >&2
     exit 1

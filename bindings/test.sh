@@ -99,16 +99,24 @@ say "leafnet's text of the sample boards, by the program and by the bindings"
 (cd rust && cargo build --offline --release --quiet --bins)
 bin=${CARGO_TARGET_DIR:-$root/bindings/rust/target}/release
 for record in ../boards/*.record; do
-    "$leafnet" <"$record" >"$folder/leafnet.txt"
+    status=0
+    "$leafnet" "$record" >"$folder/leafnet.txt" 2>"$folder/said" || status=$?
     "$bin/board" net <"$record" >"$folder/board.txt"
     case $record in
     */deep.record | */fine_neck.record | */shunt.record)
-        # Past 64 slots: the status is 0, and the text says it.
+        # Past 64 slots.
+        [ "$status" = 1 ] || fail "leafnet ended with $status on $record"
         echo 'refused 6 0' | diff - "$folder/leafnet.txt"
         ;;
-    *) diff "$folder/leafnet.txt" "$folder/board.txt" ;;
+    *)
+        [ "$status" = 0 ] || fail "leafnet ended with $status on $record: $(cat "$folder/said")"
+        diff "$folder/leafnet.txt" "$folder/board.txt"
+        ;;
     esac
 done
+
+say "how leafnet ends: status, standard output and standard error"
+leafnet/test.sh
 
 say "outline to net, printed as it should be"
 (cd rust && cargo run --offline --quiet --example outline_to_net) | diff rust/examples/outline_to_net.txt -

@@ -1,4 +1,4 @@
-//! The program `leafnet`: what it prints for a whole record, byte for byte.
+//! The program `leafnet`: what it prints for a whole record, byte for byte, what it says, and its status.
 
 use crate::port::outcome_of;
 use crate::report::Report;
@@ -8,6 +8,7 @@ use calls::Refusal;
 use inputs::default_levels::{default_levels, default_rectangles};
 use inputs::whole_boards::{boundary_records, random_whole_record};
 use inputs::Random;
+use leafmesh::Reason;
 use std::env;
 use std::io::{ErrorKind, Write};
 use std::path::PathBuf;
@@ -20,6 +21,20 @@ const DEFAULT_PROGRAM: &str = "../../crates/leafnet/out/leafnet";
 const LEVEL_AT: usize = 5;
 /// The refusal of a base cell whose sides are no multiples.
 const UNEVEN_CELL: u64 = 5;
+
+/// The reasons of the rules.
+const REASONS: [Reason; 10] = [
+    Reason::WrongVersion,
+    Reason::WrongLength,
+    Reason::OutOfRange,
+    Reason::Slanted,
+    Reason::UnevenCell,
+    Reason::NoRoom,
+    Reason::BadTable,
+    Reason::NoSuchCell,
+    Reason::AlreadySplit,
+    Reason::FinestLevel,
+];
 
 /// What was run, and how many of the accepted boards have hanging nodes or were split by balance.
 struct Tally {
@@ -75,6 +90,14 @@ fn run_program(input: &[u8]) -> Output {
     child.wait_with_output().expect("it was started")
 }
 
+/// What the program says of a refusal: the words are the Rust crate's.
+fn said_of(why: &Refusal) -> String {
+    let known = REASONS.into_iter().find(|reason| reason.number() == why.number);
+    let reason = known.unwrap_or_else(|| panic!("the rules have no refusal {}", why.number));
+    let refusal = leafmesh::Refusal { reason, place: why.place as usize };
+    format!("leafnet: {refusal}\n")
+}
+
 fn program() -> PathBuf {
     match env::var_os("LEAFMESH_PROGRAM") {
         Some(file) => PathBuf::from(file),
@@ -87,8 +110,13 @@ impl Tally {
         let answer = mesh(input);
         let expected = printed(&answer);
         let got = run_program(input);
-        let same =
-            got.stdout == expected.as_bytes() && got.stderr.is_empty() && got.status.success();
+        let (status, said) = match &answer {
+            Ok(_) => (0, String::new()),
+            Err(why) => (1, said_of(why)),
+        };
+        let same = got.stdout == expected.as_bytes()
+            && got.stderr == said.as_bytes()
+            && got.status.code() == Some(status);
         if let Ok(meshed) = &answer {
             self.accepted += 1;
             self.hanging += u64::from(meshed.net.has_hanging_nodes());
@@ -145,7 +173,8 @@ fn first_difference(expected: &str, got: &Output) -> String {
         match (lines.next(), port_lines.next()) {
             (Some(line), Some(port_line)) if line == port_line => {}
             (line, port_line) => {
-                return format!("original {line:?}, port {port_line:?}, {}", got.status)
+                let said = String::from_utf8_lossy(&got.stderr);
+                return format!("original {line:?}, port {port_line:?}, {}, {said:?}", got.status);
             }
         }
     }
