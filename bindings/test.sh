@@ -103,7 +103,7 @@ for record in ../boards/*.record; do
     "$leafnet" "$record" >"$folder/leafnet.txt" 2>"$folder/said" || status=$?
     "$bin/board" net <"$record" >"$folder/board.txt"
     case $record in
-    */deep.record | */fine_neck.record | */shunt.record)
+    */across.record | */deep.record | */fine_neck.record | */shunt.record)
         # Past 64 slots.
         [ "$status" = 1 ] || fail "leafnet ended with $status on $record"
         echo 'refused 6 0' | diff - "$folder/leafnet.txt"

@@ -1,5 +1,5 @@
-//! From outline to picture: two pads joined by a neck that lies across, refined where the neck is, balanced, made a net,
-//! and solved on its cells at 10 A.
+//! From outline to picture: two pads joined by a neck that lies across, refined where the neck is, balanced, made a
+//! net, and solved on its cells at 10 A.
 //!
 //! `cargo run --example outline_to_net FILE.svg` leaves a picture there; without a file it prints only.
 

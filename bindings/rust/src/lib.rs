@@ -37,8 +37,8 @@
 //! use leafmesh::solving::{Drive, Spot, System, Terminal};
 //! use leafmesh::{Mesh, Pitch, Polygons, Region, Settings, Side};
 //!
-//! // Outline: two pads of 3 by 2 mm and a neck of 1 by 0.5 mm that lies across, of 0.5 milliohms a square. Its base cells
-//! // are squares of 0.5 mm and can be split four times.
+//! // Outline: two pads of 3 by 2 mm and a neck of 1 by 0.5 mm that lies across, of 0.5 milliohms a square. Its base
+//! // cells are squares of 0.5 mm and can be split four times.
 //! let pitch = Pitch::new(0.5, 4)?;
 //! let ring = [
 //!     [0.0, 0.0], [3.0, 0.0], [3.0, 1.0], [4.0, 1.0], [4.0, 0.0], [7.0, 0.0],

@@ -162,9 +162,9 @@ impl Mesh {
         })
     }
 
-    /// Splits the hottest leaves and balances: one round of refining where a current crowds. `watts` has the power of each
-    /// cell of the mesh's net, and `share` says how many of the leaves are split, from 0 to 1. Those that are at the finest
-    /// level are passed over. Answers how many splits the round made, balance's among them.
+    /// Splits the hottest leaves and balances: one round of refining where a current crowds. `watts` has the power of
+    /// each cell of the mesh's net, and `share` says how many of the leaves are split, from 0 to 1. Those that are at
+    /// the finest level are passed over. Answers how many splits the round made, balance's among them.
     ///
     /// # Errors
     ///
@@ -301,15 +301,15 @@ impl Mesh {
         }
     }
 
-    /// The leaf of a layer at a place. On a side that leaves share, and where polygons lie over each other, it is the first
-    /// of them in the order of the leaves.
+    /// The leaf of a layer at a place. On a side that leaves share, and where polygons lie over each other, it is the
+    /// first of them in the order of the leaves.
     pub fn leaf_at(&self, layer: u16, place: Point) -> Option<Leaf> {
         let is_it = |leaf: &Leaf| leaf.layer == layer && leaf.has(place);
         self.leaves().find(is_it)
     }
 
-    /// The leaves that share a border with this one, of any layer, in the order of their ids, each with the border as this
-    /// leaf sees it. None where it is no leaf.
+    /// The leaves that share a border with this one, of any layer, in the order of their ids, each with the border as
+    /// this leaf sees it. None where it is no leaf.
     pub fn neighbours(&self, id: usize) -> Vec<(Leaf, Border)> {
         let Some(own) = self.leaf(id) else {
             return Vec::new();

@@ -10,8 +10,8 @@ use std::collections::BTreeSet;
 use std::fmt::{self, Write};
 use std::ops::Range;
 
-/// The file of a mesh and its net with links. What stands with leaves and links in a file of [`vtk`](crate::vtk) are their
-/// data, and so are fields of one's own, if they have the right length.
+/// The file of a mesh and its net with links. What stands with leaves and links in a file of [`vtk`](crate::vtk) are
+/// their data, and so are fields of one's own, if they have the right length.
 ///
 /// # Errors
 ///

@@ -101,7 +101,7 @@ impl Quadrant {
 ///
 /// // The same map, though its cells have other ids.
 /// assert_eq!(leaves(&weekly), leaves(&fresh));
-/// assert_eq!(weekly.head, fresh.head);
+/// assert_eq!(weekly.head(), fresh.head());
 /// let name = "3 SW".parse()?;
 /// assert_eq!((weekly.id_of(&name), fresh.id_of(&name)), (Some(16), Some(12)));
 ///

@@ -86,8 +86,8 @@ pub struct NetRows<'a> {
 }
 
 impl NetRows<'_> {
-    /// Whether the net is sound: every cell and edge names nodes that are there, and every cell's corners are those of a
-    /// rectangle.
+    /// Whether the net is sound: every cell and edge names nodes that are there, and every cell's corners are those of
+    /// a rectangle.
     ///
     /// # Errors
     ///

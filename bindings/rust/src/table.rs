@@ -152,8 +152,9 @@ impl<'a> Table<'a> {
 
     /// Every pair of leaves that share a border, once: `first` is below `second`, the pairs are in their order, and
     /// each has the border as the first sees it, which is what [`contact`](crate::contact) says of the two. Layers and
-    /// polygons play no part, as in [`Table::balance`]. It takes n log n steps for n leaves, and m log m for m pairs: some
-    /// two a leaf on a board, but up to a quarter of n squared, 32 bytes each, where many leaves lie over each other.
+    /// polygons play no part, as in [`Table::balance`]. It takes n log n steps for n leaves, and m log m for m pairs:
+    /// some two a leaf on a board, but up to a quarter of n squared, 32 bytes each, where many leaves lie over each
+    /// other.
     ///
     /// A plot of power density draws each border over the two cells, with its length, and so does
     /// [`Picture::with_borders`](crate::drawing::Picture::with_borders):

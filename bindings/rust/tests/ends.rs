@@ -1,5 +1,5 @@
-//! How the tools read their words, where they read and write, and how they end: with 0, with 1, with 2 where their words
-//! make no sense.
+//! How the tools read their words, where they read and write, and how they end: with 0, with 1, with 2 where their
+//! words make no sense.
 
 mod programs;
 

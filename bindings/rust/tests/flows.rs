@@ -221,7 +221,8 @@ fn terminals_that_hold_nothing_are_told_by_their_line() {
     }
 }
 
-/// Cells that don't fit together have a net whose conductances would be taken for want of anything better; they are not.
+/// Cells that don't fit together have a net whose conductances would be taken for want of anything better; they are
+/// not.
 #[test]
 fn cells_that_do_not_fit_are_told_by_their_line() {
     let bands = "level 0\ntarget 6\npolygon 1 0 1\n0 0\n6 0\n6 2\n8 2\n8 4\n0 4\nterminal in 1 A end 1 0 south\nterminal out 0 V end 1 0 north\n";

@@ -157,8 +157,8 @@ fn the_hottest_share_is_split() {
     }
 }
 
-/// Split by chance, balanced, conformed and split on: the board that it is now has the same table, number by number, by its
-/// text and by its record.
+/// Split by chance, balanced, conformed and split on: the board that it is now has the same table, number by number, by
+/// its text and by its record.
 #[test]
 fn a_mesh_comes_back() {
     let mut dice = Dice(11);

@@ -153,8 +153,8 @@ fn nodes_of(text: &str) -> Vec<&str> {
 /// The same square on two layers, the upper one loose: seen, though the lower one has the same corners.
 #[test]
 fn a_loose_node_is_seen_on_its_own_layer() {
-    // On layer 2 the lower band's cells are 6 wide, and the upper one's 4: the node between stands on a side. Layer 1 has
-    // the same cells out of step nowhere, since it has base cells of 2.
+    // On layer 2 the lower band's cells are 6 wide, and the upper one's 4: the node between stands on a side. Layer 1
+    // has the same cells out of step nowhere, since it has base cells of 2.
     let ring = "0 0\n6 0\n6 2\n4 2\n4 4\n0 4\n";
     let board = format!("level 0\ntarget 6\nlayer 1 2\npolygon 1 0 1\n{ring}polygon 2 0 1\n{ring}");
     let board = text::parse(&board).expect("a board");

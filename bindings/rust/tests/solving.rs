@@ -79,8 +79,8 @@ fn cells_have_the_resistance_of_their_copper() {
     }
 }
 
-/// The patch test: what is linear in x and y is met at every node, those that hang included, and in every cell the current
-/// and the power are the even ones. All nodes on the outline are held, each at its own potential.
+/// The patch test: what is linear in x and y is met at every node, those that hang included, and in every cell the
+/// current and the power are the even ones. All nodes on the outline are held, each at its own potential.
 #[test]
 fn an_even_slope_passes_the_patch_test() {
     let (mesh, net) = meshed(CORNER);
@@ -111,8 +111,8 @@ fn an_even_slope_passes_the_patch_test() {
     }
 }
 
-/// The library's power takes the slope at a cell's centre, so that it is that of the element where the slope is even and
-/// never more.
+/// The library's power takes the slope at a cell's centre, so that it is that of the element where the slope is even
+/// and never more.
 #[test]
 fn the_power_at_the_centre_is_at_most_the_element_s() {
     let (mut mesh, _) = meshed(NECK);

@@ -265,17 +265,10 @@ fn links_of_a_text_are_in_its_net_and_its_pictures() {
         // 24 borders on each layer; across them each of these twice, and none of a cell and the one above it.
         let words = [&words[..], &["--borders"]].concat();
         let picture = String::from_utf8(made(DRAW, &words, input)).expect("text");
-        let (counts, lines) = match words[..] {
-            ["--borders"] => ("96 borders", 96),
-            _ => ("96 borders, 48 of them across layers", 48 + 2 * 48),
-        };
-        let all = format!("32 leaves, {counts}, 82 links");
-        assert!(picture.contains(&all), "{words:?}");
-        assert_eq!(
-            picture.matches("<title>leaves ").count(),
-            lines,
-            "{words:?}"
-        );
+        let all = "32 leaves, 96 borders, 48 of them across layers, 82 links";
+        assert!(picture.contains(all), "{words:?}");
+        let lines = picture.matches("<title>leaves ").count();
+        assert_eq!(lines, 48 + 2 * 48, "{words:?}");
     }
     // The same board without its links has another net.
     folder.put("board.txt", TWO_LAYERS.as_bytes());

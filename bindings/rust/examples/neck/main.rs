@@ -3,8 +3,8 @@
 //! against a fine uniform grid.
 //!
 //! `cargo run --release --example neck FOLDER` leaves pictures of the last but one round there, neck.svg (its mesh),
-//! neck-power.svg (power density at 10 A) and neck-borders.svg (the same with the borders of its cells), and neck.vtk for
-//! ParaView; without a folder it prints only.
+//! neck-power.svg (power density at 10 A) and neck-borders.svg (the same with the borders of its cells), and neck.vtk
+//! for ParaView; without a folder it prints only.
 
 mod pictures;
 mod uniform;

@@ -1,6 +1,6 @@
 //! A mesh as a picture (SVG): leaves by level, by what flows in them, or by a value of one's own on a logarithmic
-//! scale; one panel a layer, the nodes that stand at the middle of a leaf's side marked, a scale bar and a legend. Links
-//! are shown where they end, borders along the sides that leaves share, terminals along their nodes.
+//! scale; one panel a layer, the nodes that stand at the middle of a leaf's side marked, a scale bar and a legend.
+//! Links are shown where they end, borders along the sides that leaves share, terminals along their nodes.
 //!
 //! ```
 //! use leafmesh::drawing::{Picture, Quantity};

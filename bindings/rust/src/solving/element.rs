@@ -6,9 +6,9 @@ use crate::{Cell, Node, TICK};
 /// What a current does in one cell.
 #[derive(Clone, Copy, Debug, Default, PartialEq)]
 pub struct Flow {
-    /// The power that the whole cell takes, in watts: the element's own, so that all cells and edges of a system together
-    /// take what its terminals give. [`power`](crate::power) takes the slope at the cell's centre, and is less where
-    /// the slope changes within the cell.
+    /// The power that the whole cell takes, in watts: the element's own, so that all cells and edges of a system
+    /// together take what its terminals give. [`power`](crate::power) takes the slope at the cell's centre, and is less
+    /// where the slope changes within the cell.
     pub watts: f64,
     /// The sheet current at the cell's centre along x and along y, in amperes a metre.
     pub current: [f64; 2],

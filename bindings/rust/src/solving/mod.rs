@@ -1,9 +1,10 @@
-//! Potentials, currents and powers on the cells of a net, where terminals are held: the solver that comes with the crate.
-//! It is tested and not proved, and a solver of your own may take its place.
+//! Potentials, currents and powers on the cells of a net, where terminals are held: the solver that comes with the
+//! crate. It is tested and not proved, and a solver of your own may take its place.
 //!
 //! Two systems are made of the same net. [`System::of_cells`] takes the cells as bilinear elements, with a node at the
-//! middle of a cell's side tied to the mean of the side's ends, and the net's links between them. [`System::of_net`] takes
-//! the net's conductances, which are the original's and not the copper's at a change of level (docs/CONDUCTANCES.md).
+//! middle of a cell's side tied to the mean of the side's ends, and the net's links between them. [`System::of_net`]
+//! takes the net's conductances, which are the original's and not the copper's at a change of level
+//! (docs/CONDUCTANCES.md).
 //!
 //! ```
 //! use leafmesh::solving::{Drive, Spot, System, Terminal};
@@ -146,8 +147,8 @@ impl System {
         System::of_parts(parts, Vec::new(), net.edges, 0)
     }
 
-    /// The cells as bilinear elements, hanging nodes tied, and the links by their conductances. Of edges that aren't links
-    /// nothing is read.
+    /// The cells as bilinear elements, hanging nodes tied, and the links by their conductances. Of edges that aren't
+    /// links nothing is read.
     ///
     /// # Errors
     ///
@@ -212,9 +213,9 @@ impl System {
     ///
     /// # Errors
     ///
-    /// In this order: no terminal; by terminal its drive, a node that isn't there or belongs to another one, none at all;
-    /// a terminal with a current and none with a potential to come from; [`Unsolved::NoEnd`] where it takes more steps
-    /// than there are nodes several times over.
+    /// In this order: no terminal; by terminal its drive, a node that isn't there or belongs to another one, none at
+    /// all; a terminal with a current and none with a potential to come from; [`Unsolved::NoEnd`] where it takes more
+    /// steps than there are nodes several times over.
     pub fn solve(&self, held: &[Held]) -> Result<Solution, Unsolved> {
         let unknowns = Unknowns::of(self, held)?;
         let matrix = unknowns.matrix(&self.matrix);

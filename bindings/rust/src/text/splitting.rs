@@ -57,8 +57,8 @@ pub(super) fn region_of(words: &[&str], unit: Unit) -> Result<Region, String> {
 }
 
 impl Whole {
-    /// Finds the cells to be split, each with its line. A mesh is made only where a rectangle is to be refined, since what
-    /// it splits are leaves.
+    /// Finds the cells to be split, each with its line. A mesh is made only where a rectangle is to be refined, since
+    /// what it splits are leaves.
     pub(super) fn carry_out(&mut self, marks: &[Mark]) -> Result<(), Unclear> {
         if marks
             .iter()

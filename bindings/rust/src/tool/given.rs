@@ -25,7 +25,8 @@ struct Text {
 }
 
 impl Given {
-    /// Reads a board, and says what is odd about it on standard error. What is said of it goes with the name of its file.
+    /// Reads a board, and says what is odd about it on standard error. What is said of it goes with the name of its
+    /// file.
     ///
     /// # Errors
     ///
