@@ -1,5 +1,6 @@
 //! Why a board has no mesh or no net, in the words of its text.
 
+use super::rings::first_slant;
 use super::splitting::{base_cells, first_refused, no_room, Refused};
 use super::unit::Unit;
 use super::{Lines, Unclear};
@@ -106,13 +107,12 @@ impl Fault {
     /// The first point that differs in x and y from the one before it, or the last one from the first.
     fn of_slant(board: &Board, polygon: usize, unit: Unit) -> Option<Self> {
         let ring = ring(board, polygon)?;
-        let is_slanted = |[ax, ay]: Point, [bx, by]: Point| ax != bx && ay != by;
-        let (point, other, which) =
-            match (1..ring.len()).find(|&at| is_slanted(ring[at - 1], ring[at])) {
-                Some(at) => (at, ring[at - 1], "the point before it"),
-                None => (ring.len().checked_sub(1)?, ring[0], "the first point"),
-            };
-        let (own, other) = (unit.show_point(ring[point]), unit.show_point(other));
+        let (point, other) = first_slant(ring)?;
+        let which = match other + 1 == point {
+            true => "the point before it",
+            false => "the first point",
+        };
+        let [own, other] = [point, other].map(|at| unit.show_point(ring[at]));
         Some(Fault {
             part: Some(Part::Point { polygon, point }),
             words: format!("{own} differs in both x and y from {which}, {other}"),

@@ -12,7 +12,7 @@ const LEVEL: usize = 5;
 
 /// Whether the bytes are a record, of this version or another one: its first byte is none that a text begins with.
 pub fn is_record(bytes: &[u8]) -> bool {
-    let is_version = |byte: &u8| byte.is_ascii_control() && !char::from(*byte).is_whitespace();
+    let is_version = |&byte: &u8| byte < b' ' && !char::from(byte).is_whitespace();
     bytes.first().is_some_and(is_version)
 }
 

@@ -25,7 +25,7 @@ pub(super) fn senseless(words: &[&str]) -> String {
     let line = quoted(&words.join(" "));
     let own = |form: &&&str| form.split(' ').next() == words.first().copied();
     match FORMS.iter().find(own) {
-        Some(form) => format!("cannot make sense of {line}: it is {form}"),
+        Some(form) => format!("cannot make sense of {line}; its form is: {form}"),
         None => format!("cannot make sense of {line}"),
     }
 }

@@ -1,9 +1,9 @@
 //! What the lines of a text can only say together.
 
+use super::rings::odd;
 use super::unit::grouped;
 use super::{Unclear, Warning, Whole};
 use crate::solving::Spot;
-use crate::Point;
 
 /// Fewer points enclose nothing.
 const LEAST_POINTS: u64 = 4;
@@ -65,13 +65,10 @@ impl Whole {
         for (&[_, _, count], &line) in self.board.polygons.iter().zip(&self.lines.polygons) {
             let (ring, behind) = rest.split_at(count as usize);
             rest = behind;
-            if crosses_itself(ring) {
-                self.warnings.push(Warning {
-                    line,
-                    words: "the ring crosses itself: what it encloses counts by even and odd"
-                        .to_string(),
-                });
-            }
+            self.warnings.extend(odd(ring).map(|words| Warning {
+                line,
+                words: words.to_string(),
+            }));
         }
     }
 }
@@ -87,42 +84,4 @@ fn no_polygon(polygon: usize, count: usize) -> String {
         _ => format!("{} polygons stand here, 0 to {}", grouped(count), count - 1),
     };
     format!("there is no polygon {polygon}: {stand}")
-}
-
-/// Whether two sides of a ring cross inside both. Sides that only touch, as those of a keyhole do, don't; nor does a
-/// slanted one, for which the ring is refused.
-fn crosses_itself(ring: &[Point]) -> bool {
-    let corners = without_straight_points(ring);
-    let next = |at: usize| corners[(at + 1) % corners.len()];
-    let sides = (0..corners.len()).map(|at| (corners[at], next(at)));
-    let (upright, level): (Vec<_>, Vec<_>) = sides.partition(|([ax, _], [bx, _])| ax == bx);
-    let is_inside = |at: i64, a: i64, b: i64| a.min(b) < at && at < a.max(b);
-    level
-        .iter()
-        .filter(|([_, ay], [_, by])| ay == by)
-        .any(|&([ax, y], [bx, _])| {
-            upright
-                .iter()
-                .any(|&([x, ay], [_, by])| is_inside(x, ax, bx) && is_inside(y, ay, by))
-        })
-}
-
-/// The ring without the points that lie inside a straight line of it, so that no side ends where another crosses it.
-fn without_straight_points(ring: &[Point]) -> Vec<Point> {
-    let mut corners: Vec<Point> = ring.to_vec();
-    corners.dedup();
-    if corners.len() > 1 && corners.first() == corners.last() {
-        corners.pop();
-    }
-    let count = corners.len();
-    let is_corner = |at: &usize| {
-        let [before, own, after] = [at + count - 1, *at, at + 1].map(|at| corners[at % count]);
-        let goes_on = |axis: usize, other: usize| {
-            let [a, b, c] = [before, own, after].map(|point| point[axis]);
-            let [u, v, w] = [before, own, after].map(|point| point[other]);
-            u == v && v == w && (b - a).signum() == (c - b).signum()
-        };
-        !goes_on(0, 1) && !goes_on(1, 0)
-    };
-    (0..count).filter(is_corner).map(|at| corners[at]).collect()
 }

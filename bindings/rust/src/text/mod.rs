@@ -80,6 +80,7 @@ mod judging;
 mod linking;
 mod packing;
 mod reading;
+mod rings;
 mod showing;
 mod splitting;
 mod terminals;

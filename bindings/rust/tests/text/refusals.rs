@@ -75,7 +75,7 @@ fn values_are_told_by_their_line() {
         ("split 0-4294967295", "more than 65,535 splits"),
         (
             "split",
-            "cannot make sense of \"split\": it is split ID ID-ID ..",
+            "cannot make sense of \"split\"; its form is: split ID ID-ID ..",
         ),
         ("four corners", "cannot make sense of \"four corners\""),
         ("0 0", "a point of no polygon"),
