@@ -118,7 +118,6 @@ pub struct Marked {
 
 const BAR: f64 = 480.0;
 const HIGH: f64 = 16.0;
-const STEPS: usize = 96;
 /// A tick goes so far into the bar and out of it.
 const STROKE: f64 = 5.0;
 /// Of a line of the bar's words.
@@ -132,21 +131,32 @@ pub fn put_bar(
     text: &mut String,
 ) -> Result<f64, fmt::Error> {
     let top = y + above.map_or(0.0, |_| LINE);
-    for step in 0..STEPS {
-        let fill = heat((step as f64 + 0.5) / STEPS as f64);
-        let x = MARGIN + BAR * step as f64 / STEPS as f64;
-        let wide = BAR / STEPS as f64 + 0.5;
-        writeln!(
-            text,
-            "<rect x=\"{x:.2}\" y=\"{top:.2}\" width=\"{wide:.2}\" height=\"{HIGH}\" fill=\"{fill}\"/>"
-        )?;
-    }
+    put_gradient(text)?;
+    writeln!(
+        text,
+        "<rect x=\"{MARGIN}\" y=\"{top:.2}\" width=\"{BAR}\" height=\"{HIGH}\" fill=\"url(#heat)\"/>"
+    )?;
     if let Some(above) = above {
         put_ticks(above, [top + STROKE, -2.0 * STROKE], top - 8.0, text)?;
     }
     let bottom = top + HIGH;
     put_ticks(below, [bottom - STROKE, 2.0 * STROKE], bottom + 17.0, text)?;
     Ok(bottom + 17.0)
+}
+
+/// All colours, from the least value's to the largest one's.
+fn put_gradient(text: &mut String) -> fmt::Result {
+    write!(text, "<linearGradient id=\"heat\">")?;
+    let last = HEAT.len() - 1;
+    for stop in 0..=last {
+        let share = stop as f64 / last as f64;
+        let colour = heat(share);
+        write!(
+            text,
+            "<stop offset=\"{share:.4}\" stop-color=\"{colour}\"/>"
+        )?;
+    }
+    writeln!(text, "</linearGradient>")
 }
 
 /// Strokes from one height so far down, words at another one.
