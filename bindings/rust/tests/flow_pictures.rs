@@ -5,7 +5,7 @@ mod svg;
 
 use leafmesh::drawing::{Picture, Quantity};
 use leafmesh::solving::{Applied, Drive, Held, Solution, Spot, System, Terminal};
-use leafmesh::{text, Edge, Leaf, Mesh, Net, OwnedLinks, Reason, Side};
+use leafmesh::{text, Edge, Leaf, Mesh, Net, OwnedLinks, Polygons, Reason, Settings, Side};
 use std::fs;
 use std::path::Path;
 use std::time::{Duration, Instant};
@@ -475,73 +475,118 @@ fn labels_stand_clear_of_each_other() {
     assert!(middle.map(|band| band.1.len()).all(|lines| lines == 4));
 }
 
-/// What can't be drawn is passed over or refused, and never a panic.
 #[test]
-fn nets_and_terminals_that_make_no_sense() {
+fn nets_that_make_no_sense_are_refused() {
     let solved = Solved::of(&neck(), &across());
     let Solved { mesh, net, .. } = &solved;
-    let mut bad = net.clone();
-    bad.cells[7].corners[2] = net.nodes.len();
-    let why = Picture::of_mesh("A board", mesh, bad.rows()).expect_err("a bad net");
+    let mut other = net.clone();
+    other.cells[7].corners[2] = net.nodes.len();
+    let why = Picture::of_mesh("A board", mesh, other.rows()).expect_err("a bad net");
     assert_eq!(why.reason, Reason::BadTable);
     let mut short = net.clone();
     short.cells.pop();
     let why = Picture::of_mesh("A board", mesh, short.rows()).expect_err("another net");
     assert_eq!(why.reason, Reason::BadTable);
+}
 
-    let mut linked = net.clone();
-    linked.edges.push(Edge {
+/// Links to nodes that aren't there are passed over, and so are more links than edges.
+#[test]
+fn links_that_make_no_sense_are_passed_over() {
+    let solved = Solved::of(&neck(), &across());
+    let (bare, mut net) = (solved.bare(), solved.net.clone());
+    net.edges.push(Edge {
         from: 0,
         to: usize::MAX,
         conductance: 1.0,
     });
-    linked.links = 1;
-    let bare = solved.bare();
-    assert!(bare.clone().with_links(&linked, solved.links.rows()) == bare);
-    linked.links = usize::MAX;
-    assert!(bare
-        .clone()
-        .with_links(&linked, solved.links.rows())
-        .svg()
-        .contains(" links<"));
+    net.links = 1;
+    assert!(bare.clone().with_links(&net, solved.links.rows()) == bare);
+    net.links = usize::MAX;
+    let all = bare.with_links(&net, solved.links.rows()).svg();
+    assert!(all.contains(&format!(", {} links<", net.edges.len() - 1)));
+    // Nodes of another board.
+    let other = vias();
+    let svg = solved
+        .bare()
+        .with_links(&other.net, other.links.rows())
+        .svg();
+    assert!(!svg.contains(" links<") && !svg.contains("NaN"));
+}
 
+#[test]
+fn terminals_that_make_no_sense_are_passed_over() {
+    let solved = Solved::of(&neck(), &across());
+    let (bare, nodes) = (solved.bare(), &solved.net.nodes);
     let held = |nodes: Vec<usize>, volts: f64| Held {
         terminal: "any".to_string(),
         nodes,
         drive: Drive::Volts(volts),
     };
     let nowhere = [
-        held(vec![net.nodes.len(), usize::MAX], 1.0),
+        held(vec![nodes.len(), usize::MAX], 1.0),
         held(vec![], f64::NAN),
     ];
-    let svg = bare.clone().with_terminals(&net.nodes, &nowhere, &[]).svg();
+    let svg = bare.clone().with_terminals(nodes, &nowhere, &[]).svg();
     assert!(bands(&svg).is_empty() && svg.contains(">applied: any 1 V; any NaN V<"));
-    let all = [held((0..net.nodes.len()).rev().collect(), -0.5)];
+    // Nodes of another board, on a layer that this one hasn't.
+    let other = vias();
+    let svg = bare
+        .clone()
+        .with_terminals(&other.net.nodes, &other.held[1..], &[])
+        .svg();
+    assert!(bands(&svg).is_empty());
+    // All nodes, backwards, with values that are no numbers.
+    let all = [held((0..nodes.len()).rev().collect(), -0.5)];
     let applied = [Applied {
         terminal: "any".to_string(),
         volts: f64::INFINITY,
         amperes: -0.0,
     }];
-    let svg = bare
-        .clone()
-        .with_terminals(&net.nodes, &all, &applied)
-        .svg();
+    let svg = bare.clone().with_terminals(nodes, &all, &applied).svg();
     assert_eq!(bands(&svg).len(), 1);
     assert_uncut(&svg);
-    assert!(bare.clone().with_terminals(&net.nodes, &[], &[]) == bare);
+    assert!(bare.clone().with_terminals(nodes, &[], &[]) == bare);
+}
 
-    // A solution of another mesh, or of none of the cells.
+/// Of another mesh, of none of the cells, and of no mesh at all.
+#[test]
+fn solutions_of_something_else_are_drawn_all_the_same() {
+    let solved = Solved::of(&neck(), &across());
     let mut other = solved.solution.clone();
     other.cells.truncate(9);
-    let svg = bare
-        .clone()
-        .by_flow(mesh, &other, Quantity::PowerDensity)
+    let svg = solved
+        .bare()
+        .by_flow(&solved.mesh, &other, Quantity::PowerDensity)
         .svg();
-    assert_eq!(svg.matches("<title>leaf ").count(), net.cells.len());
+    assert_eq!(svg.matches("<title>leaf ").count(), solved.net.cells.len());
     other.cells.clear();
-    let svg = bare.by_flow(mesh, &other, Quantity::SheetCurrent).svg();
+    let svg = solved
+        .bare()
+        .by_flow(&solved.mesh, &other, Quantity::SheetCurrent)
+        .svg();
     assert!(svg.contains(">hottest: none, since no leaf takes power<"));
     assert_uncut(&svg);
+
+    let settings = Settings {
+        max_level: 2,
+        cap: 256,
+        target: 8,
+    };
+    let none = Mesh::new(settings, &[], Polygons::default()).expect("no polygons");
+    let net = none.net().expect("no net");
+    let picture = Picture::of_mesh("Nothing", &none, net.rows()).expect("a picture");
+    let svg = picture
+        .by_flow(&none, &solved.solution, Quantity::PowerDensity)
+        .with_borders()
+        .expect("no borders")
+        .with_terminals(&net.nodes, &solved.held, &solved.solution.terminals)
+        .svg();
+    assert!(svg.contains(">0 leaves, 0 borders<") && !svg.contains("NaN") && !svg.contains("inf"));
+    let svg = solved
+        .bare()
+        .by_flow(&none, &solved.solution, Quantity::PowerDensity)
+        .svg();
+    assert_eq!(svg.matches("<title>leaf ").count(), solved.net.cells.len());
 }
 
 /// Some 16,000 leaves.

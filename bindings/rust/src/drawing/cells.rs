@@ -49,7 +49,7 @@ pub fn put_cells(picture: &Picture, layout: &Layout, text: &mut String) -> fmt::
     for (at, cell) in picture.cells.iter().enumerate() {
         let [x0, y0, x1, y1] = layout.rect(cell.layer, cell.rect);
         let (w, h) = (x1 - x0, y1 - y0);
-        let line = outline * (0.06 * w.min(h)).min(0.8);
+        let line = outline * line_of(w.min(h));
         let fill = colouring.colour(at, cell, scale);
         writeln!(
             text,
@@ -61,6 +61,12 @@ pub fn put_cells(picture: &Picture, layout: &Layout, text: &mut String) -> fmt::
         )?;
     }
     writeln!(text, "</g>")
+}
+
+/// How wide a line between cells of a size is. Where they are small it leaves them their colour.
+fn line_of(side: f64) -> f64 {
+    const SMALL: f64 = 3.0;
+    (0.06 * side * (side / SMALL).min(1.0)).min(0.8)
 }
 
 /// The smallest side of the cells at each place, in picture units.
@@ -95,7 +101,7 @@ pub fn put_nodes(
     sides: &Sides,
     text: &mut String,
 ) -> fmt::Result {
-    let by_level = picture.colouring == Colouring::Levels;
+    let by_level = matches!(picture.colouring, Colouring::Levels);
     for &place in &picture.nodes {
         let side = sides.at(place);
         let [x, y] = layout.place(place);

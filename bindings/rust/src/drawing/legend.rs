@@ -184,7 +184,7 @@ fn put_most(flows: &Flows, picture: &Picture, pen: &mut Pen, text: &mut String) 
 }
 
 fn put_levels(picture: &Picture, pen: &mut Pen, text: &mut String) -> fmt::Result {
-    if picture.colouring != Colouring::Levels {
+    if !matches!(picture.colouring, Colouring::Levels) {
         return Ok(());
     }
     let levels: BTreeSet<u64> = picture.cells.iter().map(|cell| cell.level).collect();

@@ -2,8 +2,8 @@
 
 use super::cells::Sides;
 use super::layout::Layout;
-use super::{place_of, Place};
-use crate::{Edge, Links, Node, Rect};
+use super::Place;
+use crate::{Edge, Links, Rect};
 use std::collections::BTreeSet;
 use std::fmt::{self, Write};
 
@@ -31,20 +31,18 @@ pub const PAIR: &str = "link within a layer";
 pub const FOOTPRINT: &str = "footprint of a via";
 
 impl Marks {
-    /// Links whose nodes aren't there are passed over.
-    pub fn of(nodes: &[Node], links: &[Edge]) -> Self {
+    /// `place` answers where a node is; links whose nodes have none are passed over.
+    pub fn of(links: &[Edge], place: impl Fn(usize) -> Option<Place>) -> Self {
         let mut marks = Marks::default();
         for link in links {
-            let [Some(from), Some(to)] = [link.from, link.to].map(|end| nodes.get(end)) else {
+            let (Some(from), Some(to)) = (place(link.from), place(link.to)) else {
                 continue;
             };
             marks.links += 1;
-            let places = [from, to].map(place_of);
-            if from.layer != to.layer || places[0] == places[1] {
-                marks.ends.extend(places);
+            if from[0] != to[0] || from == to {
+                marks.ends.extend([from, to]);
             } else {
-                let [a, b] = places;
-                marks.pairs.insert([a.min(b), a.max(b)]);
+                marks.pairs.insert([from.min(to), from.max(to)]);
             }
         }
         marks

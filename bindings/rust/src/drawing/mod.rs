@@ -89,7 +89,7 @@ fn place_of(node: &Node) -> Place {
 pub struct Picture {
     title: String,
     cells: Vec<Cell>,
-    nodes: Vec<Place>,
+    nodes: BTreeSet<Place>,
     hanging: BTreeSet<Place>,
     colouring: Colouring,
     marks: Marks,
@@ -137,10 +137,7 @@ impl Picture {
         });
         let picture = Picture::of_cells(title, cells.collect(), net.rows());
         let picture = picture.map_err(|why| format!("not leafnet's text: {why}"))?;
-        Ok(Picture {
-            marks: Marks::of(&net.nodes, net.links()),
-            ..picture
-        })
+        Ok(picture.with_links(&net, Links::default()))
     }
 
     /// Cell i of the net is the i-th of the cells.
@@ -150,12 +147,12 @@ impl Picture {
             let reason = Reason::BadTable;
             return Err(Refusal { reason, place: 0 });
         }
-        let nodes: Vec<Place> = net.nodes.iter().map(place_of).collect();
+        let place = |node: usize| place_of(&net.nodes[node]);
         Ok(Picture {
             title: title.to_string(),
             cells,
-            hanging: hanging.into_iter().map(|node| nodes[node]).collect(),
-            nodes,
+            nodes: net.nodes.iter().map(place_of).collect(),
+            hanging: hanging.into_iter().map(place).collect(),
             colouring: Colouring::Levels,
             marks: Marks::default(),
             borders: None,
@@ -164,10 +161,17 @@ impl Picture {
     }
 
     /// Marks the links of a net where they end, and the footprints of the vias that made them. A link to a node that
-    /// isn't there is passed over.
+    /// the picture doesn't have is passed over.
     pub fn with_links(mut self, net: &Net, links: Links) -> Self {
-        self.marks = Marks::of(&net.nodes, net.links()).with_footprints(links);
+        let place = |node: usize| self.place(&net.nodes, node);
+        self.marks = Marks::of(net.links(), place).with_footprints(links);
         self
+    }
+
+    /// Where one of some nodes is, if the picture has it.
+    fn place(&self, nodes: &[Node], node: usize) -> Option<Place> {
+        let place = nodes.get(node).map(place_of);
+        place.filter(|place| self.nodes.contains(place))
     }
 
     /// Draws every border that two cells share, over their colours: a line along it, the longer the wider, and its
@@ -203,10 +207,11 @@ impl Picture {
     }
 
     /// Marks where terminals are, and says what stands there. `nodes` are those of the net, `held` names some of them
-    /// for each terminal, and `applied` is a solution's, in the same order. A node that isn't there is passed over, and
-    /// a terminal that nothing is applied to says what it is held at.
+    /// for each terminal, and `applied` is a solution's, in the same order. A node that the picture doesn't have is
+    /// passed over, and a terminal that nothing is applied to says what it is held at.
     pub fn with_terminals(mut self, nodes: &[Node], held: &[Held], applied: &[Applied]) -> Self {
-        self.terminals = Terminals::of(&self.cells, nodes, held, applied);
+        let place = |node: usize| self.place(nodes, node);
+        self.terminals = Terminals::of(&self.cells, held, applied, place);
         self
     }
 

@@ -4,9 +4,8 @@ use super::figures::with_unit;
 use super::layout::Layout;
 use super::outline::Outline;
 use super::svg::{escaped, put_words, shortened, width_of};
-use super::{place_of, Cell, Place};
+use super::{Cell, Place};
 use crate::solving::{Applied, Drive, Held};
-use crate::Node;
 use std::collections::{BTreeMap, BTreeSet};
 use std::fmt::{self, Write};
 
@@ -21,7 +20,6 @@ pub struct Terminals {
 /// A terminal on one layer.
 #[derive(Clone, Debug, PartialEq)]
 struct Mark {
-    layer: i64,
     outline: Outline,
     places: BTreeSet<Place>,
     /// For its label, and what is said when it is pointed at.
@@ -35,29 +33,27 @@ const LONGEST_NAME: usize = 24;
 const LEFT_OVER: f64 = 1e-9;
 
 impl Terminals {
-    /// Nodes that aren't there are passed over. A terminal that nothing is known of says what it is held at.
-    pub fn of(cells: &[Cell], nodes: &[Node], held: &[Held], applied: &[Applied]) -> Self {
+    /// `place` answers where a node is; one that has none is passed over. A terminal that nothing is known of says what
+    /// it is held at.
+    pub fn of(
+        cells: &[Cell],
+        held: &[Held],
+        applied: &[Applied],
+        place: impl Fn(usize) -> Option<Place>,
+    ) -> Self {
         let applied = settled(applied);
         let mut marks = Vec::new();
         for (number, one) in held.iter().enumerate() {
-            let known = applied.get(number);
-            let label = format!("{}: {}", name_of(one), beside(one, known));
-            let title = format!("terminal {}: {}", one.terminal, beside(one, known));
+            let said = beside(one, applied.get(number));
             let mut layers: BTreeMap<i64, BTreeSet<Place>> = BTreeMap::new();
-            for place in one
-                .nodes
-                .iter()
-                .filter_map(|&node| nodes.get(node))
-                .map(place_of)
-            {
+            for place in one.nodes.iter().filter_map(|&node| place(node)) {
                 layers.entry(place[0]).or_default().insert(place);
             }
             marks.extend(layers.into_iter().map(|(layer, places)| Mark {
-                layer,
                 outline: Outline::of(cells, layer, &places),
                 places,
-                label: label.clone(),
-                title: title.clone(),
+                label: format!("{}: {said}", name_of(one)),
+                title: format!("terminal {}: {said}", one.terminal),
             }));
         }
         let words = words_of(held, &applied);
