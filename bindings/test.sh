@@ -141,7 +141,8 @@ leaves=$(grep -c '<title>leaf ' "$folder/layers.svg")
 [ "$leaves" -ge 1500 ] || fail "the two layers have $leaves leaves"
 "$bin/board" net <../boards/vias.txt >"$folder/vias.net"
 head -n 1 "$folder/vias.net" | grep -q ' links [1-9]' || fail "no links in the text of vias"
-"$bin/relax" <"$folder/vias.net" >"$folder/vias.volts"
+"$bin/relax" --board ../boards/vias.txt --terminal "in 10 A end 1 0 south" --terminal "out 0 V end 2 1 north" \
+    <"$folder/vias.net" >"$folder/vias.volts"
 "$bin/draw" --record ../boards/vias.txt --potentials "$folder/vias.volts" <"$folder/vias.net" >"$folder/vias.svg"
 if "$bin/board" pack <../boards/vias.txt >"$folder/vias.record" 2>"$folder/said"; then
     fail "links went into a record"
@@ -152,6 +153,9 @@ say "pictures of all sample boards"
 for board in ../boards/*.txt; do
     rust/draw.sh "$board" "$folder/$(basename "$board" .txt)" >/dev/null
 done
+
+say "files of a mesh, opened by the programs that they are for"
+./files.sh
 
 say "a strip of 300 pitches is told by every tool that makes a net or a picture"
 cat >"$folder/long.txt" <<'BOARD'
@@ -175,8 +179,9 @@ tell() {
     [ ! -s "$folder/made" ] || fail "$* wrote"
     grep -qF "$told" "$folder/said" || fail "$* said: $(cat "$folder/said")"
 }
-tell "$bin/board" net
-tell "$bin/board" vtk
+for command in net vtk msh csv solve; do
+    tell "$bin/board" "$command"
+done
 tell "$bin/draw" --board "$folder/long.txt"
 tell "$bin/draw" --board "$folder/long.txt" --power
 tell rust/draw.sh "$folder/long.txt" "$folder/long"
