@@ -170,7 +170,7 @@ if needed "$folder/built/outline_to_net" | grep leafmesh >&2; then fail "CMake: 
 for wanted in "" "$version" "$version;EXACT" "0.1...$version" "$version...<99"; do
     configures "$prefix" "$wanted" || fail "CMake: version $wanted isn't found: $(cat "$folder/said")"
 done
-for wanted in "$series.999" 0.1 0.1.0 "${series}1" "99" "0.1;EXACT" "0.1...<$version" "99...100"; do
+for wanted in "$series.999" "0.$series" 0.1 0.1.0 "${series}1" "99" "0.1;EXACT" "0.1...<$version" "99...100"; do
     if configures "$prefix" "$wanted"; then fail "CMake: version $wanted is found"; fi
     grep -q 'leafmesh' "$folder/said" || fail "CMake: $(cat "$folder/said")"
 done
