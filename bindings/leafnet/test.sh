@@ -2,6 +2,9 @@
 # How leafnet ends: for each kind of call the status, and what stands on standard output and on standard error.
 # Run by bindings/test.sh, once the program is made. LEAFMESH_PROGRAM names another file of it.
 set -eu
+# shellcheck source=../usage.sh
+. "$(dirname "$0")/../usage.sh"
+take_no_words "$@"
 cd "$(dirname "$0")"
 boards=../../boards
 leafnet=${LEAFMESH_PROGRAM:-../../crates/leafnet/out/leafnet}
