@@ -5,7 +5,7 @@
 //! `cargo run --release --example layers FOLDER` leaves pictures there, layers.svg (the mesh and its links) and
 //! layers-power.svg (power density at 10 A), and layers.vtk for ParaView; without a folder it prints only.
 
-use leafmesh::drawing::{densities, Picture};
+use leafmesh::drawing::{densities, Picture, Quantity};
 use leafmesh::solving::{Drive, Held, Solution, Spot, System, Terminal};
 use leafmesh::text::{self, Whole};
 use leafmesh::vtk::{self, Field};
@@ -80,7 +80,7 @@ fn run() -> Result<(), Box<dyn Error>> {
         "{vias:.4} A through all vias, {switches:.4} A through all switches"
     )?;
     match env::args().nth(1) {
-        Some(folder) => put(Path::new(&folder), &mesh, &net, links, &solution),
+        Some(folder) => put(Path::new(&folder), &mesh, (&net, links), &held, &solution),
         None => Ok(()),
     }
 }
@@ -131,8 +131,8 @@ fn currents_of(mesh: &Mesh, links: Links, solution: &Solution) -> Result<Vec<Cur
 fn put(
     folder: &Path,
     mesh: &Mesh,
-    net: &Net,
-    links: Links,
+    (net, links): (&Net, Links),
+    held: &[Held],
     solution: &Solution,
 ) -> Result<(), Box<dyn Error>> {
     let watts: Vec<f64> = solution.cells.iter().map(|cell| cell.watts).collect();
@@ -143,8 +143,9 @@ fn put(
     ];
     let picture = |title: &str| Picture::of_mesh(title, mesh, net.rows());
     let levels = picture("Two plates joined by vias: leaves by level")?;
-    let heat = picture("Two plates joined by vias: power density at 10 A")?;
-    let heat = heat.by_value("power density in W/mm2", &densities);
+    let heat = picture("Two plates joined by vias: power density")?
+        .by_flow(mesh, solution, Quantity::PowerDensity)
+        .with_terminals(&net.nodes, held, &solution.terminals);
     let svg = |picture: Picture| picture.with_links(net, links).svg();
     let file = vtk::of_linked_mesh(mesh, net, &fields)?;
     fs::create_dir_all(folder).map_err(|why| format!("{}: {why}", folder.display()))?;

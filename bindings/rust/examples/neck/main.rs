@@ -10,7 +10,7 @@ mod pictures;
 mod uniform;
 
 use leafmesh::solving::{Drive, Solution, Spot, System, Terminal};
-use leafmesh::{Mesh, Net, Pitch, Polygons, Settings, Side};
+use leafmesh::{Mesh, Pitch, Polygons, Settings, Side};
 use std::env;
 use std::error::Error;
 use std::io::{stdout, Write};
@@ -68,8 +68,9 @@ fn run() -> Result<(), Box<dyn Error>> {
     let mut mesh = base_cells()?;
     for round in 0..=ROUNDS {
         let net = mesh.net()?;
-        let solution = solved(&mesh, &net, &System::of_cells(&net)?)?;
-        let by_net = solved(&mesh, &net, &System::of_net(net.rows())?)?;
+        let held = mesh.held(&net, &terminals());
+        let solution = System::of_cells(&net)?.solve(&held)?;
+        let by_net = System::of_net(net.rows())?.solve(&held)?;
         let [cells, edges] = [&solution, &by_net].map(squares_of);
         let off = |own: f64| 100.0 * (own / squares - 1.0);
         writeln!(
@@ -80,7 +81,7 @@ fn run() -> Result<(), Box<dyn Error>> {
             off(edges)
         )?;
         if let (PICTURED, Some(folder)) = (round, env::args().nth(1)) {
-            pictures::put(&folder, &mesh, &net, &solution)?;
+            pictures::put(&folder, &mesh, &net, &held, &solution)?;
         }
         let watts: Vec<f64> = solution.cells.iter().map(|cell| cell.watts).collect();
         mesh.refine_hottest(&watts, SHARE)?;
@@ -102,17 +103,16 @@ fn base_cells() -> Result<Mesh, Box<dyn Error>> {
 }
 
 /// A current from the bottom to the top.
-fn solved(mesh: &Mesh, net: &Net, system: &System) -> Result<Solution, Box<dyn Error>> {
+fn terminals() -> [Terminal; 2] {
     let end = |side| Spot::End {
         layer: 1,
         component: 0,
         side,
     };
-    let terminals = [
+    [
         Terminal::new("in", end(Side::South), Drive::Amperes(AMPERES)),
         Terminal::new("out", end(Side::North), Drive::Volts(0.0)),
-    ];
-    Ok(system.solve(&mesh.held(net, &terminals))?)
+    ]
 }
 
 /// The resistance in squares.

@@ -1,7 +1,7 @@
 //! A round's mesh and power density, as pictures and as a file for ParaView.
 
-use leafmesh::drawing::{densities, Picture};
-use leafmesh::solving::Solution;
+use leafmesh::drawing::{densities, Picture, Quantity};
+use leafmesh::solving::{Held, Solution};
 use leafmesh::vtk::{self, Field};
 use leafmesh::{Mesh, Net};
 use std::error::Error;
@@ -12,6 +12,7 @@ pub fn put(
     folder: &str,
     mesh: &Mesh,
     net: &Net,
+    held: &[Held],
     solution: &Solution,
 ) -> Result<(), Box<dyn Error>> {
     let watts: Vec<f64> = solution.cells.iter().map(|cell| cell.watts).collect();
@@ -22,8 +23,10 @@ pub fn put(
     ];
     let rows = net.rows();
     let levels = Picture::of_mesh("A neck between two pads: leaves by level", mesh, rows)?;
-    let heat = Picture::of_mesh("A neck between two pads: power density at 10 A", mesh, rows)?;
-    let heat = heat.by_value("power density in W/mm2", &densities);
+    let heat = Picture::of_mesh("A neck between two pads: power density", mesh, rows)?;
+    let heat = heat
+        .by_flow(mesh, solution, Quantity::PowerDensity)
+        .with_terminals(&net.nodes, held, &solution.terminals);
     let folder = Path::new(folder);
     fs::create_dir_all(folder).map_err(|why| format!("{}: {why}", folder.display()))?;
     let keep = |name: &str, text: String| {
