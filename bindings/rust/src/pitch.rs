@@ -163,14 +163,14 @@ impl Pitch {
         ticks as f64 / self.ticks as f64 * self.millimetres
     }
 
-    /// The same for words: the fewest decimals whose nearest tick it is.
+    /// The same for words: with the fewest decimals whose nearest tick it is.
     pub(crate) fn short(self, ticks: i64) -> f64 {
         let millimetres = self.millimetres(ticks);
         let with_decimals = |count: i32| {
             let unit = 10_f64.powi(count);
             (millimetres * unit).round() / unit
         };
-        let means_it = |short: &f64| self.nearest_tick(*short) == Ok(ticks);
+        let means_it = |shown: &f64| self.nearest_tick(*shown) == Ok(ticks);
         let found = (0..=MOST_DECIMALS).map(with_decimals).find(means_it);
         found.unwrap_or(millimetres)
     }
@@ -184,7 +184,7 @@ fn in_millimetres(ticks: f64) -> f64 {
 }
 
 /// Without the digits that decimal fractions leave behind.
-fn short(millimetres: f64) -> f64 {
+fn rounded(millimetres: f64) -> f64 {
     (millimetres * 1e9).round() / 1e9
 }
 
@@ -203,12 +203,12 @@ impl fmt::Display for Misfit {
             Why::TooFar => write!(
                 f,
                 "{given} mm is past the range of a coordinate; the nearest is {} mm",
-                short(nearest)
+                rounded(nearest)
             ),
             Why::OffPitch { pitch } => write!(
                 f,
                 "{given} mm is no multiple of the pitch of {pitch} mm; the nearest is {} mm",
-                short(nearest)
+                rounded(nearest)
             ),
         }
     }

@@ -4,7 +4,7 @@ use super::form::senseless;
 use super::linking::{channel_of, contact_of, via_of};
 use super::splitting::{ids_of, region_of, Mark, Task};
 use super::terminals::terminal_of;
-use super::unit::{component, finite, grouped, layer, ohms, whole, Unit};
+use super::unit::{component, cut, finite, grouped, layer, ohms, whole, Unit};
 use super::{Unclear, Whole};
 use crate::limits::{CAP, CELL, LAYER_ENTRIES, MEANS_DEFAULT, POLYGONS, RING_POINTS, SPLITS};
 use crate::{Board, Pitch, COORDINATE, MAX_LEVEL};
@@ -112,10 +112,10 @@ impl Reading {
             }
             (None, None) => {}
         }
-        if self.has_lengths() {
-            return Err(
-                "pitch stands before layers, polygons, links, terminals and refine".to_string(),
-            );
+        if let Some(first) = self.first_length() {
+            return Err(format!(
+                "pitch stands before layers, polygons, links, terminals and refine, as on line {first}"
+            ));
         }
         let level = self.whole.board.settings().max_level;
         let pitch = Pitch::new(finite("pitch", word)?, level).map_err(|why| why.to_string())?;
@@ -125,15 +125,18 @@ impl Reading {
         Ok(())
     }
 
-    /// Whether there is a line whose lengths would have another unit than those behind a pitch.
-    fn has_lengths(&self) -> bool {
+    /// The first line whose lengths would be of another unit than those behind a pitch.
+    fn first_length(&self) -> Option<usize> {
         let lines = &self.whole.lines;
-        let is_region = |mark: &Mark| matches!(mark.task, Task::Refine(_));
-        !lines.layers.is_empty()
-            || !lines.polygons.is_empty()
-            || !lines.terminals.is_empty()
-            || lines.first_link().is_some()
-            || self.marks.iter().any(is_region)
+        let is_region = |mark: &&Mark| matches!(mark.task, Task::Refine(_));
+        let all = [
+            lines.layers.first().copied(),
+            lines.polygons.first().copied(),
+            lines.first_link(),
+            lines.terminals.first().copied(),
+            self.marks.iter().find(is_region).map(|mark| mark.line),
+        ];
+        all.into_iter().flatten().min()
     }
 
     fn take_layer(&mut self, line: usize, word: &str, cell: &str) -> Result<(), String> {
@@ -200,7 +203,7 @@ impl Reading {
         } = &mut self.whole;
         let same = terminals.iter().position(|own| own.name == terminal.name);
         if let Some(at) = same {
-            let (name, first) = (&terminal.name, lines.terminals[at]);
+            let (name, first) = (cut(&terminal.name), lines.terminals[at]);
             return Err(format!("a terminal {name} is on line {first} already"));
         }
         terminals.push(terminal);

@@ -2,7 +2,7 @@
 
 use super::form::senseless;
 use super::linking::polygon;
-use super::unit::{component, finite, layer, Unit};
+use super::unit::{component, cut, finite, layer, Unit};
 use crate::limits::POTENTIAL;
 use crate::solving::{Drive, Spot, Terminal};
 use crate::{Rect, Side};
@@ -35,6 +35,7 @@ pub(super) fn terminal_of(words: &[&str], unit: Unit) -> Result<Terminal, String
     };
     if !drive.is_in_range() {
         let most = POTENTIAL;
+        let value = cut(value);
         return Err(format!(
             "potential {value} is out of range: -{most} to {most}"
         ));

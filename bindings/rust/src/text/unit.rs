@@ -28,7 +28,7 @@ impl Unit {
     /// Half the size of a footprint: the nearest tick.
     pub fn half(self, word: &str) -> Result<i64, String> {
         if word.starts_with('-') && finite("half size", word)? < 0.0 {
-            return Err(format!("half size {word} is below 0"));
+            return Err(format!("half size {} is below 0", cut(word)));
         }
         self.nearest("half size", word, 0..=HALF)
     }
@@ -52,7 +52,10 @@ impl Unit {
             return Ok(ticks);
         }
         let [low, high] = [range.start(), range.end()].map(|&end| self.show(end));
-        Err(format!("{name} {word} is out of range: {low} to {high}"))
+        Err(format!(
+            "{name} {} is out of range: {low} to {high}",
+            cut(word)
+        ))
     }
 
     /// A rectangle by any two of its opposite corners; it may be thin.
@@ -92,7 +95,7 @@ fn ticks(name: &str, word: &str, range: RangeInclusive<i64>) -> Result<i64, Stri
     let is_decimal = word.contains('.') && word.parse::<f64>().is_ok_and(f64::is_finite);
     if is_decimal {
         let words = "a length with a point needs a pitch in front: lengths are in ticks";
-        return Err(format!("{name} {word}: {words}"));
+        return Err(format!("{name} {}: {words}", cut(word)));
     }
     whole(name, word, range)
 }
@@ -133,7 +136,10 @@ pub(super) fn ohms(name: &str, word: &str) -> Result<f64, String> {
     if (RESISTANCE_LOW..=RESISTANCE_HIGH).contains(&value) {
         return Ok(value);
     }
-    Err(format!("{name} {word} is out of range: 2^-40 to 2^40"))
+    Err(format!(
+        "{name} {} is out of range: 2^-40 to 2^40",
+        cut(word)
+    ))
 }
 
 pub(super) fn layer(word: &str) -> Result<u16, String> {
@@ -146,19 +152,24 @@ pub(super) fn component(word: &str) -> Result<u32, String> {
 
 fn out_of_range<T: Display>(name: &str, word: &str, range: &RangeInclusive<T>) -> String {
     let (low, high) = (range.start(), range.end());
-    format!("{name} {word} is out of range: {low} to {high}")
+    format!("{name} {} is out of range: {low} to {high}", cut(word))
 }
 
 /// The most characters of a text that a refusal repeats.
 const REPEATED: usize = 60;
 
-/// A part of the text between quotes, cut where it is long.
-pub(super) fn quoted(words: &str) -> String {
+/// A part of the text, without its end where it is long.
+pub(super) fn cut(words: &str) -> String {
     let mut shown: String = words.chars().take(REPEATED).collect();
     if shown.len() < words.len() {
         shown += "..";
     }
-    format!("\"{}\"", shown.escape_debug())
+    shown
+}
+
+/// The same between quotes.
+pub(super) fn quoted(words: &str) -> String {
+    format!("\"{}\"", cut(words).escape_debug())
 }
 
 /// A number with a comma before each three digits.

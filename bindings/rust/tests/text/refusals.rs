@@ -85,6 +85,30 @@ fn values_are_told_by_their_line() {
     }
 }
 
+/// However long a word is, what is said of it isn't.
+#[test]
+fn long_words_are_cut() {
+    for word in [
+        "9".repeat(10_000),
+        "x".repeat(10_000),
+        format!("1.{}", "0".repeat(10_000)),
+    ] {
+        for line in [
+            format!("{word} 0"),
+            format!("0 {word}"),
+            format!("level {word}"),
+            format!("via 1 2 0 0 0 -{word} 0 1"),
+            format!("via 1 2 0 0 0 0 0 {word}"),
+            format!("terminal in {word} V pad 0"),
+            format!("split 0-{word}"),
+            word.clone(),
+        ] {
+            let said = unclear(&format!("polygon 1 0 1\n{line}\n"));
+            assert!(said.len() < 400, "{said}");
+        }
+    }
+}
+
 #[test]
 fn coordinates_are_told_by_their_line() {
     let needs_pitch = "a length with a point needs a pitch in front: lengths are in ticks";
@@ -179,8 +203,8 @@ fn what_is_given_twice_or_too_late_names_both_lines() {
         "terminal in 1 A pad 0",
         "refine 0 0 1 1 1",
     ] {
-        let said = unclear(&format!("{first}\npitch 1\n"));
-        let words = "line 2: pitch stands before layers, polygons, links, terminals and refine";
+        let said = unclear(&format!("\n{first}\nrefine 0 0 1 1 1\npitch 1\n"));
+        let words = "line 4: pitch stands before layers, polygons, links, terminals and refine, as on line 2";
         assert_eq!(said, words, "{first}");
     }
 }
