@@ -51,7 +51,10 @@ impl Lines {
     fn of_part(&self, board: &Board, part: &Part) -> Option<usize> {
         let line = match *part {
             Part::Polygon(polygon) => self.polygons.get(polygon),
-            Part::Point { polygon, point } => self.points.get(first_point(board, polygon) + point),
+            Part::Point { polygon, point } => {
+                let first = first_point(board, polygon);
+                self.points.get(first.saturating_add(point))
+            }
             Part::Split(at) => self.splits.get(at),
             Part::Link(Link::Contact(at)) => self.contacts.get(at),
             Part::Link(Link::Via(at)) => self.vias.get(at),
@@ -73,7 +76,9 @@ pub fn blame_record(board: &Board, why: &Unmeshed) -> String {
 /// The index of a polygon's first point among those of the board.
 fn first_point(board: &Board, polygon: usize) -> usize {
     let before = board.polygons.iter().take(polygon);
-    before.map(|&[_, _, points]| points as usize).sum()
+    before.fold(0, |sum: usize, &[_, _, points]| {
+        sum.saturating_add(points as usize)
+    })
 }
 
 impl Fault {

@@ -178,6 +178,7 @@ fn whole_texts_come_back_with_links_and_terminals() {
     let own = own.map(|(name, text)| (name.to_string(), text.to_string()));
     for (name, text) in sample_texts().into_iter().chain(own) {
         let whole = text::parse_whole(&text).expect(&name);
+        assert_eq!(whole.warnings, [], "{name}");
         let again = text::parse_whole(&text::show_whole(&whole)).expect(&name);
         assert_says_the_same(&whole, &again);
         assert_eq!(text::show_whole(&again), text::show_whole(&whole));

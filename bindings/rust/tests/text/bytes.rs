@@ -1,7 +1,9 @@
 //! What stands in a file: a text, a record, or neither.
 
+use crate::shared::samples;
 use crate::{refused, SQUARE};
 use leafmesh::text;
+use std::fs;
 use std::io::Write;
 use std::process::{Command, Output, Stdio};
 
@@ -102,6 +104,21 @@ fn what_is_no_text_is_told_by_its_line() {
         assert_eq!(why.to_string(), format!("line {line}: this isn't UTF-8"));
         assert_eq!(refused(bytes), why.to_string());
     }
+}
+
+#[test]
+fn what_the_tool_unpacks_it_packs_to_the_same_bytes() {
+    let mut seen = 0;
+    for entry in fs::read_dir(samples()).expect("boards") {
+        let path = entry.expect("an entry").path();
+        if path.extension().is_some_and(|kind| kind == "record") {
+            let record = fs::read(&path).expect("a record");
+            let text = board("unpack", &record).stdout;
+            assert_eq!(board("pack", &text).stdout, record, "{}", path.display());
+            seen += 1;
+        }
+    }
+    assert!(seen >= 7);
 }
 
 #[test]
