@@ -2,7 +2,7 @@
 
 use crate::{Board, Outlines, Point, Reason, Refusal};
 
-/// Polygons by rows, owned: what [`Table::build`] and [`Table::network`] take as [`Outlines`].
+/// Polygons by rows, owned: what [`Table::build`](crate::Table::build) and [`Table::network`](crate::Table::network) take as [`Outlines`].
 #[derive(Clone, Debug, Default, PartialEq)]
 pub struct Polygons {
     /// The layer of each polygon.
@@ -40,7 +40,7 @@ impl Polygons {
 }
 
 impl Board {
-    /// The polygons of a board as [`Table::build`] takes them.
+    /// The polygons of a board as [`Table::build`](crate::Table::build) takes them.
     ///
     /// # Errors
     ///
