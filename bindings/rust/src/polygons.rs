@@ -2,7 +2,8 @@
 
 use crate::{Board, Outlines, Point, Reason, Refusal};
 
-/// Polygons by rows, owned: what [`Table::build`](crate::Table::build) and [`Table::network`](crate::Table::network) take as [`Outlines`].
+/// Polygons by rows, owned: what [`Table::build`](crate::Table::build) and [`Table::network`](crate::Table::network)
+/// take as [`Outlines`].
 #[derive(Clone, Debug, Default, PartialEq)]
 pub struct Polygons {
     /// The layer of each polygon.

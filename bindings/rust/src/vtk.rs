@@ -14,7 +14,7 @@ pub use crate::field::Field;
 ///
 /// # Errors
 ///
-/// Those of [`NetRows::judge`]; [`Reason::BadTable`] of another mesh's net.
+/// Those of [`NetRows::judge`]; [`Reason::BadTable`](crate::Reason::BadTable) of another mesh's net.
 pub fn of_mesh(mesh: &Mesh, net: NetRows, fields: &[Field]) -> Result<String, Refusal> {
     of_rows(mesh, net, &[], fields)
 }

@@ -3,8 +3,8 @@
 use crate::unmeshed::strips_of;
 use crate::Point;
 
-/// The first point that differs in both x and y from the one before it, and that one; of the last side the last point and
-/// the first.
+/// The first point that differs in both x and y from the one before it, and that one; of the last side the last point
+/// and the first.
 pub(super) fn first_slant(ring: &[Point]) -> Option<(usize, usize)> {
     let is_slanted = |&(to, from): &(usize, usize)| {
         let ([ax, ay], [bx, by]) = (ring[from], ring[to]);
