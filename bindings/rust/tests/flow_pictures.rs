@@ -233,7 +233,27 @@ fn one_sheet_resistance_has_two_scales_of_one_bar() {
     assert!((place(density) - place(current)).abs() < 0.01);
 }
 
-/// Two pieces in a row, the second of four times the resistance: the hottest leaf is in it, and the most current
+/// An even current gives all leaves the colour of the largest value, whatever the solver's iteration left.
+#[test]
+fn an_even_current_has_one_colour() {
+    let board = "level 2\npitch 0.25\npolygon 1 0 0.0005\n0 0\n20 0\n20 5\n0 5\nsplit 7 800\n";
+    let solved = Solved::of(board, &across());
+    assert!(solved.net.cells.len() >= 1_500);
+    for quantity in [Quantity::PowerDensity, Quantity::SheetCurrent] {
+        let svg = solved.svg(quantity);
+        let fill = |title: &str| {
+            let tag = title.rsplit("<rect ").next().expect("a tag");
+            tag.split(" fill=\"").nth(1).expect("a colour")[..7].to_string()
+        };
+        let mut parts: Vec<&str> = svg.split("<title>leaf ").collect();
+        parts.pop();
+        assert_eq!(parts.len(), solved.net.cells.len());
+        assert!(parts.iter().all(|part| fill(part) == "#ffdd40"));
+        assert_uncut(&svg);
+    }
+}
+
+/// Two pieces in a row, the second of ten times the resistance: the hottest leaf is in it, and the most current
 /// elsewhere.
 #[test]
 fn sheet_resistances_that_differ_have_one_scale() {

@@ -6,7 +6,7 @@ use super::{Cell, Picture};
 use crate::{LeafBorder, Point, Rect, Side};
 use std::fmt;
 
-/// Borders by the cells' places, and which of them are across layers.
+/// A line along every border, in the panels of its cells.
 pub fn put(picture: &Picture, layout: &Layout, text: &mut String) -> fmt::Result {
     let Some(borders) = &picture.borders else {
         return Ok(());

@@ -3,7 +3,7 @@
 use super::cells::colour_of;
 use super::figures::figures;
 use super::flow::Flows;
-use super::scale::Scale;
+use super::scale::{Scale, DEPTH};
 use super::Cell;
 
 #[derive(Clone, Debug, PartialEq)]
@@ -17,15 +17,12 @@ pub enum Colouring {
     Flows(Flows),
 }
 
-/// A scale of values goes down to this share of the largest one.
-const DEEPEST: f64 = 1e-6;
-
 impl Colouring {
     /// None by level.
     pub fn scale(&self) -> Option<Scale> {
         match self {
             Colouring::Levels => None,
-            Colouring::Values { all, .. } => Some(Scale::of(all.iter().copied(), DEEPEST)),
+            Colouring::Values { all, .. } => Some(Scale::of(all.iter().copied(), DEPTH)),
             Colouring::Flows(flows) => Some(flows.scale()),
         }
     }

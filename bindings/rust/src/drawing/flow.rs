@@ -1,7 +1,7 @@
 //! What flows in the cells of a picture: power over area and sheet current, side by side.
 
 use super::figures::figures;
-use super::scale::Scale;
+use super::scale::{Depth, Scale, DEPTH};
 use crate::solving::{Flow, Solution};
 use crate::{Leaf, Mesh};
 use std::f64::consts::FRAC_PI_4;
@@ -37,11 +37,14 @@ impl Quantity {
         }
     }
 
-    /// A scale goes down to this share of the largest value. Power goes with the square of the current.
-    fn deepest(self) -> f64 {
+    /// Power goes with the square of the current, so that both have the same colours.
+    fn depth(self) -> Depth {
         match self {
-            Quantity::PowerDensity => 1e-6,
-            Quantity::SheetCurrent => 1e-3,
+            Quantity::PowerDensity => DEPTH,
+            Quantity::SheetCurrent => Depth {
+                most: DEPTH.most.sqrt(),
+                least: DEPTH.least.sqrt(),
+            },
         }
     }
 }
@@ -138,7 +141,7 @@ impl Flows {
 
     pub fn scale(&self) -> Scale {
         let values = self.cells.iter().map(|cell| cell.value(self.quantity));
-        Scale::of(values, self.quantity.deepest())
+        Scale::of(values, self.quantity.depth())
     }
 
     /// The scale of the other quantity, where it follows from that of the first.

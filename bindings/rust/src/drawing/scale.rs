@@ -25,13 +25,29 @@ pub struct Scale {
     clipped: bool,
 }
 
+/// How deep a scale goes, as shares of its largest value.
+#[derive(Clone, Copy, Debug)]
+pub struct Depth {
+    /// No deeper, whatever the values.
+    pub most: f64,
+    /// At least so deep, so that values that are nearly the same have nearly the same colour.
+    pub least: f64,
+}
+
+/// That of power density, and of a caller's own values.
+pub const DEPTH: Depth = Depth {
+    most: 1e-6,
+    least: 0.1,
+};
+
 impl Scale {
-    /// Down to the least value above 0, and no deeper than a share of the largest; all 0 where nothing is above 0.
-    pub fn of(values: impl Iterator<Item = f64> + Clone, deepest: f64) -> Self {
+    /// Down to the least value above 0, within the depth; all 0 where nothing is above 0.
+    pub fn of(values: impl Iterator<Item = f64> + Clone, depth: Depth) -> Self {
         let is_above = |value: &f64| *value > 0.0 && value.is_finite();
         let above = || values.clone().filter(is_above);
         let most = above().fold(0.0, f64::max);
-        let least = above().fold(most, f64::min).max(deepest * most);
+        let least = above().fold(depth.least * most, f64::min);
+        let least = least.max(depth.most * most);
         Scale {
             least,
             most,
@@ -188,15 +204,14 @@ mod tests {
     use super::*;
 
     fn scale(values: &[f64]) -> Scale {
-        Scale::of(values.iter().copied(), 1e-6)
+        Scale::of(values.iter().copied(), DEPTH)
     }
 
     #[test]
     fn a_scale_has_its_ends_and_round_values() {
         let wide = scale(&[3e-3, 40.0]);
         assert_eq!(wide.ticks(), [3e-3, 40.0, 1e-2, 1e-1, 1.0, 10.0]);
-        assert_eq!(scale(&[0.9, 6.0]).ticks(), [0.9, 6.0, 2.0]);
-        assert_eq!(scale(&[2.0, 2.0]).ticks(), [2.0]);
+        assert_eq!(scale(&[0.5, 6.0]).ticks(), [0.5, 6.0, 1.0, 2.0]);
         assert_eq!(scale(&[0.0, f64::NAN]).ticks(), [0.0]);
         assert_eq!(scale(&[]).ticks(), [0.0]);
     }
@@ -210,7 +225,13 @@ mod tests {
             [1e-20, 1e-3, 2.0].map(|value| deep.share(value)),
             [0.0, 0.5, 1.0]
         );
-        assert_eq!(scale(&[1.0, 1.0]).share(1.0), 0.0);
+    }
+
+    #[test]
+    fn values_that_are_nearly_the_same_have_nearly_the_same_colour() {
+        let even = scale(&[20.0, 20.0 - 1e-12, 19.9]);
+        assert_eq!(even.ticks(), [2.0, 20.0, 10.0, 5.0]);
+        assert!(!even.clipped && even.share(20.0) == 1.0 && even.share(19.9) > 0.99);
     }
 
     #[test]
