@@ -79,7 +79,8 @@ pub(super) fn polygons(printed: &Printed) -> Result<Vec<Polygon<'_>>, String> {
 /// The nodes that were met so far: as many as the number of the next one.
 struct Walk<'a> {
     nodes: &'a [Node],
-    coppers: BTreeSet<Copper>,
+    /// What has a node at each place.
+    coppers: BTreeMap<Point, BTreeSet<Copper>>,
     met: BTreeMap<Node, usize>,
 }
 
@@ -88,9 +89,14 @@ type Try = (Vec<[usize; 4]>, BTreeMap<Node, usize>);
 
 impl<'a> Walk<'a> {
     fn of(nodes: &'a [Node]) -> Self {
+        let mut coppers: BTreeMap<Point, BTreeSet<Copper>> = BTreeMap::new();
+        for node in nodes {
+            let here = coppers.entry([node.x, node.y]).or_default();
+            here.insert(Copper::of(node));
+        }
         Walk {
             nodes,
-            coppers: nodes.iter().map(Copper::of).collect(),
+            coppers,
             met: BTreeMap::new(),
         }
     }
@@ -100,8 +106,8 @@ impl<'a> Walk<'a> {
     /// same order. Otherwise all its corners were met, of one copper or of several.
     fn step<'b>(&mut self, leaves: &'b [Leaf]) -> Result<Polygon<'b>, String> {
         let next = self.nodes.get(self.met.len()).map(Copper::of);
-        let fresh = next.and_then(|copper| Some((copper, self.tried(leaves, copper)?)));
-        let all: Vec<(Copper, Try)> = match fresh {
+        let own = next.and_then(|copper| Some((copper, self.tried(leaves, copper)?)));
+        let all: Vec<(Copper, Try)> = match own.filter(|(_, (_, new))| !new.is_empty()) {
             Some(own) => vec![own],
             None => self.covering(leaves).collect(),
         };
@@ -123,7 +129,9 @@ impl<'a> Walk<'a> {
     /// The coppers of which all corners were met.
     fn covering<'b>(&'b self, leaves: &'b [Leaf]) -> impl Iterator<Item = (Copper, Try)> + 'b {
         let tried = |&copper: &Copper| Some((copper, self.tried(leaves, copper)?));
-        let all = self.coppers.iter().filter_map(tried);
+        let [south_west, ..] = corners_of(leaves[0].rect);
+        let here = self.coppers.get(&south_west).into_iter().flatten();
+        let all = here.filter_map(tried);
         all.filter(|(_, (_, new))| new.is_empty())
     }
 
