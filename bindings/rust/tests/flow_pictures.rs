@@ -370,6 +370,7 @@ fn terminals_stand_in_the_panels_of_their_layers() {
     let svg = solved.svg(Quantity::PowerDensity);
     let bands = bands(&svg);
     assert_eq!(bands.len(), 2);
+    assert!(panel(&svg, &solved, 1)[2] < panel(&svg, &solved, 2)[0]);
     let [x0, _, x1, y1] = panel(&svg, &solved, 1);
     assert!(bands[0].0.contains("plate") && is_at(bands[0].1[0], [x0, y1, x1, y1]));
     let [x0, y0, x1, _] = panel(&svg, &solved, 2);
@@ -439,6 +440,23 @@ fn labels_and_the_legend_say_what_is_applied() {
         .svg();
     assert!(svg.contains(">applied: plate 10 A ") && svg.contains(">level 1<"));
     assert_uncut(&svg);
+}
+
+/// What the solver's iteration left is no current and no potential.
+#[test]
+fn what_the_iteration_left_is_nothing() {
+    let solved = Solved::of(&neck(), &across());
+    let applied = [(0.02, 10.0), (-3e-15, 2e-13)].map(|(volts, amperes)| Applied {
+        terminal: "any".to_string(),
+        volts,
+        amperes,
+    });
+    let picture = solved.bare();
+    let svg = picture
+        .with_terminals(&solved.net.nodes, &solved.held, &applied)
+        .svg();
+    assert!(svg.contains(">applied: in 10 A at 20 mV; out 0 A at 0 V; 0.2 W in all<"));
+    assert!(svg.contains(">out: 0 V, 0 A<"));
 }
 
 /// Many terminals beside each other, with long names that have to be written otherwise in a picture.
