@@ -137,6 +137,16 @@ fn terminals_beside_a_board() {
     ];
     let table = text_made(BOARD, &words, &record);
     assert_eq!(behind(&table, "a "), "2          0.5");
+    // A long name keeps its columns.
+    let long = solved(
+        &strip(),
+        &["a_long_name_of_a_terminal 0 V rect 1 0 31 -1 33 17"],
+    );
+    let lines: Vec<&str> = long.lines().take(4).collect();
+    assert!(
+        lines.iter().all(|line| line.len() == lines[0].len()),
+        "{long}"
+    );
     // Under a pitch they are in millimetres.
     let board = "pitch 0.5\npolygon 1 0 1\n0 0\n2 0\n2 1\n0 1\n";
     let table = solved(board, &["a 3 V edge 1 0 0 0 0 1", "b 0 V edge 1 0 2 0 2 1"]);
@@ -431,6 +441,17 @@ fn potentials_of_what_leafnet_printed() {
         said,
         "--terminal: terminal out: no corner of a leaf lies in it\n"
     );
+}
+
+#[test]
+fn what_leafnet_printed_is_no_board() {
+    let net = made(BOARD, &["net"], strip().as_bytes());
+    let words = "this is what leafnet printed, not a board\n";
+    for words_of_tool in [["net"], ["solve"], ["csv"]] {
+        assert_eq!(refused(BOARD, &words_of_tool, &net), words);
+    }
+    assert_eq!(refused(DRAW, &["-"], &net), words);
+    assert_eq!(refused(DRAW, &["-"], b"refused 4 0\n"), words);
 }
 
 /// A warning of a text goes to standard error, with its file's name, and changes nothing else.

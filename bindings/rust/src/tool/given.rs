@@ -33,40 +33,43 @@ impl Given {
     /// In words: it can't be read, or is no board.
     pub fn read(from: &End) -> Result<Self, String> {
         let bytes = from.read()?;
-        Given::of_bytes(bytes, from).map_err(|why| from.said(&why.to_string()))
+        Given::of_bytes(&bytes, from).map_err(|why| from.said(&why.to_string()))
     }
 
-    fn of_bytes(bytes: Vec<u8>, from: &End) -> Result<Self, Unclear> {
-        if text::is_record(&bytes) {
+    fn of_bytes(bytes: &[u8], from: &End) -> Result<Self, Unclear> {
+        if text::is_record(bytes) {
             return Ok(Given {
-                board: text::read_record(&bytes)?,
+                board: text::read_record(bytes)?,
                 links: OwnedLinks::default(),
                 terminals: Terminals::default(),
                 from: from.clone(),
                 text: None,
             });
         }
-        let Whole {
-            board,
-            links,
-            terminals,
-            lines,
-            warnings,
-        } = text::parse_bytes(&bytes)?;
-        for warning in warnings {
+        if bytes.starts_with(b"cells ") || bytes.starts_with(b"refused ") {
+            return Err(Unclear {
+                line: None,
+                words: "this is what leafnet printed, not a board".to_string(),
+            });
+        }
+        let whole = text::parse_bytes(bytes)?;
+        let words = String::from_utf8_lossy(bytes).into_owned();
+        Given::of_text(words, whole, from)
+    }
+
+    fn of_text(words: String, whole: Whole, from: &End) -> Result<Self, Unclear> {
+        for warning in &whole.warnings {
             say(&from.said(&format!("warning: {warning}")));
         }
+        let Whole { board, lines, .. } = whole;
         // The board is what its record would say.
         let record = text::pack_board(&board, &lines)?;
         Ok(Given {
             board: text::read_record(&record)?,
-            links,
-            terminals: Terminals::of_text(terminals, &lines.terminals),
+            links: whole.links,
+            terminals: Terminals::of_text(whole.terminals, &lines.terminals),
             from: from.clone(),
-            text: Some(Text {
-                words: String::from_utf8_lossy(&bytes).into_owned(),
-                lines,
-            }),
+            text: Some(Text { words, lines }),
         })
     }
 

@@ -38,10 +38,13 @@ fn solve(words: &Words) -> Result<Vec<u8>, Stop> {
 const TAKES_ALL: &str = "a string takes all text";
 
 fn put_terminals(solved: &Solved, text: &mut String) -> fmt::Result {
-    writeln!(text, "{:<12} {:>12} {:>12}", "terminal", "V", "A")?;
-    for one in &solved.solution.terminals {
+    let all = &solved.solution.terminals;
+    let names = all.iter().map(|one| one.terminal.chars().count());
+    let wide = names.max().unwrap_or(0).max(12);
+    writeln!(text, "{:<wide$} {:>12} {:>12}", "terminal", "V", "A")?;
+    for one in all {
         let [volts, amperes] = [one.volts, solved.without_rest(one.amperes)].map(digits);
-        writeln!(text, "{:<12} {volts:>12} {amperes:>12}", one.terminal)?;
+        writeln!(text, "{:<wide$} {volts:>12} {amperes:>12}", one.terminal)?;
     }
     Ok(())
 }
