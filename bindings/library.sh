@@ -9,8 +9,8 @@ set -eu
 . "$(dirname "$0")/usage.sh"
 answer_help "$@"
 case "$#${1:-}" in
-0) crate=leafmesh made=crates/leafmesh/out/libleafmesh.a what="rt lib" ;;
-1leafnet) crate=leafnet made=crates/leafnet/out/leafnet what="rt run -- --version" ;;
+0) crate=leafmesh made=crates/leafmesh/out/libleafmesh.a what="rt lib" named=LEAFMESH_LIBRARY ;;
+1leafnet) crate=leafnet made=crates/leafnet/out/leafnet what="rt run -- --version" named=LEAFMESH_PROGRAM ;;
 *) refuse_words "[leafnet]" ;;
 esac
 cd "$(dirname "$0")/.."
@@ -47,7 +47,8 @@ if [ -f "$made" ] && [ -f "$made.sum" ] && [ "$(sum_with "$now")" = "$(cat "$mad
     exit 0
 fi
 command -v rt >/dev/null || {
-    echo "library.sh: $made is to be made by \`$what\` in crates/$crate, and there is no rt: README.md, \"Run it\"" >&2
+    echo "library.sh: $made is to be made by \`$what\` in crates/$crate, and there is no rt (README.md, \"Run it\");" \
+        "$named names one that is made elsewhere" >&2
     exit 1
 }
 log=$(mktemp)

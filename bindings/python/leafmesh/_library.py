@@ -67,8 +67,8 @@ def _loaded():
         library = ctypes.CDLL(place)
     except OSError as why:
         raise ImportError(
-            f"leafmesh: no {place} ({why}): install.sh puts it under a prefix, bindings/linking/shared.sh into a "
-            "folder; LEAFMESH_LIBRARY names the folder") from why
+            f"leafmesh: {why}; install.sh puts it under a prefix, bindings/linking/shared.sh into a folder, and "
+            "LEAFMESH_LIBRARY names the folder") from why
     for name, (result, arguments) in DECLARATIONS.items():
         try:
             function = getattr(library, name)

@@ -31,13 +31,13 @@ class Import(unittest.TestCase):
     def test_a_missing_library_is_told_by_name(self):
         with tempfile.TemporaryDirectory() as empty:
             said = imported(empty)
-            self.assertTrue(said.startswith(f"ImportError: leafmesh: no {os.path.join(empty, SONAME)} "), said)
+            self.assertTrue(said.startswith(f"ImportError: leafmesh: {os.path.join(empty, SONAME)}: "), said)
             self.assertIn("install.sh", said)
             self.assertIn(str(Path(empty) / "no.so"), imported(Path(empty) / "no.so"))
 
     def test_without_a_folder_the_loader_looks(self):
         said = imported("")
-        self.assertTrue(said == "" or f"no {SONAME} " in said, said)
+        self.assertTrue(said == "" or f"leafmesh: {SONAME}: " in said, said)
 
     def test_another_library_is_none(self):
         self.assertIn("has no leafmesh_contact: it isn't leafmesh", imported("libc.so.6"))
