@@ -33,14 +33,6 @@ quoted() {
     esac
 }
 
-compiler_is_there() {
-    # shellcheck disable=SC2086
-    case $(${CC:-cc} -dumpmachine 2>/dev/null) in
-    x86_64-*) return 0 ;;
-    *) return 1 ;;
-    esac
-}
-
 # Writes what a template says of this version and prefix. pkg-config reads the prefix between double quotes, and # as
 # the start of a comment; sed reads what pkg-config is to read.
 write_by() { # TEMPLATE TO
@@ -64,7 +56,8 @@ made=$(mktemp -d)
 trap 'rm -rf "$made"' EXIT
 # Before anything is put anywhere.
 if compiler_is_there; then
-    "$root/bindings/linking/shared.sh" "$archive" "$made"
+    "$root/bindings/linking/shared.sh" "$archive" "$made" ||
+        fail "no shared library can be made of $archive by ${CC:-cc}; nothing is installed"
 else
     echo "install.sh: no shared library: that needs a C compiler for x86-64, cc or the one that CC names" >&2
 fi

@@ -114,6 +114,16 @@ install_elsewhere() {
     grep -qx "prefix=$folder/near" "$folder/near/lib/pkgconfig/leafmesh.pc" || fail "a near prefix isn't made absolute"
 }
 
+# A compiler that can't is told, and nothing is left.
+install_with_a_compiler_that_fails() { # PREFIX
+    # shellcheck disable=SC2016
+    printf '#!/bin/sh\n[ "$1" = -dumpmachine ] && echo x86_64-linux-gnu\n' >"$folder/failing"
+    chmod +x "$folder/failing"
+    if CC=$folder/failing "$root/install.sh" "$1" >/dev/null 2>"$folder/said"; then fail "installed all the same"; fi
+    grep -q 'nothing is installed' "$folder/said" || fail "a failing compiler isn't told: $(cat "$folder/said")"
+    [ ! -e "$1" ] || fail "left $1"
+}
+
 # The static library alone, and a line that says so, over an older version.
 install_without_compiler() { # PREFIX
     mkdir -p "$1/lib"
@@ -184,6 +194,7 @@ look_at_shared "$folder/a b/lib/libleafmesh.so"
 link_by_pkg_config "$folder/said"
 install_under_quoted_names
 install_elsewhere
+install_with_a_compiler_that_fails "$folder/none"
 install_without_compiler "$folder/old"
 do_as_the_page_says
 if command -v cmake >/dev/null; then

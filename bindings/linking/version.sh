@@ -12,3 +12,11 @@ series_of() {
     *) echo "${1%%.*}" ;;
     esac
 }
+
+# Whether cc, or what CC names, makes code for x86-64, as a shared library needs.
+compiler_is_there() {
+    case $(${CC:-cc} -dumpmachine 2>/dev/null) in
+    x86_64-*) return 0 ;;
+    *) return 1 ;;
+    esac
+}

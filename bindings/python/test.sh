@@ -1,12 +1,14 @@
 #!/bin/sh
 # test.sh: the tests of the Python package. Where there is no python3 with numpy, or no C compiler to make the shared
-# library, a line says so, and that is all. PYTHON names another python3.
+# library, a line says so, and that is all. PYTHON and CC name other ones.
 set -eu
 # shellcheck source=../usage.sh
 . "$(dirname "$0")/../usage.sh"
 take_no_words "$@"
 # shellcheck source=which.sh
 . "$(dirname "$0")/which.sh"
+# shellcheck source=../linking/version.sh
+. "$(dirname "$0")/../linking/version.sh"
 cd "$(dirname "$0")"
 root=$(cd ../.. && pwd)
 python=$(python_with_numpy)
@@ -14,8 +16,8 @@ python=$(python_with_numpy)
     echo "python left out: that needs python3 with numpy"
     exit 0
 }
-command -v "${CC:-cc}" >/dev/null || {
-    echo "python left out: the shared library needs a C compiler, cc or the one that CC names"
+compiler_is_there || {
+    echo "python left out: the shared library needs a C compiler for x86-64, cc or the one that CC names"
     exit 0
 }
 [ -n "${LEAFMESH_LIBRARY:-}" ] || ../library.sh

@@ -6,6 +6,7 @@ from typing import NamedTuple, Optional
 import numpy as np
 
 from ._library import call
+from .limits import RING_POINTS
 from .rows import RECT, number, numbers
 
 
@@ -37,5 +38,7 @@ def contact(a, b) -> Optional[Border]:
 def strips(ring) -> np.ndarray:
     """The strips of a ring of points (x, y), as RECT, from the bottom, then left to right."""
     points = numbers(ring, "i8", "points", width=2)
-    out = np.zeros(len(points) // 2 * len(points), RECT)
+    # Of more points than a ring may have none is cut.
+    most = min(len(points), RING_POINTS)
+    out = np.zeros(most // 2 * most, RECT)
     return out[: call("leafmesh_strips", points, out).value].copy()

@@ -6,6 +6,7 @@ DEFAULT_LEVEL = 4  # of a board record without a level
 CAP = 256  # the most base cells that a strip has each way
 LAYER_ENTRIES = 64
 POLYGONS = 256
+RING_POINTS = 1024
 SPLITS = 65535  # of a record
 SLOTS = 16384
 TICK = 2.0**-38  # metres

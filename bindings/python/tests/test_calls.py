@@ -126,6 +126,7 @@ class Rings(Refused):
 
     def test_refused_rings(self):
         self.refused(4, 0, leafmesh.strips, [(0, 0), (4, 4), (0, 4)])
+        self.refused(3, 0, leafmesh.strips, np.zeros((10**6, 2), np.int64))
         self.refused(5, 1, Mesh, Settings(16, 3), Polygons.of([(1, 0, 1.0, square(16)), (1, 0, 1.0, square(8))]))
         self.refused(3, 1, Mesh, Settings(8, 2), Polygons.of([(1, 0, 1.0, square(8)), (1, 0, 0.0, square(8))]))
         rows = Polygons([1], [0], [1.0, 1.0], [4], square(8))
