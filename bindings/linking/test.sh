@@ -189,6 +189,8 @@ ask_cmake_for_versions() { # PREFIX
     done
 }
 
+# Over what is there from before, too.
+"$root/install.sh" "$folder/a b" >"$folder/said"
 "$root/install.sh" "$folder/a b" >"$folder/said"
 look_at_shared "$folder/a b/lib/libleafmesh.so"
 link_by_pkg_config "$folder/said"
