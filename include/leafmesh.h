@@ -1,8 +1,8 @@
 /* leafmesh: a quadtree mesh of copper outlines, and its net of conductances, across layers too.
  *
  * Link with the static library that `bindings/library.sh` makes (crates/leafmesh/out/libleafmesh.a); `install.sh
- * PREFIX` puts header, library and a file for pkg-config where compilers look. C99, C11 and C++17; the library is
- * for x86-64 Linux.
+ * PREFIX` puts header, static and shared library, and files for pkg-config and CMake where compilers look. C99, C11
+ * and C++17; the library is for x86-64 Linux.
  *
  * Calls. Every call takes any input and ends with an answer or a refusal; a refused call changes nothing that it
  * was lent. No call allocates, prints, or keeps anything between calls: there are no globals, so any number of
