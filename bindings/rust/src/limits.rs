@@ -42,6 +42,9 @@ pub const SHEET_HIGH: f64 = 1_099_511_627_776.0;
 /// Potentials lie from minus this to this, in volts.
 pub const POTENTIAL: f64 = 1_048_576.0;
 
+/// Currents of terminals lie from minus this to this, in amperes. The library takes none.
+pub const CURRENT: f64 = 1_048_576.0;
+
 /// The least resistance of a via or a channel in ohms, 2^-40.
 pub const RESISTANCE_LOW: f64 = SHEET_LOW;
 

@@ -225,6 +225,20 @@ fn volts_and_amperes_are_two_sides_of_one_terminal() {
     assert!((solution.terminals[2].amperes + 1.5).abs() < 1e-9);
 }
 
+/// The smallest and the largest currents have the resistance of any other.
+#[test]
+fn currents_of_any_size() {
+    let (mesh, net) = meshed(CORNER);
+    for amperes in [1e-300, 1e-20, 1.0, -3.0, 1_048_576.0] {
+        let terminals = [
+            end(Side::North, Drive::Amperes(amperes)),
+            end(Side::South, Drive::Volts(0.0)),
+        ];
+        let solution = on_cells(&mesh, &net, &terminals);
+        assert!((ohms(&solution) - 2.0).abs() < 1e-9, "{amperes}");
+    }
+}
+
 /// What each spot takes.
 #[test]
 fn spots_take_their_nodes() {
@@ -300,8 +314,10 @@ fn terminals_that_cannot_be_held_are_refused() {
         let refused = why(&[end(Side::West, Drive::Volts(bad))]);
         assert!(matches!(refused, Unsolved::OutOfRange { .. }), "{bad}");
     }
-    let refused = why(&[end(Side::West, Drive::Amperes(f64::NAN))]);
-    assert!(matches!(refused, Unsolved::OutOfRange { .. }));
+    for bad in [f64::NAN, f64::INFINITY, 1_048_577.0, -1_048_577.0] {
+        let refused = why(&[end(Side::West, Drive::Amperes(bad))]);
+        assert!(matches!(refused, Unsolved::OutOfRange { .. }), "{bad}");
+    }
     let drifting = why(&[end(Side::West, Drive::Amperes(1.0))]);
     assert!(matches!(drifting, Unsolved::NoPotential { ref terminal } if terminal == "West"));
     let held = Held {

@@ -68,6 +68,17 @@ const SHARE: f64 = 1e-12;
 /// The column that a positive matrix takes to `right`, by conjugate gradients whose steps the diagonal weighs; a row of
 /// none stays 0. Where it comes to no end, the share that the residual fell to.
 pub(super) fn conjugate_gradients(matrix: &Matrix, right: Vec<f64>) -> Result<Vec<f64>, f64> {
+    // At its own size, so that no square is too large or too small for a number.
+    let size = right.iter().fold(0.0, |most: f64, one| most.max(one.abs()));
+    if size == 0.0 {
+        return Ok(right);
+    }
+    let unit = right.iter().map(|one| one / size).collect();
+    let found = of_unit_size(matrix, unit)?;
+    Ok(found.iter().map(|one| one * size).collect())
+}
+
+fn of_unit_size(matrix: &Matrix, right: Vec<f64>) -> Result<Vec<f64>, f64> {
     let diagonal = matrix.diagonal();
     let weight = |(&rest, &own): (&f64, &f64)| if own > 0.0 { rest / own } else { 0.0 };
     let scaled = |rest: &[f64]| -> Vec<f64> { rest.iter().zip(&diagonal).map(weight).collect() };

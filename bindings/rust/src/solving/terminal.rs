@@ -1,6 +1,6 @@
 //! Terminals: where a current enters a board and where it leaves.
 
-use crate::limits::POTENTIAL;
+use crate::limits::{CURRENT, POTENTIAL};
 use crate::{Mesh, Net, Node, Rect, Side};
 use std::fmt;
 
@@ -90,11 +90,12 @@ impl Terminal {
 }
 
 impl Drive {
-    /// Whether it is a number, and a potential that [`power`](crate::power) takes.
+    /// Whether it is a number in range: a potential that [`power`](crate::power) takes, or a current of at most
+    /// [`CURRENT`].
     pub fn is_in_range(self) -> bool {
         match self {
             Drive::Volts(volts) => volts.abs() <= POTENTIAL,
-            Drive::Amperes(amperes) => amperes.is_finite(),
+            Drive::Amperes(amperes) => amperes.abs() <= CURRENT,
         }
     }
 }
