@@ -22,7 +22,13 @@ fn conclude(rt: &HostRuntime, ending: Ending<'_>) -> ExitCode {
 fn main(rt: HostRuntime) -> ExitCode {
     match words(&rt) {
         Ok(words) => {
-            let ending = run(&rt, rt.alloc(), &words, &mut rt.reader(), &mut io::writer(&rt));
+            let ending = run(
+                &rt,
+                rt.alloc(),
+                &words,
+                &mut rt.reader(),
+                &mut io::writer(&rt),
+            );
             conclude(&rt, ending)
         }
         Err(why) if why.kind() == ErrorKind::OutOfMemory => conclude(&rt, Ending::OutOfMemory),

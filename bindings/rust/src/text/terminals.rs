@@ -3,7 +3,7 @@
 use super::form::senseless;
 use super::linking::polygon;
 use super::unit::{component, cut, finite, layer, Unit};
-use crate::limits::POTENTIAL;
+use crate::limits::{CURRENT, POTENTIAL};
 use crate::solving::{Drive, Spot, Terminal};
 use crate::{Rect, Side};
 use std::fmt::{self, Write};
@@ -28,16 +28,23 @@ pub(super) fn terminal_of(words: &[&str], unit: Unit) -> Result<Terminal, String
     let [name, value, kind, spot @ ..] = words else {
         return Err(no_sense());
     };
-    let drive = match *kind {
-        "V" => Drive::Volts(finite("potential", value)?),
-        "A" => Drive::Amperes(finite("current", value)?),
+    let (drive, name_of, most) = match *kind {
+        "V" => (
+            Drive::Volts(finite("potential", value)?),
+            "potential",
+            POTENTIAL,
+        ),
+        "A" => (
+            Drive::Amperes(finite("current", value)?),
+            "current",
+            CURRENT,
+        ),
         _ => return Err(no_sense()),
     };
     if !drive.is_in_range() {
-        let most = POTENTIAL;
         let value = cut(value);
         return Err(format!(
-            "potential {value} is out of range: -{most} to {most}"
+            "{name_of} {value} is out of range: -{most} to {most}"
         ));
     }
     Ok(Terminal {
