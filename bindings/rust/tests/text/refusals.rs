@@ -304,7 +304,7 @@ fn terminals_that_cannot_be_are_told_by_their_line() {
             "potential 1048577 is out of range: -1048576 to 1048576",
         ),
         (
-            "terminal in -1048577 A end 1 0 west",
+            "in -1048577 A end 1 0 west",
             "current -1048577 is out of range: -1048576 to 1048576",
         ),
         ("in 10 A end 65536 0 west", "layer 65536 is out of range"),
