@@ -113,7 +113,11 @@ pub fn put(picture: &Picture, layout: &Layout, text: &mut String) -> Result<f64,
     Ok(pen.y + MARGIN)
 }
 
+/// Without a panel there is no length.
 fn put_length(layout: &Layout, pen: &mut Pen, text: &mut String) -> fmt::Result {
+    if layout.layers.is_empty() {
+        return Ok(());
+    }
     let (ticks, words) = round_length(layout.size[0] / layout.unit / 4.0);
     let (x, y, length) = (pen.x, pen.y, ticks * layout.unit);
     writeln!(
