@@ -182,6 +182,12 @@ fn texts_out_of_order_are_not_leafnets() {
     for why in [
         refused(&|printed| printed.leaves.swap(0, 1)),
         refused(&|printed| printed.leaves.rotate_right(1)),
+        refused(&|printed| printed.leaves[0].id = 99),
+        refused(&|printed| {
+            for leaf in &mut printed.leaves {
+                leaf.polygon = 1 - leaf.polygon;
+            }
+        }),
         refused(&|printed| printed.nodes.swap(4, 5)),
         refused(&|printed| printed.nodes[3].layer = 2),
         refused(&|printed| printed.nodes.extend(printed.nodes.clone())),
