@@ -89,7 +89,7 @@ fn words_that_make_no_sense_are_told_with_the_usage() {
             vec!["net", "--", "-a", "-b"],
             "one file too many: -b",
         ),
-        (BOARD, vec!["net", "-o"], "a word is missing: -o"),
+        (BOARD, vec!["net", "-o"], "-o wants a word"),
         (
             BOARD,
             vec!["net", "-o", "a", "-o", "b"],
@@ -103,7 +103,7 @@ fn words_that_make_no_sense_are_told_with_the_usage() {
         (
             BOARD,
             vec!["solve", "--terminal"],
-            "a word is missing: --terminal",
+            "--terminal wants a word",
         ),
         (
             BOARD,
@@ -148,8 +148,10 @@ fn words_that_make_no_sense_are_told_with_the_usage() {
             "--terminal says nothing without --power or --current",
         ),
         (DRAW, vec!["--border"], "unknown option: --border"),
-        (DRAW, vec!["--board"], "a word is missing: --board"),
+        (DRAW, vec!["--board"], "--board wants a word"),
         (RELAX, vec!["--power"], "unknown option: --power"),
+        (RELAX, vec!["--power=1"], "unknown option: --power"),
+        (DRAW, vec![board, "--power=high"], "--power takes no word"),
     ] {
         let name = tool.rsplit('/').next().expect("a name");
         let said = senseless(tool, &words, SQUARE);
@@ -174,6 +176,27 @@ fn words_that_make_no_sense_are_told_with_the_usage() {
             "{said}"
         );
     }
+}
+
+/// A word may stand behind an equals sign, too.
+#[test]
+fn words_behind_equals_signs() {
+    let folder = Folder::new("equals");
+    let board = folder.put("board.txt", SQUARE);
+    let apart = [
+        "solve",
+        &board,
+        "--terminal",
+        TERMINALS[1],
+        "--terminal",
+        TERMINALS[3],
+    ];
+    let joined = TERMINALS.map(|word| format!("--terminal={word}"));
+    let joined = ["solve", &joined[1], &joined[3], &board];
+    assert_eq!(made(BOARD, &joined, b""), made(BOARD, &apart, b""));
+    // Only the first one parts them.
+    let title = text_made(DRAW, &[&board, "--title=a=b"], b"");
+    assert!(title.contains(">a=b<"));
 }
 
 #[test]

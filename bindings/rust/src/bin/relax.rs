@@ -32,7 +32,7 @@ The potential of each node of what leafnet printed, from a file or from standard
 the net's conductances.
 
   --board      the board that leafnet printed, its text or its record, with the text's terminals
-  --terminal   where current enters or leaves, as in a line of a text; without a board's text in ticks, and no pad
+  --terminal   where current enters or leaves, as in a line of the text; without --board in ticks, and not a pad
 ";
 
 fn main() -> ExitCode {

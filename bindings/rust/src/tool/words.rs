@@ -137,12 +137,17 @@ impl Words {
         }
     }
 
+    /// A switch, and its word, which stands behind it or behind an equals sign.
     fn take_switch(
         &mut self,
         command: &Command,
-        name: &str,
+        word: &str,
         words: &mut impl Iterator<Item = OsString>,
     ) -> Result<(), Stop> {
+        let (name, own) = match word.split_once('=') {
+            Some((name, own)) => (name, Some(OsString::from(own))),
+            None => (word, None),
+        };
         let mut known = command.switches.iter().chain([&OUTPUT]);
         let Some(&(name, takes)) = known.find(|(known, _)| *known == name) else {
             return Err(Stop::Senseless(format!("unknown option: {name}")));
@@ -150,12 +155,13 @@ impl Words {
         if takes != Takes::Words && self.has(name) {
             return Err(Stop::Senseless(format!("{name} is given twice")));
         }
-        let word = match takes {
-            Takes::Nothing => Some(OsString::new()),
-            Takes::Word | Takes::Words => words.next(),
+        let value = match (takes, own) {
+            (Takes::Nothing, None) => Ok(OsString::new()),
+            (Takes::Nothing, Some(_)) => Err("takes no word"),
+            (_, own) => own.or_else(|| words.next()).ok_or("wants a word"),
         };
-        let word = word.ok_or_else(|| Stop::Senseless(format!("a word is missing: {name}")))?;
-        self.switches.push((name, word));
+        let value = value.map_err(|why| Stop::Senseless(format!("{name} {why}")))?;
+        self.switches.push((name, value));
         Ok(())
     }
 }
