@@ -60,12 +60,16 @@ cp "$boards/neck.record" "$folder/-v"
 ends 0 "$neck" '' "$folder/-v" </dev/null
 ends 0 "$neck" '' "$folder/a b" </dev/null
 
-# Refusals, in the words of the Rust crate's Display (bindings/rust/src/refusal.rs), on both ends.
+# The words of all ten refusals are the Rust crate's, in their order.
+quoted() { sed -n "/$1/,/^[]}]/s/.*\"\(.*\)\".*/\1/p" "$2"; }
+quoted '^fn words' ../../crates/leafnet_command/src/ending.rt >"$folder/words"
+quoted '^const KNOWN' ../rust/src/refusal.rs | diff "$folder/words" - || fail "the Rust crate has other words"
+[ "$(wc -l <"$folder/words")" = 10 ] || fail "there are words for $(wc -l <"$folder/words") refusals"
+# Some of them, on both ends.
 refused() { # NUMBER PLACE WORDS, of this standard input
     cat >"$folder/record"
     ends 1 "refused $1 $2$line" "leafnet: refused $1 $2: $3$line" <"$folder/record"
     ends 1 "refused $1 $2$line" "leafnet: refused $1 $2: $3$line" "$folder/record" </dev/null
-    grep -qF "\"$3\"" ../rust/src/refusal.rs || fail "the Rust crate has other words than: $3"
 }
 refused 1 0 'the record is not of version 1' <"$boards/neck.txt"
 refused 2 0 'the record is cut short, too long, or gives a wrong length' </dev/null
