@@ -597,12 +597,19 @@ fn solutions_of_something_else_are_drawn_all_the_same() {
         .by_flow(&solved.mesh, &other, Quantity::PowerDensity)
         .svg();
     assert_eq!(svg.matches("<title>leaf ").count(), solved.net.cells.len());
-    other.cells.clear();
+    other.cells.fill(Flow::default());
     let svg = solved
         .bare()
-        .by_flow(&solved.mesh, &other, Quantity::SheetCurrent)
+        .by_flow(&solved.mesh, &other, Quantity::PowerDensity)
         .svg();
     assert!(svg.contains(">hottest: none, since no leaf takes power<"));
+    let by_net = System::of_net(solved.net.rows()).and_then(|system| system.solve(&solved.held));
+    let by_net = by_net.expect("a solution");
+    let svg = solved
+        .bare()
+        .by_flow(&solved.mesh, &by_net, Quantity::SheetCurrent)
+        .svg();
+    assert!(svg.contains(">hottest: not known, since the solution has no power of a leaf<"));
     assert_uncut(&svg);
 
     let settings = Settings {

@@ -166,7 +166,11 @@ fn put_most(flows: &Flows, picture: &Picture, pen: &mut Pen, text: &mut String) 
         format!("leaf {} (layer {}), {flowing}", cell.id, cell.layer)
     };
     let Some(hottest) = picture.hottest() else {
-        return pen.put_line("hottest: none, since no leaf takes power", text);
+        let words = match flows.cells.is_empty() {
+            true => "hottest: not known, since the solution has no power of a leaf",
+            false => "hottest: none, since no leaf takes power",
+        };
+        return pen.put_line(words, text);
     };
     put_target([pen.x + 7.0, pen.y - 4.0], 4.5, text)?;
     pen.x += SIGN;

@@ -188,8 +188,8 @@ impl Picture {
 
     /// Colours the cells by what flows in them: cell i of the solution is leaf i of the mesh. Power over area and sheet
     /// current stand beside each other, with every leaf and in the legend, whichever gives the colours. A cell that the
-    /// solution has no power of is taken to have none, so that a solution of [`System::of_net`], which has none of any,
-    /// shows nothing.
+    /// solution has no power of has the colour of none. A solution of [`System::of_net`] has no power of any, and the
+    /// legend says so.
     ///
     /// [`System::of_net`]: crate::solving::System::of_net
     pub fn by_flow(mut self, mesh: &Mesh, solution: &Solution, quantity: Quantity) -> Self {
