@@ -382,6 +382,36 @@ fn rounds_of_three_terminals_say_what_stands_at_each() {
     );
 }
 
+/// Where no current flows there is no resistance, and nothing to compare.
+#[test]
+fn a_board_at_one_potential_is_at_rest() {
+    let board = [
+        STRIP,
+        "terminal a 1 V end 1 0 west\nterminal b 1 V end 1 0 east\n",
+    ]
+    .concat();
+    let table = text_made(BOARD, &["solve"], board.as_bytes());
+    assert_eq!(behind(&table, "a "), "1            0");
+    assert_eq!(behind(&table, "power "), "0 W");
+    assert!(
+        !table.contains("V / A") && !table.contains("NaN"),
+        "{table}"
+    );
+    let output = run(
+        BOARD,
+        &["refine", "--rounds", "1", "--share", "1"],
+        board.as_bytes(),
+    );
+    assert_eq!(output.status.code(), Some(0), "{output:?}");
+    let said = String::from_utf8(output.stderr).expect("words");
+    let last = said.lines().last().expect("a line");
+    let words = last.strip_prefix("round 1: 16 leaves, a 1 V 0 A, b 1 V 0 A, ");
+    let watts = words
+        .and_then(|words| words.strip_suffix(" W"))
+        .expect(last);
+    assert!(watts.parse::<f64>().expect("a number") < 1e-20, "{last}");
+}
+
 /// By the net's conductances; with the board its text's terminals and pads are taken.
 #[test]
 fn potentials_of_what_leafnet_printed() {

@@ -4,8 +4,10 @@ use super::Given;
 use crate::solving::{Held, Solution, System, Unsolved};
 use crate::{Leaf, Mesh, Net};
 
-/// A current below this share of the largest one of a terminal is none.
-const REST: f64 = 1e-9;
+/// A current below this share of the largest one at a terminal is what the iteration leaves.
+const LEFT: f64 = 1e-9;
+/// One below this share of what the largest potential would drive through a square is what rounding leaves.
+const ROUNDED: f64 = 1e-13;
 
 /// What a net is solved by.
 #[derive(Clone, Copy, Debug, PartialEq, Eq)]
@@ -24,6 +26,8 @@ pub struct Solved {
     pub solution: Solution,
     /// Of each cell: the element's own, or by the slope at its centre where the net's conductances are taken.
     pub watts: Vec<f64>,
+    /// Currents up to this are none.
+    rest: f64,
 }
 
 impl Given {
@@ -67,6 +71,7 @@ impl Given {
         };
         let (solution, watts) = solved().map_err(|why| self.blame_unsolved(&mesh, &net, &why))?;
         Ok(Solved {
+            rest: rest_of(&net, &solution),
             mesh,
             net,
             held,
@@ -74,6 +79,14 @@ impl Given {
             watts,
         })
     }
+}
+
+fn rest_of(net: &Net, solution: &Solution) -> f64 {
+    let largest = |all: &mut dyn Iterator<Item = f64>| all.map(f64::abs).fold(0.0, f64::max);
+    let amperes = largest(&mut solution.terminals.iter().map(|one| one.amperes));
+    let volts = largest(&mut solution.volts.iter().copied());
+    let siemens = largest(&mut net.cells.iter().map(|cell| 1.0 / cell.sheet));
+    (LEFT * amperes).max(ROUNDED * volts * siemens)
 }
 
 impl Solved {
@@ -100,15 +113,13 @@ impl Solved {
         let [from, to] = &self.solution.terminals[..] else {
             return None;
         };
-        let ohms = (from.volts - to.volts) / from.amperes;
-        ohms.is_finite().then_some(ohms)
+        let flows = from.amperes.abs() > self.rest;
+        flows.then(|| (from.volts - to.volts) / from.amperes)
     }
 
-    /// A current, or 0 where it is no more than what the iteration leaves.
+    /// A current, or 0 where it is no more than what iteration and rounding leave.
     pub fn without_rest(&self, amperes: f64) -> f64 {
-        let all = self.solution.terminals.iter().map(|one| one.amperes.abs());
-        let most = all.fold(0.0, f64::max);
-        if amperes.abs() > REST * most {
+        if amperes.abs() > self.rest {
             amperes
         } else {
             0.0

@@ -142,10 +142,11 @@ fn round_in_words(round: usize, solved: &Solved, before: Option<&Solved>) -> Str
             format!("{}{} W", each.collect::<String>(), digits(measure(solved)))
         }
     };
-    let change = before.map_or(String::new(), |before| {
-        let change = 100.0 * (measure(solved) / measure(before) - 1.0);
-        format!(", {change:+.3} in 100")
-    });
+    let change = before.map(|before| 100.0 * (measure(solved) / measure(before) - 1.0));
+    let change = match change {
+        Some(change) if change.is_finite() => format!(", {change:+.3} in 100"),
+        _ => String::new(),
+    };
     format!(
         "round {round}: {} leaves, {words}{change}",
         solved.net.cells.len()
