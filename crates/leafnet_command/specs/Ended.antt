@@ -8,8 +8,9 @@ use Rattle.refusals.specs.Said.{refusal, is_accepted}
 use Rattle.leafnet_text.specs.Lines.{refusal_line}
 use Rattle.leafnet_text.specs.Output.{ended, printed}
 use Rattle.leafnet_text.specs.Fronts.{AppendsFront}
-use Rattle.leafnet_command.specs.Asked.{Due, known, hidden, nothing}
+use Rattle.leafnet_command.specs.Asked.{Asked, asked_in, Due, known, hidden, nothing}
 use Rattle.leafnet_command.specs.declared.request.TheConstants.{USAGE}
+use Rattle.leafnet_command.specs.declared.request.Request.TheVariants.{Answer}
 use Rattle.leafnet_command.specs.declared.ending.Ending.{Ending}
 use Rattle.leafnet_command.specs.declared.ending.Ending.TheVariants.{Printed, Refused, Misused, Unread, Unwritten, OutOfMemory}
 
@@ -52,13 +53,18 @@ IsAnswered (Unread source why) = ⊥
 IsAnswered (Unwritten why) = ⊥
 IsAnswered OutOfMemory = ⊥
 
--- a run of which this is due may end so: by another ending only where an end or the memory fails
+-- a run of which this is due may end so. Whether an end or the memory fails is left open
 abbrev pub EndsAs : Due → Ending → Type 0
 EndsAs (known says) Printed = IsTrue (is_accepted says)
 EndsAs (known says) (Refused why) = says ≡ refusal why
 EndsAs nothing ending = ending ≡ Misused
 EndsAs due Misused = ⊥
 EndsAs due ending = ⊤
+
+-- what can't be read is what was asked for
+abbrev pub NamesAsked : Asked → Ending → Type 0
+NamesAsked asked (Unread source why) = asked_in (Some (Answer source)) ≡ asked
+NamesAsked asked ending = ⊤
 
 -- standard output gets what is due
 abbrev pub Gets : Due → Option (List ℕ) → Option (List ℕ) → Type 0

@@ -5,8 +5,10 @@ ghost use Rattle.leafnet_command.specs.Asked.{asked_by, asked_by_word, asked_in}
 /// What `--help` prints, and what is said of a command line that asks for nothing known.
 pub const USAGE: &str = "usage: leafnet [FILE]
        leafnet --help | --version
-Reads a board record from FILE, or from standard input where FILE is - or left out, and prints its mesh and its net.
-Ends with 0; with 1 where the record is refused, or an end fails; with 2 where it is called in another way.
+Prints the mesh and the net of the board record in FILE, or on standard input
+where FILE is - or left out. Ends with 0; with 1 where the record is refused, or
+where it can't be read or the text can't be written; with 2 where it is called in
+another way.
 ";
 
 /// What `--version` prints: the version of header and crate, too.

@@ -1,8 +1,9 @@
 //! A run of leafnet, over any reader and any writer.
-ghost use Rattle.std.specs.Prelude.{map, string_bytes};
+ghost use Rattle.std.specs.Prelude.{Some, map, string_bytes};
 ghost use Rattle.refusals.specs.Said.{accepted};
-ghost use Rattle.leafnet_command.specs.Asked.{answer, asked_by, asked_in, due, known};
-ghost use Rattle.leafnet_command.specs.Ended.{EndsAs, Gets, GetsFront, IsAnswered};
+ghost use Rattle.leafnet_command.specs.declared.request.Request.TheVariants.{Answer};
+ghost use Rattle.leafnet_command.specs.Asked.{Asked, answer, asked_by, asked_in, due, known};
+ghost use Rattle.leafnet_command.specs.Ended.{EndsAs, Gets, GetsFront, IsAnswered, NamesAsked};
 
 use crate::ending::Ending;
 use crate::request::{Request, Source, USAGE, VERSION, parse};
@@ -17,6 +18,7 @@ use std::rt::Files;
 // Prints a text of the program's own.
 fn print<'a, W: Write>(output: &mut W, text: &str) -> Ending<'a>
     ensures ending { EndsAs (known (accepted text.now)) result }
+    ensures nothing_unread { (asked : Asked) → NamesAsked asked result }
     ensures text { IsAnswered result → Gets (known (accepted text.now)) (W.contents output.old) (W.contents output.new) }
     ensures front { GetsFront (known (accepted text.now)) (W.contents output.old) (W.contents output.new) }
 {
@@ -34,6 +36,7 @@ fn print_answer<'a, R: Read, W: Write>(
     output: &mut W,
 ) -> Ending<'a>
     ensures ending { EndsAs (due answer (R.remaining reader.old)) result }
+    ensures named { NamesAsked (asked_in (Some (Answer source.entry))) result }
     ensures text { IsAnswered result
         → Gets (due answer (R.remaining reader.old)) (W.contents output.old) (W.contents output.new) }
     ensures front { GetsFront (due answer (R.remaining reader.old)) (W.contents output.old) (W.contents output.new) }
@@ -56,6 +59,7 @@ fn serve<'a, F: Files, R: Read, W: Write>(
     output: &mut W,
 ) -> Ending<'a>
     ensures ending { EndsAs (due (asked_in request.entry) (R.remaining input.old)) result }
+    ensures named { NamesAsked (asked_in request.entry) result }
     ensures text { IsAnswered result
         → Gets (due (asked_in request.entry) (R.remaining input.old)) (W.contents output.old) (W.contents output.new) }
     ensures front { GetsFront (due (asked_in request.entry) (R.remaining input.old)) (W.contents output.old) (W.contents output.new) }
@@ -84,6 +88,7 @@ pub fn run<'a, F: Files, R: Read, W: Write>(
     output: &mut W,
 ) -> Ending<'a>
     ensures ending { EndsAs (due (asked_by (map string_bytes words.now)) (R.remaining input.old)) result }
+    ensures named { NamesAsked (asked_by (map string_bytes words.now)) result }
     ensures text { IsAnswered result → Gets (due (asked_by (map string_bytes words.now)) (R.remaining input.old))
         (W.contents output.old) (W.contents output.new) }
     ensures front { GetsFront (due (asked_by (map string_bytes words.now)) (R.remaining input.old))
