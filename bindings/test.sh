@@ -62,6 +62,19 @@ c/run.sh
 say "Rust: tests, and examples build"
 (cd rust && cargo test --offline --quiet)
 
+say "Rust: form, lints and pages, by what cargo has here"
+if cargo fmt --version >/dev/null 2>&1; then
+    (cd rust && cargo fmt --check)
+else
+    echo "left out: no rustfmt"
+fi
+if cargo clippy --version >/dev/null 2>&1; then
+    (cd rust && cargo clippy --offline --quiet --all-targets -- -D warnings)
+else
+    echo "left out: no clippy"
+fi
+(cd rust && RUSTDOCFLAGS="-D warnings -D missing_docs" cargo doc --offline --quiet --no-deps)
+
 say "the crate from another workspace, beside it and around it"
 mkdir -p "$folder/beside/user/src"
 printf '[workspace]\nmembers = ["user"]\nresolver = "2"\n' >"$folder/beside/Cargo.toml"
@@ -141,8 +154,7 @@ leaves=$(grep -c '<title>leaf ' "$folder/layers.svg")
 [ "$leaves" -ge 1500 ] || fail "the two layers have $leaves leaves"
 "$bin/board" net <../boards/vias.txt >"$folder/vias.net"
 head -n 1 "$folder/vias.net" | grep -q ' links [1-9]' || fail "no links in the text of vias"
-"$bin/relax" --board ../boards/vias.txt --terminal "in 10 A end 1 0 south" --terminal "out 0 V end 2 1 north" \
-    <"$folder/vias.net" >"$folder/vias.volts"
+"$bin/relax" --board ../boards/vias.txt <"$folder/vias.net" >"$folder/vias.volts"
 "$bin/draw" --record ../boards/vias.txt --potentials "$folder/vias.volts" <"$folder/vias.net" >"$folder/vias.svg"
 if "$bin/board" pack <../boards/vias.txt >"$folder/vias.record" 2>"$folder/said"; then
     fail "links went into a record"

@@ -11,8 +11,8 @@
 //! joins polygons and layers: contacts, vias and channels.
 //!
 //! **The net's conductances are the original's, bit for bit, and not the copper's at a change of level**, beside other
-//! copper of the layer and where two polygons of a component meet: see docs/CONDUCTANCES.md. [`solving`] shows
-//! how to solve on the cells instead.
+//! copper of the layer and where two polygons of a component meet: see docs/CONDUCTANCES.md. [`solving`] solves on the
+//! cells instead, between [`Terminal`](solving::Terminal)s at a potential or with a current.
 //!
 //! **Where bands of a ring get cells of unequal width the net is wrong**, and [`Table::check_by_layer`] names a node
 //! that isn't joined: [`Mesh`] and the tools refuse such a board ([`Unmeshed`]). It is proved not to happen where all
@@ -20,7 +20,8 @@
 //! [`Settings::cap`] of them, and no two polygons of one layer and component touch.
 //!
 //! [`Table`] holds a lent row and its head, which every call keeps; [`Mesh`] holds a row of its own, its polygons and
-//! the calls in one. The library's own calls, over any row and any head, are in [`ffi`].
+//! the calls in one, is refined by place and by heat, and is written back as a board ([`Mesh::board`]). The library's
+//! own calls, over any row and any head, are in [`ffi`].
 //!
 //! **Maps of one board compare by name.** An id says when a cell was made, so a board that is marked and balanced every
 //! week has other ids than one with the same marks that is balanced once. A [`CellName`], the root and the quadrants

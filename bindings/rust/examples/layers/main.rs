@@ -6,10 +6,10 @@
 //! layers-power.svg (power density at 10 A), and layers.vtk for ParaView; without a folder it prints only.
 
 use leafmesh::drawing::{densities, Picture, Quantity};
-use leafmesh::solving::{Drive, Held, Solution, Spot, System, Terminal};
+use leafmesh::solving::{Held, Solution, System};
 use leafmesh::text::{self, Whole};
 use leafmesh::vtk::{self, Field};
-use leafmesh::{Link, Links, Mesh, Net, Refusal, Side};
+use leafmesh::{Link, Links, Mesh, Net, Refusal};
 use std::env;
 use std::error::Error;
 use std::fs;
@@ -18,8 +18,6 @@ use std::path::Path;
 use std::process::ExitCode;
 
 const BOARD: &str = include_str!("../../../../boards/vias.txt");
-/// From the bottom edge of layer 1 to the top edge of layer 2.
-const AMPERES: f64 = 10.0;
 
 fn main() -> ExitCode {
     match run() {
@@ -33,7 +31,12 @@ fn main() -> ExitCode {
 
 fn run() -> Result<(), Box<dyn Error>> {
     let mut out = stdout();
-    let Whole { board, links, .. } = text::parse_whole(BOARD)?;
+    let Whole {
+        board,
+        links,
+        terminals,
+        ..
+    } = text::parse_whole(BOARD)?;
     let links = links.rows();
     let mesh = Mesh::of_board(&board)?;
     let net = mesh.linked_net(links)?;
@@ -46,7 +49,7 @@ fn run() -> Result<(), Box<dyn Error>> {
         net.links
     )?;
 
-    let held = mesh.held(&net, &terminals());
+    let held = mesh.held(&net, &terminals);
     let mut solved = |name: &str, system: System, held: &[Held]| -> Result<_, Box<dyn Error>> {
         let solution = system.solve(held)?;
         let into = &solution.terminals[0];
@@ -61,7 +64,8 @@ fn run() -> Result<(), Box<dyn Error>> {
     solved("the net's conductances", System::of_net(net.rows())?, &held)?;
     let solution = solved("bilinear elements", System::of_cells(&net)?, &held)?;
 
-    writeln!(out, "at {AMPERES} A, by bilinear elements:")?;
+    let amperes = solution.terminals[0].amperes;
+    writeln!(out, "at {amperes:.0} A, by bilinear elements:")?;
     let currents = currents_of(&mesh, links, &solution)?;
     for one in &currents {
         // What is nearly nothing has no sign.
@@ -83,19 +87,6 @@ fn run() -> Result<(), Box<dyn Error>> {
         Some(folder) => put(Path::new(&folder), &mesh, (&net, links), &held, &solution),
         None => Ok(()),
     }
-}
-
-/// The current goes in along the bottom of layer 1 and comes out along the top of layer 2's bar.
-fn terminals() -> [Terminal; 2] {
-    let end = |layer, component, side| Spot::End {
-        layer,
-        component,
-        side,
-    };
-    [
-        Terminal::new("in", end(1, 0, Side::South), Drive::Amperes(AMPERES)),
-        Terminal::new("out", end(2, 1, Side::North), Drive::Volts(0.0)),
-    ]
 }
 
 fn words(link: Link) -> String {
