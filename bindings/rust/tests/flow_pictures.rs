@@ -634,13 +634,15 @@ fn solutions_of_something_else_are_drawn_all_the_same() {
     assert_eq!(svg.matches("<title>leaf ").count(), solved.net.cells.len());
 }
 
-/// The picture of a board so many millimetres high, in cells of 0.25 mm: how many leaves it has, and how long it takes.
-fn time_of(high: u32) -> (usize, Duration) {
-    let ring = format!("0 0\n32 0\n32 {high}\n0 {high}\n");
-    let board = format!("level 1\npitch 0.25\npolygon 1 0 0.0005\n{ring}");
-    let board = text::parse(&board).expect("a board");
+/// Some 16,000 leaves: a third of a second without optimizing. Other work on the processors makes one try take longer,
+/// and not all of them.
+#[test]
+fn a_large_picture_is_made_at_once() {
+    let board = "level 1\npitch 0.25\npolygon 1 0 0.0005\n0 0\n32 0\n32 31\n0 31\n";
+    let board = text::parse(board).expect("a board");
     let mesh = Mesh::of_board(&board).expect("a mesh");
     let net = mesh.net().expect("a net");
+    assert!(net.cells.len() > 15_800);
     let flow = Flow {
         watts: 1e-3,
         current: [1.0, 0.0],
@@ -653,27 +655,16 @@ fn time_of(high: u32) -> (usize, Duration) {
         edge_watts: Vec::new(),
     };
     let held = mesh.held(&net, &across());
-    let start = Instant::now();
-    let picture = Picture::of_mesh("A board", &mesh, net.rows()).expect("a picture");
-    let svg = picture
-        .by_flow(&mesh, &solution, Quantity::PowerDensity)
-        .with_terminals(&net.nodes, &held, &[])
-        .svg();
-    let took = start.elapsed();
-    assert_eq!(svg.matches("<title>leaf ").count(), net.cells.len());
-    (net.cells.len(), took)
-}
-
-/// Some 16,000 leaves: a third of a second without optimizing, and where other work takes the processors hardly more
-/// for each leaf than a picture of a quarter of them.
-#[test]
-fn a_large_picture_is_made_at_once() {
-    let (leaves, took) = time_of(31);
-    assert!(leaves > 15_800);
-    if took > Duration::from_secs(3) {
-        let (fewer, least) = time_of(8);
-        let times = took.as_secs_f64() / least.as_secs_f64();
-        let more = leaves as f64 / fewer as f64;
-        assert!(times < 2.5 * more, "{took:?}, {times:.1} times as long");
-    }
+    let is_quick = |_: u32| {
+        let start = Instant::now();
+        let picture = Picture::of_mesh("A board", &mesh, net.rows()).expect("a picture");
+        let svg = picture
+            .by_flow(&mesh, &solution, Quantity::PowerDensity)
+            .with_terminals(&net.nodes, &held, &[])
+            .svg();
+        let took = start.elapsed();
+        assert_eq!(svg.matches("<title>leaf ").count(), net.cells.len());
+        took < Duration::from_secs(2)
+    };
+    assert!((0..12).any(is_quick));
 }
