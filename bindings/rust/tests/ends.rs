@@ -56,20 +56,29 @@ fn works() -> Vec<(&'static str, Vec<&'static str>, Vec<u8>)> {
     works
 }
 
+/// What `--help` shows, in lines that a terminal has room for.
+fn help_of(tool: &str, words: &[&str]) -> String {
+    let help = text_made(tool, words, b"");
+    assert!(
+        help.ends_with('\n') && help.lines().all(|line| line.len() <= 80),
+        "{help}"
+    );
+    help
+}
+
 #[test]
 fn help_and_versions_are_shown() {
     for tool in [BOARD, DRAW, RELAX] {
         let name = tool.rsplit('/').next().expect("a name");
-        assert!(text_made(tool, &["--help"], b"").starts_with(&format!("usage: {name} ")));
+        assert!(help_of(tool, &["--help"]).starts_with(&format!("usage: {name} ")));
         let version = format!("{name} {}\n", env!("CARGO_PKG_VERSION"));
         assert_eq!(text_made(tool, &["--version"], b""), version);
     }
-    let help = text_made(BOARD, &["--help"], b"");
+    let help = help_of(BOARD, &["--help"]);
     for command in COMMANDS {
         assert!(help.contains(&format!("\n  {command} ")), "{command}");
-        let own = text_made(BOARD, &[command, "--help"], b"");
+        let own = help_of(BOARD, &[command, "--help"]);
         assert!(own.starts_with(&format!("usage: board {command} ")));
-        assert!(own.lines().all(|line| line.len() <= 120), "{command}");
         made(BOARD, &[command, "--version"], b"");
     }
 }

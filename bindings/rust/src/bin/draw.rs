@@ -32,21 +32,31 @@ const DRAW: Tool = Tool {
 };
 
 const HELP: &str = "\
-usage: draw BOARD [--power | --current] [--terminal \"NAME VALUE V|A PLACE\"].. [--borders] [--title WORDS] [-o FILE]
-       draw [--printed FILE] [--record FILE [--potentials FILE]] [--borders] [--title WORDS] [-o FILE]
+usage: draw BOARD [--power | --current] [--terminal WORDS] .. [--borders]
+            [--title WORDS] [-o FILE]
+       draw [--printed FILE] [--record FILE [--potentials FILE]] [--borders]
+            [--title WORDS] [-o FILE]
        draw --help | --version
 
-A picture (SVG) of a board's text or record, of any size; without a board, of what leafnet printed, from standard input.
+A picture (SVG) of a board's text or record, of any size; without a board, of
+what leafnet printed, from standard input.
 
-  BOARD         the board's file, or - for standard input; --board FILE says the same
-  --power       cells by power density, as it flows between the terminals; otherwise by level
-  --current     cells by sheet current
-  --terminal    where current enters or leaves, as in a line of the text; instead of one of the same name
-  --borders     a line on every border that two leaves share, the longer the wider
-  --title       words over the picture; without them the board's file
-  --printed     what leafnet printed, from a file
-  --record      the board that leafnet printed, its record or its text
-  --potentials  one number a node, in volts, as relax writes them: cells by the power that they bring about
+  BOARD             the board's file, or - for standard input; --board FILE says
+                    the same
+  --power           leaves by power density, as it flows between the terminals;
+                    otherwise by level
+  --current         leaves by sheet current
+  --terminal WORDS  where current enters or leaves, as in a line of the text:
+                    \"NAME VALUE V|A end LAYER COMPONENT west|east|south|north\",
+                    \".. edge|rect LAYER COMPONENT X0 Y0 X1 Y1\" or
+                    \".. pad POLYGON\"; instead of one with the same name
+  --borders         a line on every border that two leaves share, the longer the
+                    wider
+  --title WORDS     words over the picture; without them the board's file
+  --printed FILE    what leafnet printed, from a file
+  --record FILE     the board that leafnet printed, its record or its text
+  --potentials FILE one number a node, in volts, as relax writes them: leaves by
+                    the power that they bring about
 ";
 
 fn main() -> ExitCode {

@@ -25,14 +25,19 @@ const RELAX: Tool = Tool {
 };
 
 const HELP: &str = "\
-usage: relax [FILE] [--board FILE] [--terminal \"NAME VALUE V|A PLACE\"].. [-o FILE]
+usage: relax [FILE] [--board FILE] [--terminal WORDS] .. [-o FILE]
        relax --help | --version
 
-The potential of each node of what leafnet printed, from a file or from standard input: one number a line, in volts, by
-the net's conductances.
+The potential of each node of what leafnet printed, from a file or from standard
+input: one number a line, in volts, by the net's conductances.
 
-  --board      the board that leafnet printed, its text or its record, with the text's terminals
-  --terminal   where current enters or leaves, as in a line of the text; without --board in ticks, and not a pad
+  --board FILE      the board that leafnet printed, its text or its record, with
+                    the text's terminals
+  --terminal WORDS  where current enters or leaves, as in a line of the text:
+                    \"NAME VALUE V|A end LAYER COMPONENT west|east|south|north\",
+                    \".. edge|rect LAYER COMPONENT X0 Y0 X1 Y1\" or
+                    \".. pad POLYGON\"; instead of one with the same name;
+                    without --board in ticks, and no pad
 ";
 
 fn main() -> ExitCode {

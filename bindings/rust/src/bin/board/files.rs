@@ -10,43 +10,54 @@ const POWER: Switch = ("--power", Takes::Nothing);
 
 pub const VTK: Command = Command {
     name: "vtk",
-    help: "\
-usage: board vtk [FILE] [--power] [--terminal \"NAME VALUE V|A PLACE\"].. [-o FILE]
+    help: concat!(
+        "\
+usage: board vtk [FILE] [--power] [--terminal WORDS] .. [-o FILE]
 
-The mesh as a file for ParaView (VTK's legacy form): leaves as quads, links as lines.
+The mesh as a file for ParaView (VTK's legacy form): leaves as quads, links as
+lines.
 
-  --power      with what flows between the terminals: watts, W_per_mm2, A_per_mm, current_A_per_mm, volts, link_amperes
-  --terminal   where current enters or leaves, as in a line of the text; instead of one of the same name
+  --power           with what flows between the terminals: watts, W_per_mm2,
+                    A_per_mm, current_A_per_mm, volts, link_amperes
 ",
+        terminal_help!()
+    ),
     switches: &[POWER, TERMINAL],
     make: |words| of_mesh(words, vtk::of_linked_mesh),
 };
 
 pub const MSH: Command = Command {
     name: "msh",
-    help: "\
-usage: board msh [FILE] [--power] [--terminal \"NAME VALUE V|A PLACE\"].. [-o FILE]
+    help: concat!(
+        "\
+usage: board msh [FILE] [--power] [--terminal WORDS] .. [-o FILE]
 
-The mesh as a file for Gmsh (form 4.1): leaves as quads, links as lines, a physical group for each component of a layer
-and one for the links.
+The mesh as a file for Gmsh (form 4.1): leaves as quads, links as lines, a
+physical group for each component of a layer and one for the links.
 
-  --power      with what flows between the terminals, as in the file for ParaView
-  --terminal   where current enters or leaves, as in a line of the text; instead of one of the same name
+  --power           with what flows between the terminals, as in the file for
+                    ParaView
 ",
+        terminal_help!()
+    ),
     switches: &[POWER, TERMINAL],
     make: |words| of_mesh(words, msh::of_mesh),
 };
 
 pub const CSV: Command = Command {
     name: "csv",
-    help: "\
-usage: board csv [FILE] [--power] [--terminal \"NAME VALUE V|A PLACE\"].. [-o FILE]
+    help: concat!(
+        "\
+usage: board csv [FILE] [--power] [--terminal WORDS] .. [-o FILE]
 
-A line a leaf, behind a heading: its names, its sides in millimetres or ticks, its sheet resistance.
+A line a leaf, behind a heading: its names, its sides in millimetres or ticks,
+its sheet resistance.
 
-  --power      with its power, W/mm2, A/mm and the current along x and along y at its centre
-  --terminal   where current enters or leaves, as in a line of the text; instead of one of the same name
+  --power           with its power, W/mm2, A/mm, and the current along x and
+                    along y at its centre
 ",
+        terminal_help!()
+    ),
     switches: &[POWER, TERMINAL],
     make: table,
 };

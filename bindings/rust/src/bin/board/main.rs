@@ -1,5 +1,16 @@
 //! A board's text or record, made into something else: `board --help` has the list.
 
+/// What `--help` says of `--terminal`.
+macro_rules! terminal_help {
+    () => {
+        "  --terminal WORDS  where current enters or leaves, as in a line of the text:
+                    \"NAME VALUE V|A end LAYER COMPONENT west|east|south|north\",
+                    \".. edge|rect LAYER COMPONENT X0 Y0 X1 Y1\" or
+                    \".. pad POLYGON\"; instead of one with the same name
+"
+    };
+}
+
 mod files;
 mod refine;
 mod solve;
@@ -28,8 +39,8 @@ usage: board COMMAND [FILE] [OPTION ..] [-o FILE]
        board [COMMAND] --help
        board --version
 
-Reads a board's text or record from a file, or from standard input (no file, or -), and writes what it makes to
-standard output or to the file behind -o.
+Reads a board's text or record from a file or from standard input (no file, or
+-), and writes what it makes to standard output or to the file behind -o.
 
   pack     the record of a text
   unpack   the text of a record, in ticks
@@ -47,7 +58,8 @@ const PACK: Command = Command {
     help: "\
 usage: board pack [FILE] [-o FILE]
 
-The record of a board's text. A text with links is refused, since a record has none.
+The record of a board's text. A text with links is refused, since a record has
+none; terminals are left out with a warning.
 ",
     switches: &[],
     make: pack,
@@ -69,7 +81,8 @@ const NET: Command = Command {
     help: "\
 usage: board net [FILE] [-o FILE]
 
-Leaves, nodes and edges of a board's text or record, as leafnet prints them, of a board of any size and with links.
+Leaves, nodes and edges of a board's text or record, as leafnet prints them, of
+a board of any size and with links.
 ",
     switches: &[],
     make: net,

@@ -11,18 +11,25 @@ const LEAVES: Switch = ("--leaves", Takes::Word);
 
 pub const REFINE: Command = Command {
     name: "refine",
-    help: "\
-usage: board refine [FILE] --rounds N [--share S] [--leaves M] [--terminal \"NAME VALUE V|A PLACE\"].. [-o FILE]
+    help: concat!(
+        "\
+usage: board refine [FILE] --rounds N [--share S] [--leaves M]
+                    [--terminal WORDS] .. [-o FILE]
 
-The board with its hottest leaves split: of a text the text as it stands and splits behind it, of a record a record. A
-round solves on the cells, splits the leaves of the largest power, and balances; a line on standard error tells what
-came of it. Where no more can be split, or there is no more room, what was reached by then is written.
+The board with its hottest leaves split: of a text the text as it stands and
+splits behind it, of a record a record. A round solves on the cells, splits the
+leaves of the largest power, and balances; a line on standard error tells what
+came of it. Where no more can be split, or there is no more room, what was
+reached by then is written.
 
-  --rounds N   so many rounds
-  --share S    a round splits this share of the leaves, as 0.25 or 1/4; 1/6 without it
-  --leaves M   the mesh before the round that would pass so many leaves is the last
-  --terminal   where current enters or leaves, as in a line of the text; instead of one of the same name
+  --rounds N        so many rounds
+  --share S         a round splits this share of the leaves, as 0.25 or 1/4;
+                    1/6 without it
+  --leaves M        the mesh before the round that would pass so many leaves is
+                    the last
 ",
+        terminal_help!()
+    ),
     switches: &[ROUNDS, SHARE, LEAVES, TERMINAL],
     make: refine,
 };

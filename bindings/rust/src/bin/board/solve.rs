@@ -10,15 +10,19 @@ const NET: Switch = ("--net", Takes::Nothing);
 
 pub const SOLVE: Command = Command {
     name: "solve",
-    help: "\
-usage: board solve [FILE] [--net] [--terminal \"NAME VALUE V|A PLACE\"].. [-o FILE]
+    help: concat!(
+        "\
+usage: board solve [FILE] [--net] [--terminal WORDS] .. [-o FILE]
 
-What flows between a board's terminals: their volts and amperes, the power in all, the hottest leaf, and of each link
-the current from its first end to its second.
+What flows between a board's terminals: their volts and amperes, the power in
+all, the hottest leaf, and of each link the current from its first end to its
+second.
 
-  --net        by the net's conductances (docs/CONDUCTANCES.md) and not by elements on its cells
-  --terminal   where current enters or leaves, as in a line of the text; instead of one of the same name
+  --net             by the net's conductances (docs/CONDUCTANCES.md) and not by
+                    elements on its cells
 ",
+        terminal_help!()
+    ),
     switches: &[NET, TERMINAL],
     make: solve,
 };
