@@ -116,7 +116,7 @@ fn draw_sh_says_its_usage_and_leaves_no_empty_file() {
     };
     assert_eq!(drawn(&bad, "bad"), (Some(1), 1));
     // Without terminals there is no power to be drawn.
-    assert_eq!(drawn(&sample_name("neck.txt"), "neck"), (Some(0), 3));
+    assert_eq!(drawn(&sample_name("comb.txt"), "comb"), (Some(0), 3));
     assert_eq!(drawn(&sample_name("across.txt"), "across"), (Some(0), 6));
 }
 
