@@ -12,18 +12,18 @@ use std::fs;
 use std::io::{stdout, Write};
 use std::process::ExitCode;
 
-/// Pads of 6 by 4 mm and a neck of 2 by 0.4 mm between them.
+/// Pads of 6 by 4 and 5 by 4 mm, and a neck of 2 by 0.4 mm between them, below the middle.
 const OUTLINE: [[f64; 2]; 12] = [
     [0.0, 0.0],
     [6.0, 0.0],
-    [6.0, 1.8],
-    [8.0, 1.8],
+    [6.0, 1.2],
+    [8.0, 1.2],
     [8.0, 0.0],
-    [14.0, 0.0],
-    [14.0, 4.0],
+    [13.0, 0.0],
+    [13.0, 4.0],
     [8.0, 4.0],
-    [8.0, 2.2],
-    [6.0, 2.2],
+    [8.0, 1.6],
+    [6.0, 1.6],
     [6.0, 4.0],
     [0.0, 4.0],
 ];
@@ -51,7 +51,7 @@ fn run() -> Result<(), Box<dyn Error>> {
     let mut mesh = Mesh::new(settings, &[], polygons)?;
 
     // Finer cells in the neck and round its ends, and no two neighbours more than one level apart.
-    let [[x0, y0], [x1, y1]] = [pitch.point([5.6, 1.6])?, pitch.point([8.4, 2.4])?];
+    let [[x0, y0], [x1, y1]] = [pitch.point([5.6, 0.8])?, pitch.point([8.4, 2.0])?];
     mesh.refine_region(Region {
         rect: [x0, y0, x1, y1],
         level: 3,
