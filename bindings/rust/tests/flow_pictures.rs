@@ -634,15 +634,26 @@ fn solutions_of_something_else_are_drawn_all_the_same() {
     assert_eq!(svg.matches("<title>leaf ").count(), solved.net.cells.len());
 }
 
-/// Some 16,000 leaves: a third of a second without optimizing. Other work on the processors makes one try take longer,
-/// and not all of them.
-#[test]
-fn a_large_picture_is_made_at_once() {
-    let board = "level 1\npitch 0.25\npolygon 1 0 0.0005\n0 0\n32 0\n32 31\n0 31\n";
-    let board = text::parse(board).expect("a board");
-    let mesh = Mesh::of_board(&board).expect("a mesh");
+/// The shortest of several tries with a square of so many leaves each way, in turn with those of another size.
+fn times_of_squares(sides: [i64; 2]) -> [Duration; 2] {
+    let squares = sides.map(|side| {
+        let side = side as f64 * 0.25;
+        let board = format!(
+            "level 1\npitch 0.25\npolygon 1 0 0.0005\n0 0\n{side} 0\n{side} {side}\n0 {side}\n"
+        );
+        Mesh::of_board(&text::parse(&board).expect("a board")).expect("a mesh")
+    });
+    let mut shortest = [Duration::MAX; 2];
+    for _ in 0..8 {
+        for (mesh, shortest) in squares.iter().zip(&mut shortest) {
+            *shortest = (*shortest).min(time_of(mesh));
+        }
+    }
+    shortest
+}
+
+fn time_of(mesh: &Mesh) -> Duration {
     let net = mesh.net().expect("a net");
-    assert!(net.cells.len() > 15_800);
     let flow = Flow {
         watts: 1e-3,
         current: [1.0, 0.0],
@@ -655,16 +666,20 @@ fn a_large_picture_is_made_at_once() {
         edge_watts: Vec::new(),
     };
     let held = mesh.held(&net, &across());
-    let is_quick = |_: u32| {
-        let start = Instant::now();
-        let picture = Picture::of_mesh("A board", &mesh, net.rows()).expect("a picture");
-        let svg = picture
-            .by_flow(&mesh, &solution, Quantity::PowerDensity)
-            .with_terminals(&net.nodes, &held, &[])
-            .svg();
-        let took = start.elapsed();
-        assert_eq!(svg.matches("<title>leaf ").count(), net.cells.len());
-        took < Duration::from_secs(2)
-    };
-    assert!((0..12).any(is_quick));
+    let start = Instant::now();
+    let picture = Picture::of_mesh("A board", mesh, net.rows()).expect("a picture");
+    let svg = picture
+        .by_flow(mesh, &solution, Quantity::PowerDensity)
+        .with_terminals(&net.nodes, &held, &[])
+        .svg();
+    let took = start.elapsed();
+    assert_eq!(svg.matches("<title>leaf ").count(), net.cells.len());
+    took
+}
+
+/// Four times the leaves take some four times as long, and not sixteen times.
+#[test]
+fn a_picture_takes_as_long_as_it_has_leaves() {
+    let [small, large] = times_of_squares([60, 120]);
+    assert!(large < 10 * small, "{small:?} {large:?}");
 }
