@@ -644,7 +644,7 @@ fn times_of_squares(sides: [i64; 2]) -> [Duration; 2] {
         Mesh::of_board(&text::parse(&board).expect("a board")).expect("a mesh")
     });
     let mut shortest = [Duration::MAX; 2];
-    for _ in 0..8 {
+    for _ in 0..4 {
         for (mesh, shortest) in squares.iter().zip(&mut shortest) {
             *shortest = (*shortest).min(time_of(mesh));
         }
