@@ -82,13 +82,13 @@ script=beside.sh
 refuses "$root/oracle/beside.sh" --without-leaves
 
 if command -v python3 >/dev/null; then
-    for script in docs/design_changes.py docs/design_pass.py oracle/faults.py; do
+    for script in docs/design_changes.py docs/design_pass.py bindings/files.py oracle/faults.py; do
         helps python3 "$root/$script"
         refuses python3 "$root/$script" --no-such-word
     done
     refuses python3 "$root/oracle/faults.py" no-fault-has-this-word
 else
-    echo "usage of docs/*.py and oracle/*.py left out: that needs python3"
+    echo "usage of docs/*.py, oracle/*.py and bindings/*.py left out: that needs python3"
 fi
 
 if command -v shellcheck >/dev/null; then

@@ -342,6 +342,26 @@ fn a_closed_input_is_told() {
     }
 }
 
+#[test]
+fn what_is_no_text_is_told_by_its_line() {
+    let words = "line 2: this isn't UTF-8\n";
+    let bytes = b"cells 1\n\xff\n";
+    for (tool, own) in [
+        (RELAX, vec![]),
+        (DRAW, vec![]),
+        (DRAW, vec!["-"]),
+        (BOARD, vec!["pack"]),
+        (BOARD, vec!["net"]),
+    ] {
+        let bytes = if tool == RELAX || own.is_empty() {
+            &bytes[..]
+        } else {
+            b"# a board\n\xff\n"
+        };
+        assert_eq!(refused(tool, &own, bytes), words, "{tool} {own:?}");
+    }
+}
+
 /// Without standard error, or with a full one, the status is all there is.
 #[test]
 fn an_error_that_cannot_be_said_is_no_panic() {

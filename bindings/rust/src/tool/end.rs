@@ -74,11 +74,11 @@ impl End {
 }
 
 /// Bytes as text, or the first line that isn't.
-pub fn text_of(bytes: Vec<u8>) -> Result<String, String> {
+fn text_of(bytes: Vec<u8>) -> Result<String, String> {
     String::from_utf8(bytes).map_err(|why| {
         let sound = &why.as_bytes()[..why.utf8_error().valid_up_to()];
         let line = sound.iter().filter(|&&byte| byte == b'\n').count() + 1;
-        format!("line {line}: this is no text in UTF-8")
+        format!("line {line}: this isn't UTF-8")
     })
 }
 

@@ -10,7 +10,7 @@ mod terminals;
 mod words;
 
 pub use digits::digits;
-pub use end::{say, text_of, End};
+pub use end::{say, End};
 pub use given::Given;
 pub use solved::{By, Solved};
 pub use terminals::Terminals;
