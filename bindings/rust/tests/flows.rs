@@ -343,19 +343,20 @@ fn rounds_end_where_nothing_more_can_be_split() {
     assert_eq!(leaves, 256);
     assert_eq!(
         said,
-        "no round 4: of 256 leaves none is to be split that isn't at the finest level"
+        "no round 4: the hottest of 256 leaves are at the finest level"
     );
     let (leaves, said) = refine(&[&all[..], &["--leaves", "100"]].concat(), &strip());
     assert_eq!(leaves, 64);
     assert_eq!(said, "no round 3: it would have 256 leaves, more than 100");
     let (leaves, said) = refine(&[&all[..], &["--leaves", "256"]].concat(), &strip());
-    assert_eq!((leaves, said.starts_with("no round 4: of ")), (256, true));
+    assert_eq!(
+        (leaves, said.starts_with("no round 4: the hottest ")),
+        (256, true)
+    );
     // A share of four leaves that is none.
     let (leaves, said) = refine(&["--rounds", "1", "--share", "0.2"], &strip());
-    assert_eq!(
-        (leaves, said.starts_with("no round 1: of 4 leaves none")),
-        (4, true)
-    );
+    assert_eq!(leaves, 4);
+    assert_eq!(said, "no round 1: the share of 4 leaves is less than one");
     // 1,024 leaves in 1,360 cells, then 4,096 in 5,456, and no room for 16,384 in 21,840.
     let deep = "level 7\ntarget 256\npolygon 1 0 1\n0 0\n1024 0\n1024 256\n0 256\n";
     let (leaves, said) = refine(&all, &[deep, IN, OUT].concat());

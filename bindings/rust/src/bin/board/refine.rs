@@ -84,12 +84,16 @@ impl Plan {
 
     /// The mesh behind one more round, or why there is none.
     fn next(&self, solved: &Solved) -> Result<Mesh, String> {
+        let before = solved.net.cells.len();
+        if before as f64 * self.share < 1.0 {
+            return Err(format!("the share of {before} leaves is less than one"));
+        }
         let mut mesh = solved.mesh.clone();
         let splits = mesh.refine_hottest(&solved.watts, self.share);
         let leaves = mesh.head().leaves;
         match splits {
             Ok(0) => Err(format!(
-                "of {leaves} leaves none is to be split that isn't at the finest level"
+                "the hottest of {before} leaves are at the finest level"
             )),
             Ok(_) if leaves > self.leaves => Err(format!(
                 "it would have {leaves} leaves, more than {}",
