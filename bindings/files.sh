@@ -1,7 +1,7 @@
 #!/bin/sh
 # files.sh: files of a mesh (`board vtk`, `board msh`, `board csv`) are opened by the programs that they are for, which
-# must find as many leaves and links as `board net` has, and as many watts as `board solve`. Says which of these programs
-# aren't installed. PYTHON names another Python than python3.
+# must find as many leaves and links as `board net` has, and as many watts as `board solve`. Says which of these
+# programs aren't installed. PYTHON names another Python than python3.
 set -eu
 # shellcheck source=usage.sh
 . "$(dirname "$0")/usage.sh"

@@ -235,7 +235,8 @@ fn terminals_that_hold_nothing_are_told_by_their_line() {
 /// not.
 #[test]
 fn cells_that_do_not_fit_are_told_by_their_line() {
-    let bands = "level 0\ntarget 6\npolygon 1 0 1\n0 0\n6 0\n6 2\n8 2\n8 4\n0 4\nterminal in 1 A end 1 0 south\nterminal out 0 V end 1 0 north\n";
+    let bands = "level 0\ntarget 6\npolygon 1 0 1\n0 0\n6 0\n6 2\n8 2\n8 4\n0 4\n\
+        terminal in 1 A end 1 0 south\nterminal out 0 V end 1 0 north\n";
     let folder = Folder::new("no-fit");
     let file = folder.put("board.txt", bands.as_bytes());
     let words = "line 3: at (4, 2): node 4 stands inside a cell's side, not at its middle";

@@ -1,5 +1,5 @@
-//! docs/TOOLS.md has every command and every option. Its examples are run: a line that begins with a dollar sign is a command, and what follows it up to the
-//! next one is what it writes and says.
+//! docs/TOOLS.md has every command and every option. Its examples are run: a line that begins with a dollar sign is a
+//! command, and what follows it up to the next one is what it writes and says.
 
 mod programs;
 
