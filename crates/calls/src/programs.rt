@@ -112,7 +112,7 @@ fn a_write_fails_in_mid_stream(rt: HostRuntime) {
     assert_eq!(rt; writer.taken, 10);
 }
 
-// What a command line of one word prints, or of none, and its status and what it says, a record being on standard input.
+// What a command line of one word prints, or of none, its status, and what it says, with this record to read.
 fn run_on(rt: &HostRuntime, word: &str, record: &[u8]) -> Result<(String, u8, String), Fail> {
     let mut words = Vec::new(rt.alloc());
     if !word.is_empty() {

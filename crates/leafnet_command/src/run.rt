@@ -19,7 +19,8 @@ use std::rt::Files;
 fn print<'a, W: Write>(output: &mut W, text: &str) -> Ending<'a>
     ensures ending { EndsAs (known (accepted text.now)) result }
     ensures nothing_unread { (asked : Asked) → NamesAsked asked result }
-    ensures text { IsAnswered result → Gets (known (accepted text.now)) (W.contents output.old) (W.contents output.new) }
+    ensures text { IsAnswered result
+        → Gets (known (accepted text.now)) (W.contents output.old) (W.contents output.new) }
     ensures front { GetsFront (known (accepted text.now)) (W.contents output.old) (W.contents output.new) }
 {
     match write_text(output, text.as_bytes()) {
@@ -60,9 +61,10 @@ fn serve<'a, F: Files, R: Read, W: Write>(
 ) -> Ending<'a>
     ensures ending { EndsAs (due (asked_in request.entry) (R.remaining input.old)) result }
     ensures named { NamesAsked (asked_in request.entry) result }
-    ensures text { IsAnswered result
-        → Gets (due (asked_in request.entry) (R.remaining input.old)) (W.contents output.old) (W.contents output.new) }
-    ensures front { GetsFront (due (asked_in request.entry) (R.remaining input.old)) (W.contents output.old) (W.contents output.new) }
+    ensures text { IsAnswered result → Gets (due (asked_in request.entry) (R.remaining input.old))
+        (W.contents output.old) (W.contents output.new) }
+    ensures front { GetsFront (due (asked_in request.entry) (R.remaining input.old))
+        (W.contents output.old) (W.contents output.new) }
 {
     match request {
         Some(Request::Help) => print(output, USAGE),

@@ -91,9 +91,9 @@ fn read_input<R: Read>(alloc: Global, reader: &mut R) -> Result<Vec<u8>, Failure
     Ok(room[..count].to_vec(alloc)?)
 }
 
-/// Reads a record, writes its text, and says why it was refused, if it was. A failure of the reader, of the writer or of
-/// the memory is handed on: what is written by then is a front of that text, and nothing before the input is read, and
-/// what was read by then is gone. Of input that is too long no more is read than the one byte that shows it.
+/// Reads a record, writes its text, and answers why it is refused, if it is. A failure of the reader, of the writer or
+/// of the memory is handed on: what is written by then is a front of that text, and nothing before the input is read,
+/// and what was read by then is gone. Of input that is too long no more is read than the one byte that shows it.
 pub fn leafnet<R: Read, W: Write>(
     alloc: Global,
     reader: &mut R,
