@@ -2,6 +2,10 @@
 //! gets the command line, the files and the standard streams.
 #![tactic(auto)]
 
+ghost use Rattle.std.specs.Prelude.{◌≡◌};
+ghost use Rattle.std.specs.Process.{exit_status};
+ghost use Rattle.leafnet_command.specs.Ended.{status_of};
+
 use leafnet_command::ending::Ending;
 use leafnet_command::run::run;
 use std::io::{ErrorKind, Write};
@@ -14,7 +18,9 @@ fn words(rt: &HostRuntime) -> io::Result<Vec<String>> {
 }
 
 // Says how it ended. Where standard error takes nothing, the status is all that is left to say it.
-fn conclude(rt: &HostRuntime, ending: Ending<'_>) -> ExitCode {
+fn conclude(rt: &HostRuntime, ending: Ending<'_>) -> ExitCode
+    ensures { exit_status result ≡ status_of ending.entry }
+{
     let _ = write!(rt.stderr(), "{ending}");
     ExitCode::from(ending.status())
 }
