@@ -3,13 +3,17 @@
 //!
 //! `cargo run --example outline_to_net FILE.svg` leaves a picture there; without a file it prints only.
 
+#[path = "shared/output.rs"]
+mod output;
+
 use leafmesh::drawing::{Picture, Quantity};
 use leafmesh::solving::{Drive, Spot, System, Terminal};
 use leafmesh::{Mesh, Pitch, Polygons, Region, Settings, Side};
+use output::Output;
 use std::env;
 use std::error::Error;
 use std::fs;
-use std::io::{stdout, Write};
+use std::io::Write;
 use std::process::ExitCode;
 
 /// Pads of 6 by 4 and 5 by 4 mm, and a neck of 2 by 0.4 mm between them, below the middle.
@@ -73,7 +77,7 @@ fn run() -> Result<(), Box<dyn Error>> {
     let held = mesh.held(&net, &terminals);
     let solution = System::of_cells(&net)?.solve(&held)?;
 
-    let mut out = stdout();
+    let mut out = Output;
     writeln!(
         out,
         "{} leaves, {} nodes, {} edges",

@@ -3,9 +3,12 @@
 //! `cargo run --example conductances`
 
 mod boards;
+#[path = "../shared/output.rs"]
+mod output;
 
+use output::Output;
 use std::error::Error;
-use std::io::{stdout, Write};
+use std::io::Write;
 use std::process::ExitCode;
 
 fn main() -> ExitCode {
@@ -20,6 +23,6 @@ fn main() -> ExitCode {
 
 fn run() -> Result<(), Box<dyn Error>> {
     let all: Result<Vec<_>, _> = boards::CASES.into_iter().map(boards::meshed).collect();
-    write!(stdout(), "{}", boards::table(&all?)?)?;
+    write!(Output, "{}", boards::table(&all?)?)?;
     Ok(())
 }

@@ -3,10 +3,13 @@
 //!
 //! `cargo run --release --example hottest`
 
+#[path = "../shared/output.rs"]
+mod output;
 mod rounds;
 
+use output::Output;
 use std::error::Error;
-use std::io::{stdout, Write};
+use std::io::Write;
 use std::process::ExitCode;
 
 fn main() -> ExitCode {
@@ -20,6 +23,6 @@ fn main() -> ExitCode {
 }
 
 fn run() -> Result<(), Box<dyn Error>> {
-    write!(stdout(), "{}", rounds::table(&rounds::rounds()?)?)?;
+    write!(Output, "{}", rounds::table(&rounds::rounds()?)?)?;
     Ok(())
 }

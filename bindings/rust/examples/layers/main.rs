@@ -5,15 +5,19 @@
 //! `cargo run --release --example layers FOLDER` leaves pictures there, layers.svg (the mesh and its links) and
 //! layers-power.svg (power density at 10 A), and layers.vtk for ParaView; without a folder it prints only.
 
+#[path = "../shared/output.rs"]
+mod output;
+
 use leafmesh::drawing::{densities, Picture, Quantity};
 use leafmesh::solving::{Held, Solution, System};
 use leafmesh::text::{self, Whole};
 use leafmesh::vtk::{self, Field};
 use leafmesh::{Link, Links, Mesh, Net, Refusal};
+use output::Output;
 use std::env;
 use std::error::Error;
 use std::fs;
-use std::io::{stdout, Write};
+use std::io::Write;
 use std::path::Path;
 use std::process::ExitCode;
 
@@ -30,7 +34,7 @@ fn main() -> ExitCode {
 }
 
 fn run() -> Result<(), Box<dyn Error>> {
-    let mut out = stdout();
+    let mut out = Output;
     let Whole {
         board,
         links,

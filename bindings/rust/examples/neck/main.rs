@@ -6,14 +6,17 @@
 //! neck-power.svg (power density at 10 A) and neck-borders.svg (the same with the borders of its cells), and neck.vtk
 //! for ParaView; without a folder it prints only.
 
+#[path = "../shared/output.rs"]
+mod output;
 mod pictures;
 mod uniform;
 
 use leafmesh::solving::{Drive, Solution, Spot, System, Terminal};
 use leafmesh::{Mesh, Pitch, Polygons, Settings, Side};
+use output::Output;
 use std::env;
 use std::error::Error;
-use std::io::{stdout, Write};
+use std::io::Write;
 use std::process::ExitCode;
 
 /// In millimetres.
@@ -58,7 +61,7 @@ fn main() -> ExitCode {
 }
 
 fn run() -> Result<(), Box<dyn Error>> {
-    let mut out = stdout();
+    let mut out = Output;
     let squares = uniform::squares(&OUTLINE, PITCH / FINE as f64)?;
     writeln!(
         out,
