@@ -193,6 +193,30 @@ fn the_neck_that_lies_across_is_the_hottest() {
     }
 }
 
+/// Of a neck's four corners, which are as hot as each other, the first leaf is named, whichever way the current goes.
+#[test]
+fn of_leaves_as_hot_as_each_other_the_first_is_the_hottest() {
+    let (mesh, net) = meshed(
+        &NECK
+            .replace("64 24", "64 32")
+            .replace("256 96\n192 96", "256 128\n192 128"),
+    );
+    let named = |from, to| {
+        let solution = on_cells(&mesh, &net, &one_volt(from, to));
+        solution.hottest(&mesh).expect("a leaf").0
+    };
+    let first = named(Side::West, Side::East);
+    assert_eq!(named(Side::East, Side::West), first);
+    let [x0, y0, x1, y1] = first.rect;
+    let alike = mesh
+        .leaf_at(1, [448 - (x0 + x1) / 2, (y0 + y1) / 2])
+        .expect("a leaf");
+    assert!(alike.id > first.id);
+    let mut still = on_cells(&mesh, &net, &one_volt(Side::West, Side::East));
+    still.cells.iter_mut().for_each(|cell| cell.watts = 0.0);
+    assert_eq!(still.hottest(&mesh), None);
+}
+
 /// A current brings the potential about that brings the current about.
 #[test]
 fn volts_and_amperes_are_two_sides_of_one_terminal() {

@@ -2,7 +2,7 @@
 
 use super::figures::figures;
 use super::scale::{Depth, Scale, DEPTH};
-use crate::solving::{Flow, Solution};
+use crate::solving::{place_of_most, Flow, Solution};
 use crate::{Leaf, Mesh};
 use std::f64::consts::FRAC_PI_4;
 
@@ -154,18 +154,9 @@ impl Flows {
         Some(self.scale().by(other))
     }
 
-    /// The cell with the most of a quantity, of several the last, as [`Solution::hottest`]. None where there is none of
-    /// it.
+    /// The cell with the most of a quantity, as [`Solution::hottest`]. None where there is none of it.
     pub fn most(&self, quantity: Quantity) -> Option<usize> {
-        let value = |cell: usize| self.cells[cell].value(quantity);
-        let above = (0..self.cells.len()).filter(|&cell| value(cell) > 0.0);
-        above.reduce(|best, cell| {
-            if value(cell) >= value(best) {
-                cell
-            } else {
-                best
-            }
-        })
+        place_of_most(self.cells.iter().map(|cell| cell.value(quantity)))
     }
 }
 

@@ -92,11 +92,12 @@ impl Solution {
         cells.chain(self.edge_watts.iter().copied()).sum()
     }
 
-    /// The leaf of the most power for its area, and what flows in it: cell i is leaf i of the mesh that the net is of.
+    /// The leaf of the most power for its area, and what flows in it: cell i is leaf i of the mesh that the net is of. Of
+    /// several the first; none where no leaf takes power.
     pub fn hottest(&self, mesh: &Mesh) -> Option<(Leaf, Flow)> {
+        let leaves: Vec<(Leaf, Flow)> = mesh.leaves().zip(self.cells.iter().copied()).collect();
         let density = |(leaf, flow): &(Leaf, Flow)| flow.watts / leaf.area();
-        let cells = mesh.leaves().zip(self.cells.iter().copied());
-        cells.max_by(|a, b| density(a).total_cmp(&density(b)))
+        place_of_most(leaves.iter().map(density)).map(|at| leaves[at])
     }
 
     /// The power that the terminals give.
@@ -104,6 +105,15 @@ impl Solution {
         let given = |one: &Applied| one.volts * one.amperes;
         self.terminals.iter().map(given).sum()
     }
+}
+
+/// Values that differ by less than this share are alike: rounding may have either the larger.
+const ALIKE: f64 = 1e-9;
+
+/// The place of the largest value, of several alike the first. None where none is above 0.
+pub(crate) fn place_of_most(mut values: impl Iterator<Item = f64> + Clone) -> Option<usize> {
+    let most = values.clone().fold(0.0, f64::max);
+    values.position(|value| value > 0.0 && value >= (1.0 - ALIKE) * most)
 }
 
 /// The nodes that make up each node. In a balanced table of aligned bands the ends of a side with a node at its

@@ -1,7 +1,7 @@
 //! A board that is solved between its terminals.
 
 use super::Given;
-use crate::solving::{Held, Solution, System, Unsolved};
+use crate::solving::{place_of_most, Held, Solution, System, Unsolved};
 use crate::{Leaf, Mesh, Net};
 
 /// A current below this share of the largest one at a terminal is what the iteration leaves.
@@ -90,10 +90,11 @@ fn rest_of(net: &Net, solution: &Solution) -> f64 {
 }
 
 impl Solved {
-    /// The leaf of the largest power over area, and its power. None of a board without leaves.
+    /// The leaf of the largest power over area, and its power, as [`Solution::hottest`].
     pub fn hottest(&self) -> Option<(Leaf, f64)> {
-        let leaves = self.mesh.leaves().zip(self.watts.iter().copied());
-        leaves.max_by(|a, b| (a.1 / a.0.area()).total_cmp(&(b.1 / b.0.area())))
+        let leaves: Vec<(Leaf, f64)> = self.mesh.leaves().zip(self.watts.iter().copied()).collect();
+        let density = |(leaf, watts): &(Leaf, f64)| watts / leaf.area();
+        place_of_most(leaves.iter().map(density)).map(|at| leaves[at])
     }
 
     /// The currents of the links' edges.
