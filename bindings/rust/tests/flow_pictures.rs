@@ -133,8 +133,11 @@ fn a_neck_that_lies_across_is_the_hottest() {
 
     let values = solved.values();
     let by_heat = |a: &&(Leaf, [f64; 2]), b: &&(Leaf, [f64; 2])| a.1[0].total_cmp(&b.1[0]);
-    let (leaf, [most, amperes]) = values.iter().max_by(by_heat).expect("leaves");
-    assert_eq!(leaf.id, hottest.id);
+    let (_, [most, amperes]) = values.iter().max_by(by_heat).expect("leaves");
+    // The corners of both ends are as hot as each other.
+    let is_it = |one: &&(Leaf, [f64; 2])| one.0.id == hottest.id;
+    let [own, _] = values.iter().find(is_it).expect("the leaf").1;
+    assert!(own >= (1.0 - 1e-9) * most);
     assert!(is_near(density.parse().expect("a number"), *most));
     assert!(is_near(current.parse().expect("a number"), *amperes));
     // 10 A through 0.2 mm, and more at the corners of its ends.

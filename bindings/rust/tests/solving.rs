@@ -196,11 +196,7 @@ fn the_neck_that_lies_across_is_the_hottest() {
 /// Of a neck's four corners, which are as hot as each other, the first leaf is named, whichever way the current goes.
 #[test]
 fn of_leaves_as_hot_as_each_other_the_first_is_the_hottest() {
-    let (mesh, net) = meshed(
-        &NECK
-            .replace("64 24", "64 32")
-            .replace("256 96\n192 96", "256 128\n192 128"),
-    );
+    let (mesh, net) = meshed(&NECK.replace("256 96\n192 96", "256 128\n192 128"));
     let named = |from, to| {
         let solution = on_cells(&mesh, &net, &one_volt(from, to));
         solution.hottest(&mesh).expect("a leaf").0
