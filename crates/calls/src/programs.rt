@@ -1,10 +1,13 @@
 //! leafnet, between a reader and a writer, and by the words of a command line.
 use leafnet_command::ending::Ending;
+use leafnet_command::request::USAGE;
 use leafnet_command::run::run;
 use leafnet_text::failure::Failure;
 use leafnet_text::{answer_to, leafnet, text_of};
 use refusals::Refusal;
 use std::io::{self, Error, ErrorKind, Read, Write};
+use std::process::Abort;
+use std::rt::Files;
 use std::test::Fail;
 
 // A square of 4 by 4 ticks on layer 1, in one cell.
@@ -112,51 +115,73 @@ fn a_write_fails_in_mid_stream(rt: HostRuntime) {
     assert_eq!(rt; writer.taken, 10);
 }
 
-// What a command line of one word prints, or of none, its status, and what it says, with this record to read.
-fn run_on(rt: &HostRuntime, word: &str, record: &[u8]) -> Result<(String, u8, String), Fail> {
+// What stands on both ends after a run, and its status.
+#[derive(Clone, Copy)]
+struct Wanted<'a> {
+    printed: &'a str,
+    said: &'a str,
+    status: u8,
+}
+
+// Runs a command line of one word, or of none, with this record on standard input.
+fn assert_run<R: Abort + Files + AllocGlobal>(
+    rt: &R,
+    word: &str,
+    record: &[u8],
+    wanted: Wanted<'_>,
+) -> Result<(), Fail> {
     let mut words = Vec::new(rt.alloc());
     if !word.is_empty() {
         words.push(String::from_str(rt.alloc(), word)?)?;
     }
     let mut printed = Vec::new(rt.alloc());
     let ending = run(rt, rt.alloc(), &words, &mut &record[..], &mut printed);
-    let status = ending.status();
     let said = format!(in rt.alloc(); "{ending}")?;
-    Ok((String::from_utf8(printed)?, status, said))
+    assert_eq!(rt; printed.as_slice(), wanted.printed.as_bytes());
+    assert_eq!(rt; said.as_str(), wanted.said);
+    assert_eq!(rt; ending.status(), wanted.status);
+    Ok(())
 }
 
 #[test]
-fn command_lines(rt: HostRuntime) -> Result<(), Fail> {
+fn records_on_standard_input(rt: HostRuntime) -> Result<(), Fail> {
+    let printed = Wanted {
+        printed: TEXT,
+        said: "",
+        status: 0,
+    };
+    let refused = Wanted {
+        printed: "refused 1 0\n",
+        said: "leafnet: refused 1 0: the record is not of version 1\n",
+        status: 1,
+    };
     for word in ["", "-"] {
-        let (printed, status, said) = run_on(&rt, word, SQUARE)?;
-        assert_eq!(rt; printed.as_str(), TEXT);
-        assert_eq!(rt; status, 0);
-        assert_eq!(rt; said.as_str(), "");
-        let (printed, status, said) = run_on(&rt, word, b"level 3")?;
-        assert_eq!(rt; printed.as_str(), "refused 1 0\n");
-        assert_eq!(rt; status, 1);
-        assert_eq!(rt;
-            said.as_str(),
-            "leafnet: refused 1 0: the record is not of version 1\n"
-        );
+        assert_run(&rt, word, SQUARE, printed)?;
+        assert_run(&rt, word, b"level 3", refused)?;
     }
-    let (printed, status, said) = run_on(&rt, "--version", SQUARE)?;
-    assert_eq!(rt; printed.as_str(), "leafnet 0.10.0\n");
-    assert_eq!(rt; status, 0);
-    assert_eq!(rt; said.as_str(), "");
-    let (printed, status, said) = run_on(&rt, "no such file", SQUARE)?;
-    assert_eq!(rt; printed.as_str(), "");
-    assert_eq!(rt; status, 1);
-    assert_eq!(rt;
-        said.as_str(),
-        "leafnet: no such file: No such file or directory (os error 2)\n"
-    );
-    let (usage, _, _) = run_on(&rt, "--help", SQUARE)?;
-    let (printed, status, said) = run_on(&rt, "-h", SQUARE)?;
-    assert_eq!(rt; printed.as_str(), "");
-    assert_eq!(rt; status, 2);
-    assert_eq!(rt; said.as_str(), usage.as_str());
     Ok(())
+}
+
+#[test]
+fn other_command_lines(rt: HostRuntime) -> Result<(), Fail> {
+    let version = Wanted {
+        printed: "leafnet 0.10.0\n",
+        said: "",
+        status: 0,
+    };
+    let missing = Wanted {
+        printed: "",
+        said: "leafnet: no such file: No such file or directory (os error 2)\n",
+        status: 1,
+    };
+    let misused = Wanted {
+        printed: "",
+        said: USAGE,
+        status: 2,
+    };
+    assert_run(&rt, "--version", SQUARE, version)?;
+    assert_run(&rt, "no such file", SQUARE, missing)?;
+    assert_run(&rt, "-h", SQUARE, misused)
 }
 
 #[test]
