@@ -414,6 +414,32 @@ fn a_board_at_one_potential_is_at_rest() {
     assert!(watts.parse::<f64>().expect("a number") < 1e-20, "{last}");
 }
 
+/// Through an open switch a potential drives less than iteration and rounding leave, which is none. A current that is
+/// driven through it can't be told, and nothing is made.
+#[test]
+fn nothing_flows_through_an_open_switch() {
+    let strips = [1, 2].map(|layer| format!("polygon {layer} 0 0.0005\n0 0\n64 0\n64 16\n0 16\n"));
+    let board = format!(
+        "level 1\ntarget 4\n{}{IN}terminal out 0 V end 2 0 east\nvia 1 2 0 32 8 4 4 1e9\n",
+        strips.concat()
+    );
+    let table = text_made(
+        BOARD,
+        &["solve", "--terminal", "in 1 V end 1 0 west"],
+        board.as_bytes(),
+    );
+    for (word, value) in [("in ", "1            0"), ("out ", "0            0")] {
+        assert_eq!(behind(&table, word), value);
+    }
+    assert!(behind(&table, "via 0 ").ends_with(" 0"), "{table}");
+    assert!(!table.contains("V / A"), "{table}");
+    for words in [vec!["solve"], vec!["vtk", "--power"]] {
+        let said = refused(BOARD, &words, board.as_bytes());
+        let start = "no solution: currents at terminals are off by ";
+        assert!(said.starts_with(start), "{said}");
+    }
+}
+
 /// By the net's conductances; with the board its text's terminals and pads are taken.
 #[test]
 fn potentials_of_what_leafnet_printed() {

@@ -484,3 +484,38 @@ fn what_a_via_joins_is_one_resistance() {
     assert_eq!(links, 1);
     assert!(ohms > 4.6 && (through * ohms - 1.0).abs() < 1e-9);
 }
+
+/// Where links have so much more resistance than the copper, or so much less, that 53 bits can't tell what flows, there
+/// is no solution. A potential drives nothing through so much, which is one.
+#[test]
+fn links_too_far_from_the_copper_have_no_solution() {
+    let strips = "level 1\ntarget 8\npolygon 1 0 5e-4\n0 0\n64 0\n64 64\n0 64\npolygon 2 0 5e-4\n0 0\n64 0\n64 64\n0 64\n";
+    let solved = |ohms: f64, drive: Drive| {
+        let text = format!("{strips}via 1 2 0 32 32 16 16 {ohms:e}\n");
+        let whole = text::parse_whole(&text).expect("a board");
+        let mesh = Mesh::of_board(&whole.board).expect("a mesh");
+        let net = mesh.linked_net(whole.links.rows()).expect("a net");
+        let top = Spot::End {
+            layer: 2,
+            component: 0,
+            side: Side::North,
+        };
+        let terminals = [
+            end(Side::South, drive),
+            Terminal::new("top", top, Drive::Volts(0.0)),
+        ];
+        let system = System::of_cells(&net).expect("aligned");
+        system.solve(&mesh.held(&net, &terminals))
+    };
+    for ohms in [1e-6, 1e-3, 1.0, 1e3] {
+        let solution = solved(ohms, Drive::Amperes(3.0)).expect("a solution");
+        let through: f64 = solution.edges.iter().sum();
+        assert!((through - 3.0).abs() < 1e-6, "{ohms}: {through}");
+    }
+    for ohms in [1e9, 1e10] {
+        let refused = solved(ohms, Drive::Amperes(3.0));
+        let is_told = matches!(refused, Err(Unsolved::Imprecise { share }) if share > 1e-6);
+        assert!(is_told, "{ohms}: {refused:?}");
+        assert!(solved(ohms, Drive::Volts(1.0)).is_ok(), "{ohms}");
+    }
+}

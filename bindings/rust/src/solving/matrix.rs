@@ -45,6 +45,11 @@ impl Matrix {
             .collect()
     }
 
+    /// The largest entry of the diagonal.
+    pub fn largest(&self) -> f64 {
+        self.diagonal().into_iter().fold(0.0, f64::max)
+    }
+
     /// The matrix times a column.
     pub fn times(&self, column: &[f64]) -> Vec<f64> {
         let value = |&(at, value): &(usize, f64)| value * column[at];

@@ -28,6 +28,7 @@
 //! ```
 
 mod element;
+mod judging;
 mod matrix;
 mod terminal;
 mod unknowns;
@@ -36,6 +37,7 @@ mod unsolved;
 use crate::sides::{inside, Inside};
 use crate::{Edge, Leaf, Mesh, Net, NetRows};
 use element::Element;
+use judging::off_by;
 use matrix::{conjugate_gradients, Entry, Matrix};
 use unknowns::Unknowns;
 
@@ -225,13 +227,18 @@ impl System {
     ///
     /// In this order: no terminal; by terminal its drive, a node that isn't there or belongs to another one, none at
     /// all; a terminal with a current and none with a potential to come from; [`Unsolved::NoEnd`] where it takes more
-    /// steps than there are nodes several times over.
+    /// steps than there are nodes several times over; [`Unsolved::Imprecise`] where the currents at the terminals don't
+    /// come out, since links have resistances too far from the copper's.
     pub fn solve(&self, held: &[Held]) -> Result<Solution, Unsolved> {
         let unknowns = Unknowns::of(self, held)?;
         let matrix = unknowns.matrix(&self.matrix);
         let found = conjugate_gradients(&matrix, unknowns.right(&self.matrix))
             .map_err(|share| Unsolved::NoEnd { share })?;
-        Ok(self.solution(held, unknowns.potentials(&found)))
+        let solution = self.solution(held, unknowns.potentials(&found));
+        match off_by(held, &solution.terminals, self.matrix.largest()) {
+            Some(share) => Err(Unsolved::Imprecise { share }),
+            None => Ok(solution),
+        }
     }
 
     /// What flows at the potentials of the nodes that aren't tied.

@@ -56,6 +56,12 @@ pub enum Unsolved {
         /// The residual as a share of its start.
         share: f64,
     },
+    /// The currents at the terminals don't come out: they don't add up to none, or one isn't what is driven. Links
+    /// with resistances many orders above or below the copper's do that.
+    Imprecise {
+        /// By how much they are off, as a share of the largest.
+        share: f64,
+    },
 }
 
 impl From<Refusal> for Unsolved {
@@ -111,6 +117,11 @@ impl fmt::Display for Unsolved {
             Unsolved::NoEnd { share } => {
                 write!(f, "no solution: the residual fell to {share:.1e} only")
             }
+            Unsolved::Imprecise { share } => write!(
+                f,
+                "no solution: currents at terminals are off by {share:.1e} of the largest, as where a link has far \
+                 more or far less resistance than the copper"
+            ),
         }
     }
 }

@@ -6,8 +6,8 @@ use crate::{Leaf, Mesh, Net};
 
 /// A current below this share of the largest one at a terminal is what the iteration leaves.
 const LEFT: f64 = 1e-9;
-/// One below this share of what the largest potential would drive through a square is what rounding leaves.
-const ROUNDED: f64 = 1e-13;
+/// One below this share of what the largest potential would drive through a square is, too.
+const ROUNDED: f64 = 1e-11;
 
 /// What a net is solved by.
 #[derive(Clone, Copy, Debug, PartialEq, Eq)]
