@@ -12,6 +12,9 @@ const STRIP: &str = "level 3\ntarget 16\npolygon 1 0 1\n0 0\n64 0\n64 16\n0 16\n
 const IN: &str = "terminal in 3 A end 1 0 west\n";
 const OUT: &str = "terminal out 0 V end 1 0 east\n";
 
+const NO_NODE: &str =
+    "no corner of a leaf of its copper lies in it, but for such as hang at the middle of another's side";
+
 fn strip() -> String {
     [STRIP, IN, OUT].concat()
 }
@@ -188,14 +191,20 @@ fn without_terminals_nothing_flows() {
 #[test]
 fn terminals_that_hold_nothing_are_told_by_their_line() {
     let two = "polygon 1 1 1\n0 32\n16 32\n16 48\n0 48\n";
+    let no_node = format!("line 9: terminal out: {NO_NODE}");
     for (board, words) in [
         (
             format!("{STRIP}{IN}terminal out 0 V end 1 1 east\n"),
-            "line 9: terminal out: no corner of a leaf lies in it",
+            no_node.as_str(),
         ),
         (
             format!("{STRIP}{IN}terminal out 0 V end 1 0 west\n"),
             "line 9: terminals in and out share node 0",
+        ),
+        // The node at (16, 8), in the middle of a side.
+        (
+            format!("{STRIP}{IN}terminal out 0 V rect 1 0 15 7 17 9\nsplit 0\n"),
+            no_node.as_str(),
         ),
         (
             format!("{STRIP}{two}{OUT}# in\nterminal in 1 A end 1 1 west\n"),
@@ -218,10 +227,7 @@ fn terminals_that_hold_nothing_are_told_by_their_line() {
     }
     let words = ["solve", "--terminal", "out 0 V end 1 1 east"];
     let said = refused(BOARD, &words, strip().as_bytes());
-    assert_eq!(
-        said,
-        "--terminal: terminal out: no corner of a leaf lies in it\n"
-    );
+    assert_eq!(said, format!("--terminal: terminal out: {NO_NODE}\n"));
     for words in ["out", "out 0 V end 1 1 up", "out x V end 1 0 east"] {
         let said = refused(BOARD, &["solve", "--terminal", words], strip().as_bytes());
         assert!(
@@ -495,10 +501,7 @@ fn potentials_of_what_leafnet_printed() {
     let said = refused(RELAX, &["--board", &sample_name("across.txt")], &net);
     assert_eq!(said, "the text is of another board than the record\n");
     let said = refused(RELAX, &["--terminal", "out 0 V end 2 0 east"], &net);
-    assert_eq!(
-        said,
-        "--terminal: terminal out: no corner of a leaf lies in it\n"
-    );
+    assert_eq!(said, format!("--terminal: terminal out: {NO_NODE}\n"));
 }
 
 #[test]

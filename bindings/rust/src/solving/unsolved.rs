@@ -103,9 +103,11 @@ impl fmt::Display for Unsolved {
             Unsolved::NoSuchNode { terminal, node } => {
                 write!(f, "terminal {terminal}: there is no node {node}")
             }
-            Unsolved::NoNode { terminal } => {
-                write!(f, "terminal {terminal}: no corner of a leaf lies in it")
-            }
+            Unsolved::NoNode { terminal } => write!(
+                f,
+                "terminal {terminal}: no corner of a leaf of its copper lies in it, but for such as hang at the middle of \
+                 another's side"
+            ),
             Unsolved::Shared {
                 node,
                 terminals: [a, b],
