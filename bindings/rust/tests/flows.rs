@@ -420,6 +420,24 @@ fn a_board_at_one_potential_is_at_rest() {
     assert!(watts.parse::<f64>().expect("a number") < 1e-20, "{last}");
 }
 
+/// Two ends that mirror each other have one potential: what the iteration leaves of a difference stands as 0.
+#[test]
+fn a_mirrored_terminal_is_at_the_same_potential() {
+    let square = "level 2\ntarget 8\npolygon 1 0 0.0005\n0 0\n64 0\n64 64\n0 64\n";
+    let ends = "terminal in 4 A edge 1 0 0 24 0 40\nterminal up -2 A edge 1 0 40 64 56 64\n\
+                terminal down 0 V edge 1 0 40 0 56 0\n";
+    let board = format!("{square}{ends}");
+    let table = text_made(BOARD, &["solve"], board.as_bytes());
+    assert_eq!(behind(&table, "up "), "0           -2");
+    assert_eq!(behind(&table, "down "), "0           -2");
+    let output = run(BOARD, &["refine", "--rounds", "1"], board.as_bytes());
+    let said = String::from_utf8(output.stderr).expect("words");
+    assert!(
+        said.contains(" V 4 A, up 0 V -2 A, down 0 V -2 A, "),
+        "{said}"
+    );
+}
+
 /// Through an open switch a potential drives less than iteration and rounding leave, which is none. A current that is
 /// driven through it can't be told, and nothing is made.
 #[test]

@@ -4,7 +4,7 @@ use super::Given;
 use crate::solving::{place_of_most, Held, Solution, System, Unsolved};
 use crate::{Leaf, Mesh, Net};
 
-/// A current below this share of the largest one at a terminal is what the iteration leaves.
+/// A current or a potential below this share of the largest one at a terminal is what the iteration leaves.
 const LEFT: f64 = 1e-9;
 /// One below this share of what the largest potential would drive through a square is, too.
 const ROUNDED: f64 = 1e-11;
@@ -116,6 +116,17 @@ impl Solved {
         };
         let flows = from.amperes.abs() > self.rest;
         flows.then(|| (from.volts - to.volts) / from.amperes)
+    }
+
+    /// Name, potential and current of each terminal, 0 where they are no more than what iteration and rounding leave.
+    pub fn applied(&self) -> impl Iterator<Item = (&str, [f64; 2])> + '_ {
+        let all = &self.solution.terminals;
+        let most = all.iter().map(|one| one.volts.abs()).fold(0.0, f64::max);
+        all.iter().map(move |one| {
+            let is_left = one.volts.abs() < LEFT * most;
+            let volts = if is_left { 0.0 } else { one.volts };
+            (&one.terminal[..], [volts, self.without_rest(one.amperes)])
+        })
     }
 
     /// A current, or 0 where it is no more than what iteration and rounding leave.

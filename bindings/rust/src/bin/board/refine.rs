@@ -146,9 +146,9 @@ fn round_in_words(round: usize, solved: &Solved, before: Option<&Solved>) -> Str
     let words = match solved.ohms() {
         Some(ohms) => format!("{} ohm", digits(ohms)),
         None => {
-            let each = solved.solution.terminals.iter().map(|one| {
-                let [volts, amperes] = [one.volts, solved.without_rest(one.amperes)].map(digits);
-                format!("{} {volts} V {amperes} A, ", one.terminal)
+            let each = solved.applied().map(|(name, applied)| {
+                let [volts, amperes] = applied.map(digits);
+                format!("{name} {volts} V {amperes} A, ")
             });
             format!("{}{} W", each.collect::<String>(), digits(measure(solved)))
         }

@@ -46,9 +46,9 @@ fn put_terminals(solved: &Solved, text: &mut String) -> fmt::Result {
     let names = all.iter().map(|one| one.terminal.chars().count());
     let wide = names.max().unwrap_or(0).max(12);
     writeln!(text, "{:<wide$} {:>12} {:>12}", "terminal", "V", "A")?;
-    for one in all {
-        let [volts, amperes] = [one.volts, solved.without_rest(one.amperes)].map(digits);
-        writeln!(text, "{:<wide$} {volts:>12} {amperes:>12}", one.terminal)?;
+    for (name, applied) in solved.applied() {
+        let [volts, amperes] = applied.map(digits);
+        writeln!(text, "{name:<wide$} {volts:>12} {amperes:>12}")?;
     }
     Ok(())
 }
