@@ -464,6 +464,22 @@ fn nothing_flows_through_an_open_switch() {
     }
 }
 
+/// A via over 2,116 nodes on both its layers would make 4,477,456 edges, more than the tools have room for.
+#[test]
+fn links_of_too_many_edges_are_told_by_their_line() {
+    let layers = [1, 2].map(|layer| format!("polygon {layer} 0 1\n0 0\n90 0\n90 90\n0 90\n"));
+    let ends = "terminal in 3 A end 1 0 west\nterminal out 0 V end 2 0 east\n";
+    let board = format!(
+        "level 0\ntarget 2\n{}{ends}via 1 2 0 45 45 45 45 1\n",
+        layers.concat()
+    );
+    for words in [vec!["solve"], vec!["net"], vec!["vtk"]] {
+        let said = refused(BOARD, &words, board.as_bytes());
+        let start = "line 15: the links make more than 4000000 edges: ";
+        assert!(said.starts_with(start), "{said}");
+    }
+}
+
 /// By the net's conductances; with the board its text's terminals and pads are taken.
 #[test]
 fn potentials_of_what_leafnet_printed() {

@@ -48,19 +48,26 @@ impl Lines {
         Unclear { line, words }
     }
 
-    fn of_part(&self, board: &Board, part: &Part) -> Option<usize> {
-        let line = match *part {
-            Part::Polygon(polygon) => self.polygons.get(polygon),
-            Part::Point { polygon, point } => {
-                let first = first_point(board, polygon);
-                self.points.get(first.saturating_add(point))
-            }
-            Part::Split(at) => self.splits.get(at),
-            Part::Link(Link::Contact(at)) => self.contacts.get(at),
-            Part::Link(Link::Via(at)) => self.vias.get(at),
-            Part::Link(Link::Channel(at)) => self.channels.get(at),
+    /// The line of a link.
+    pub fn of_link(&self, link: Link) -> Option<usize> {
+        let line = match link {
+            Link::Contact(at) => self.contacts.get(at),
+            Link::Via(at) => self.vias.get(at),
+            Link::Channel(at) => self.channels.get(at),
         };
         line.copied()
+    }
+
+    fn of_part(&self, board: &Board, part: &Part) -> Option<usize> {
+        match *part {
+            Part::Polygon(polygon) => self.polygons.get(polygon).copied(),
+            Part::Point { polygon, point } => {
+                let first = first_point(board, polygon);
+                self.points.get(first.saturating_add(point)).copied()
+            }
+            Part::Split(at) => self.splits.get(at).copied(),
+            Part::Link(link) => self.of_link(link),
+        }
     }
 }
 

@@ -4,9 +4,12 @@ use super::{say, End, Terminals};
 use crate::sides::inside;
 use crate::solving::Unsolved;
 use crate::text::{self, Lines, Unclear, Whole};
-use crate::{Board, Mesh, Net, OwnedLinks, Pitch, Point, Unmeshed};
+use crate::{Board, Link, Mesh, Net, OwnedLinks, Pitch, Point, Refusal, Unmeshed};
 use std::borrow::Cow;
 use std::fmt;
+
+/// The most edges of a board's links: the solver takes some 200 bytes for each.
+const LINK_EDGES: usize = 4_000_000;
 
 /// A board by its record or its text. Only a text has links, and terminals of its own.
 pub struct Given {
@@ -101,8 +104,36 @@ impl Given {
     ///
     /// In words: the net is refused.
     pub fn net(&self, mesh: &Mesh) -> Result<Net, String> {
-        mesh.linked_net(self.links.rows())
-            .map_err(|why| self.blame(&why))
+        let past = self.past_room(mesh, LINK_EDGES);
+        match past.map_err(|why| self.blame(&why.into()))? {
+            Some(link) => Err(self.said(&self.crowded(link))),
+            None => mesh
+                .linked_net(self.links.rows())
+                .map_err(|why| self.blame(&why)),
+        }
+    }
+
+    /// The link with which there are more edges of links than so many.
+    fn past_room(&self, mesh: &Mesh, most: usize) -> Result<Option<Link>, Refusal> {
+        let links = self.links.rows();
+        let mut all: usize = 0;
+        let mut each = links.each().zip(mesh.edges_of_links(links)?);
+        let past = each.find(|&(_, edges)| {
+            all = all.saturating_add(edges);
+            all > most
+        });
+        Ok(past.map(|((link, _), _)| link))
+    }
+
+    fn crowded(&self, link: Link) -> String {
+        let words = format!(
+            "the links make more than {LINK_EDGES} edges: a via joins each node in its footprint on one layer to each \
+             on the other"
+        );
+        match self.lines().and_then(|lines| lines.of_link(link)) {
+            Some(line) => format!("line {line}: {words}"),
+            None => words,
+        }
     }
 
     /// The text, if it was given as one.
@@ -162,5 +193,25 @@ impl Given {
             Some(line) => format!("line {line}: {words}"),
             None => words,
         }
+    }
+}
+
+#[cfg(test)]
+mod tests {
+    use super::{End, Given};
+    use crate::{Link, Mesh};
+
+    /// Two vias of four edges each.
+    #[test]
+    fn the_link_that_passes_the_room_is_named() {
+        let layers = [1, 2].map(|layer| format!("polygon {layer} 0 1\n0 0\n8 0\n8 8\n0 8\n"));
+        let via = "via 1 2 0 0 4 1 4 1\n";
+        let text = format!("level 1\ntarget 8\n{}{via}{via}", layers.concat());
+        let given = Given::of_bytes(text.as_bytes(), &End::default()).expect("a board");
+        let mesh = Mesh::unjudged(&given.board).expect("a mesh");
+        let past = |most| given.past_room(&mesh, most).expect("counts");
+        assert_eq!(past(8), None);
+        assert_eq!(past(7), Some(Link::Via(1)));
+        assert_eq!(past(3), Some(Link::Via(0)));
     }
 }
