@@ -282,6 +282,25 @@ fn refined(text: &str, rounds: usize, share: f64) -> Mesh {
     mesh
 }
 
+/// A board of 30 by 20.2 mm with a neck of 0.2 mm, as docs/FORMATS.md draws it in cells of 1 mm, comes to 7.03 milliohms
+/// by heat, what uniform grids of 0.1 and 0.05 mm tend to.
+#[test]
+fn a_fine_neck_on_a_large_board_is_refined() {
+    let page = include_str!("../../../docs/FORMATS.md");
+    let start = page.find("    level 5\n").expect("the board");
+    let lines = page[start..].lines();
+    let mut board: String = lines
+        .map_while(|line| Some(line.strip_prefix("    ")?.to_string() + "\n"))
+        .collect();
+    board += "terminal in 5 A end 1 0 west\nterminal out 0 V end 1 0 east\n";
+    let mesh = refined(&board, 0, 0.5);
+    assert_eq!(mesh.head().leaves, 590);
+    let mesh = refined(&board, 4, 1.0 / 6.0);
+    let net = mesh.net().expect("a net");
+    let ohms = solved(&mesh, &net, &board).terminals[0].volts / 5.0;
+    assert!((ohms / 7.032e-3 - 1.0).abs() < 0.005, "{ohms}");
+}
+
 /// What is written means the same mesh, number by number, by text and by record.
 #[test]
 fn the_hottest_leaves_are_split_in_rounds() {
