@@ -245,6 +245,19 @@ fn volts_and_amperes_are_two_sides_of_one_terminal() {
     assert!((solution.terminals[2].amperes + 1.5).abs() < 1e-9);
 }
 
+/// A small current at a high potential gives what the cells take, too.
+#[test]
+fn a_small_current_far_above_0_v() {
+    let (mesh, net) = meshed(&fine_neck());
+    let terminals = [
+        end(Side::South, Drive::Amperes(1e-3)),
+        end(Side::North, Drive::Volts(4_096.0)),
+    ];
+    let solution = on_cells(&mesh, &net, &terminals);
+    let share = solution.given() / solution.watts() - 1.0;
+    assert!(share.abs() < 1e-3, "off by {share:e}");
+}
+
 /// The smallest and the largest currents have the resistance of any other.
 #[test]
 fn currents_of_any_size() {

@@ -102,9 +102,14 @@ impl Solution {
         place_of_most(leaves.iter().map(density)).map(|at| leaves[at])
     }
 
-    /// The power that the terminals give.
+    /// The power that the terminals give. Their currents add up to none, so potentials count from any level: from the
+    /// middle of them, where what the iteration left of that sum weighs least.
     pub fn given(&self) -> f64 {
-        let given = |one: &Applied| one.volts * one.amperes;
+        let volts = || self.terminals.iter().map(|one| one.volts);
+        let lowest = volts().fold(f64::INFINITY, f64::min);
+        let highest = volts().fold(f64::NEG_INFINITY, f64::max);
+        let middle = (lowest + highest) / 2.0;
+        let given = |one: &Applied| (one.volts - middle) * one.amperes;
         self.terminals.iter().map(given).sum()
     }
 }
