@@ -449,17 +449,18 @@ fn labels_and_the_legend_say_what_is_applied() {
 #[test]
 fn what_the_iteration_left_is_nothing() {
     let solved = Solved::of(&neck(), &across());
-    let applied = [(0.02, 10.0), (-3e-15, 2e-13)].map(|(volts, amperes)| Applied {
-        terminal: "any".to_string(),
-        volts,
-        amperes,
-    });
-    let picture = solved.bare();
-    let svg = picture
-        .with_terminals(&solved.net.nodes, &solved.held, &applied)
-        .svg();
-    assert!(svg.contains(">applied: in 10 A at 20 mV; out 0 A at 0 V; 0.2 W in all<"));
-    assert!(svg.contains(">out: 0 V, 0 A<"));
+    let svg_of = |out: f64| {
+        let applied = [(0.02, 10.0), (-3e-15, out)].map(|(volts, amperes)| Applied {
+            terminal: "any".to_string(),
+            volts,
+            amperes,
+        });
+        let picture = solved.bare();
+        let nodes = &solved.net.nodes;
+        picture.with_terminals(nodes, &solved.held, &applied).svg()
+    };
+    assert!(svg_of(-10.0).contains(">applied: in 10 A at 20 mV; out -10 A at 0 V; 0.2 W in all<"));
+    assert!(svg_of(2e-13).contains(">out: 0 V, 0 A<"));
 }
 
 /// Many terminals beside each other, with long names that have to be written otherwise in a picture.

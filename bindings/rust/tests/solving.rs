@@ -258,6 +258,45 @@ fn a_small_current_far_above_0_v() {
     assert!(share.abs() < 1e-3, "off by {share:e}");
 }
 
+/// Potentials count from a level of their copper: what flows is the same far from 0 V, on copper of several levels too,
+/// and copper without a terminal stays at 0 V.
+#[test]
+fn currents_far_from_0_v() {
+    let two = "level 1\ntarget 8\npolygon 1 0 1\n0 0\n8 0\n8 32\n0 32\npolygon 1 1 1\n16 0\n24 0\n24 32\n16 32\n\
+        polygon 1 2 1\n32 0\n40 0\n40 32\n32 32\n";
+    let (mesh, net) = meshed(two);
+    let end = |name: &str, component, side, drive| {
+        let spot = Spot::End {
+            layer: 1,
+            component,
+            side,
+        };
+        Terminal::new(name, spot, drive)
+    };
+    let terminals = [
+        end("in", 0, Side::South, Drive::Amperes(1e-3)),
+        end("out", 0, Side::North, Drive::Volts(1e6)),
+        end("back", 1, Side::North, Drive::Volts(-48.0)),
+        end("ground", 1, Side::South, Drive::Volts(-48.5)),
+    ];
+    let solution = on_cells(&mesh, &net, &terminals);
+    let amperes: Vec<f64> = solution.terminals.iter().map(|one| one.amperes).collect();
+    for (own, wanted) in amperes.iter().zip([1e-3, -1e-3, 0.125, -0.125]) {
+        assert!((own / wanted - 1.0).abs() < 1e-9, "{amperes:?}");
+    }
+    for (node, volts) in net.nodes.iter().zip(&solution.volts) {
+        let along = node.y as f64 / 32.0;
+        let wanted = match node.component {
+            0 => 1e6 + 4e-3 * (1.0 - along),
+            1 => -48.5 + 0.5 * along,
+            _ => 0.0,
+        };
+        assert!((volts - wanted).abs() < 1e-9, "{node:?} at {volts}");
+    }
+    let watts: f64 = solution.cells.iter().map(|cell| cell.watts).sum();
+    assert!((watts / (4e-6 + 0.0625) - 1.0).abs() < 1e-9);
+}
+
 /// The smallest and the largest currents have the resistance of any other.
 #[test]
 fn currents_of_any_size() {
@@ -486,7 +525,9 @@ fn what_a_via_joins_is_one_resistance() {
         let amperes =
             |edge: &Edge| edge.conductance * (solution.volts[edge.from] - solution.volts[edge.to]);
         let own: Vec<f64> = net.links().iter().map(amperes).collect();
-        assert_eq!(own, solution.edges);
+        for (own, edge) in own.iter().zip(&solution.edges) {
+            assert!((own / edge - 1.0).abs() < 1e-9);
+        }
         (net.links, ohms(&solution), through)
     };
     let (links, ohms, through) = solved(&via(4));

@@ -5,7 +5,7 @@ use super::layout::Layout;
 use super::outline::Outline;
 use super::svg::{escaped, put_words, shortened, width_of};
 use super::{Cell, Place};
-use crate::solving::{Applied, Drive, Held};
+use crate::solving::{given_by, Applied, Drive, Held};
 use std::collections::{BTreeMap, BTreeSet};
 use std::fmt::{self, Write};
 
@@ -113,8 +113,7 @@ fn words_of(held: &[Held], applied: &[Applied]) -> Vec<String> {
     };
     let mut words: Vec<String> = held.iter().enumerate().map(said).collect();
     if applied.len() >= held.len() {
-        let watts = applied.iter().map(|one| one.volts * one.amperes).sum();
-        words.push(format!("{} in all", with_unit(watts, "W")));
+        words.push(format!("{} in all", with_unit(given_by(applied), "W")));
     }
     let last = words.len().saturating_sub(1);
     words[..last].iter_mut().for_each(|part| part.push(';'));

@@ -8,8 +8,9 @@ const SHARE: f64 = 1e-6;
 const LEFT: f64 = 1e-11;
 
 /// By which share of the largest current those at the terminals are off: together they are none, and each that is
-/// driven is its drive. None where it is little enough.
-pub(super) fn off_by(held: &[Held], applied: &[Applied], siemens: f64) -> Option<f64> {
+/// driven is its drive. None where it is little enough; `most` is what the largest potential that is held, above or
+/// below the level of its copper, drives through the best-joined node.
+pub(super) fn off_by(held: &[Held], applied: &[Applied], most: f64) -> Option<f64> {
     let largest = |all: &mut dyn Iterator<Item = f64>| all.map(f64::abs).fold(0.0, f64::max);
     let all: f64 = applied.iter().map(|one| one.amperes).sum();
     let strays = held
@@ -21,11 +22,7 @@ pub(super) fn off_by(held: &[Held], applied: &[Applied], siemens: f64) -> Option
         });
     let off = largest(&mut strays.chain([all]));
     let amperes = largest(&mut applied.iter().map(|one| one.amperes));
-    let volts = largest(&mut held.iter().map(|one| match one.drive {
-        Drive::Volts(volts) => volts,
-        Drive::Amperes(_) => 0.0,
-    }));
-    let is_off = off > (SHARE * amperes).max(LEFT * volts * siemens);
+    let is_off = off > (SHARE * amperes).max(LEFT * most);
     is_off.then(|| off / amperes)
 }
 
@@ -33,7 +30,8 @@ pub(super) fn off_by(held: &[Held], applied: &[Applied], siemens: f64) -> Option
 mod tests {
     use super::*;
 
-    /// By how much the currents at two terminals are off, on copper whose best-joined node has 1,000 siemens.
+    /// By how much the currents at two terminals are off, on copper whose best-joined node has 1,000 siemens, at 1 V or
+    /// at the level itself.
     fn off(drives: [Drive; 2], amperes: [f64; 2]) -> Option<f64> {
         let held = drives.map(|drive| Held {
             terminal: String::new(),
@@ -45,7 +43,11 @@ mod tests {
             volts: 0.0,
             amperes,
         });
-        off_by(&held, &applied, 1e3)
+        let volts = |one: &Held| match one.drive {
+            Drive::Volts(volts) => volts,
+            Drive::Amperes(_) => 0.0,
+        };
+        off_by(&held, &applied, 1e3 * held.iter().map(volts).sum::<f64>())
     }
 
     #[test]

@@ -94,24 +94,29 @@ impl Solution {
         cells.chain(self.edge_watts.iter().copied()).sum()
     }
 
-    /// The leaf of the most power for its area, and what flows in it: cell i is leaf i of the mesh that the net is of. Of
-    /// several the first; none where no leaf takes power.
+    /// The leaf of the most power for its area, and what flows in it: cell i is leaf i of the mesh that the net is of.
+    /// Of several the first; none where no leaf takes power.
     pub fn hottest(&self, mesh: &Mesh) -> Option<(Leaf, Flow)> {
         let leaves: Vec<(Leaf, Flow)> = mesh.leaves().zip(self.cells.iter().copied()).collect();
         let density = |(leaf, flow): &(Leaf, Flow)| flow.watts / leaf.area();
         place_of_most(leaves.iter().map(density)).map(|at| leaves[at])
     }
 
-    /// The power that the terminals give. Their currents add up to none, so potentials count from any level: from the
-    /// middle of them, where what the iteration left of that sum weighs least.
+    /// The power that the terminals give.
     pub fn given(&self) -> f64 {
-        let volts = || self.terminals.iter().map(|one| one.volts);
-        let lowest = volts().fold(f64::INFINITY, f64::min);
-        let highest = volts().fold(f64::NEG_INFINITY, f64::max);
-        let middle = (lowest + highest) / 2.0;
-        let given = |one: &Applied| (one.volts - middle) * one.amperes;
-        self.terminals.iter().map(given).sum()
+        given_by(&self.terminals)
     }
+}
+
+/// The power that terminals give. Their currents add up to none, so potentials count from any level: from the middle of
+/// them, where what the iteration left of that sum weighs least.
+pub(crate) fn given_by(terminals: &[Applied]) -> f64 {
+    let volts = || terminals.iter().map(|one| one.volts);
+    let lowest = volts().fold(f64::INFINITY, f64::min);
+    let highest = volts().fold(f64::NEG_INFINITY, f64::max);
+    let middle = (lowest + highest) / 2.0;
+    let given = |one: &Applied| (one.volts - middle) * one.amperes;
+    terminals.iter().map(given).sum()
 }
 
 /// Values that differ by less than this share are alike: rounding may have either the larger.
@@ -239,16 +244,18 @@ impl System {
         let matrix = unknowns.matrix(&self.matrix);
         let found = conjugate_gradients(&matrix, unknowns.right(&self.matrix))
             .map_err(|share| Unsolved::NoEnd { share })?;
-        let solution = self.solution(held, unknowns.potentials(&found));
-        match off_by(held, &solution.terminals, self.matrix.largest()) {
+        let above = unknowns.potentials(&found);
+        let solution = self.solution(held, &above, unknowns.levels());
+        let most = unknowns.largest_held() * self.matrix.largest();
+        match off_by(held, &solution.terminals, most) {
             Some(share) => Err(Unsolved::Imprecise { share }),
             None => Ok(solution),
         }
     }
 
-    /// What flows at the potentials of the nodes that aren't tied.
-    fn solution(&self, held: &[Held], free: Vec<f64>) -> Solution {
-        let out = self.matrix.times(&free);
+    /// What flows at the potentials of the nodes that aren't tied, above their levels.
+    fn solution(&self, held: &[Held], above: &[f64], levels: &[f64]) -> Solution {
+        let out = self.matrix.times(above);
         let applied = |one: &Held| {
             let mut own: Vec<usize> = one.nodes.clone();
             own.retain(|&node| !self.is_tied(node));
@@ -256,31 +263,28 @@ impl System {
             own.dedup();
             Applied {
                 terminal: one.terminal.clone(),
-                volts: own.first().map_or(0.0, |&node| free[node]),
+                volts: own.first().map_or(0.0, |&node| levels[node] + above[node]),
                 amperes: own.iter().map(|&node| out[node]).sum(),
             }
         };
-        let terminals = held.iter().map(applied).collect();
-        let volts = self.with_ties(&free);
-        let drop = |edge: &Edge| volts[edge.from] - volts[edge.to];
+        let (above, levels) = (self.with_ties(above), self.with_ties(levels));
+        let drop = |edge: &Edge| above[edge.from] - above[edge.to];
+        let watts = |edge: &Edge| edge.conductance * drop(edge) * drop(edge);
+        let flow = |element: &Element| element.flow(&above);
         Solution {
-            terminals,
-            cells: self
-                .elements
+            volts: levels
                 .iter()
-                .map(|element| element.flow(&volts))
+                .zip(&above)
+                .map(|(level, above)| level + above)
                 .collect(),
+            terminals: held.iter().map(applied).collect(),
+            cells: self.elements.iter().map(flow).collect(),
             edges: self
                 .edges
                 .iter()
                 .map(|edge| edge.conductance * drop(edge))
                 .collect(),
-            edge_watts: self
-                .edges
-                .iter()
-                .map(|edge| edge.conductance * drop(edge) * drop(edge))
-                .collect(),
-            volts,
+            edge_watts: self.edges.iter().map(watts).collect(),
         }
     }
 

@@ -14,9 +14,12 @@ enum Source {
     Tied,
 }
 
-/// The sources of all nodes, and how many numbers are sought.
+/// The sources of all nodes, and how many numbers are sought. Potentials count from a level of the copper that a node
+/// is on, so that what flows far from 0 V isn't lost in rounding.
 pub(super) struct Unknowns {
     sources: Vec<Source>,
+    /// Of each node; those that hang have none of their own.
+    levels: Vec<f64>,
     /// The current into each sought number.
     currents: Vec<f64>,
 }
@@ -27,7 +30,7 @@ impl Unknowns {
     /// The first terminal that can't be held, or has a current that could come from any potential.
     pub fn of(system: &System, held: &[Held]) -> Result<Self, Unsolved> {
         let owners = owners_of(system, held)?;
-        judge_potentials(system, held, &owners)?;
+        let levels = levels_of(system, held, &owners)?;
         let mut currents = Vec::new();
         let mut seek = |current: f64| {
             currents.push(current);
@@ -41,12 +44,19 @@ impl Unknowns {
             })
             .collect();
         let source = |(node, owner): (usize, &Option<usize>)| match owner {
-            Some(terminal) => driven[*terminal],
+            Some(terminal) => match driven[*terminal] {
+                Source::Known(volts) => Source::Known(volts - levels[node]),
+                sought => sought,
+            },
             None if system.is_tied(node) => Source::Tied,
             None => seek(0.0),
         };
         let sources = owners.iter().enumerate().map(source).collect();
-        Ok(Unknowns { sources, currents })
+        Ok(Unknowns {
+            sources,
+            levels,
+            currents,
+        })
     }
 
     /// What flows into each sought number from the known ones and from outside.
@@ -75,7 +85,21 @@ impl Unknowns {
         Matrix::of_entries(self.currents.len(), entries.collect())
     }
 
-    /// The potentials of the nodes that don't hang; 0 of the others.
+    /// The level that the potentials of each node count from.
+    pub fn levels(&self) -> &[f64] {
+        &self.levels
+    }
+
+    /// The largest potential that is held, above or below its level.
+    pub fn largest_held(&self) -> f64 {
+        let held = self.sources.iter().map(|source| match source {
+            Source::Known(volts) => volts.abs(),
+            _ => 0.0,
+        });
+        held.fold(0.0, f64::max)
+    }
+
+    /// The potentials of the nodes that don't hang, above their levels; 0 of the others.
     pub fn potentials(&self, found: &[f64]) -> Vec<f64> {
         let volts = |source: &Source| match *source {
             Source::Known(volts) => volts,
@@ -137,12 +161,16 @@ fn owners_of(system: &System, held: &[Held]) -> Result<Vec<Option<usize>>, Unsol
     Ok(owners)
 }
 
-/// Whether each terminal with a current is joined to one with a potential.
-fn judge_potentials(
+/// The level of each node: what the first terminal with a potential that it is joined to is held at, or 0.
+///
+/// # Errors
+///
+/// The first terminal with a current that is joined to none.
+fn levels_of(
     system: &System,
     held: &[Held],
     owners: &[Option<usize>],
-) -> Result<(), Unsolved> {
+) -> Result<Vec<f64>, Unsolved> {
     let mut pieces = Pieces::of(&system.matrix, system.node_count());
     let mut firsts: Vec<Option<usize>> = vec![None; held.len()];
     for (node, owner) in owners.iter().enumerate() {
@@ -150,22 +178,21 @@ fn judge_potentials(
             pieces.join(*firsts[terminal].get_or_insert(node), node);
         }
     }
-    let mut ends = Vec::new();
+    let mut levels: Vec<Option<f64>> = vec![None; system.node_count()];
     for (one, first) in held.iter().zip(&firsts) {
-        if let (Drive::Volts(_), Some(node)) = (one.drive, first) {
-            ends.push(pieces.root(*node));
+        if let (Drive::Volts(volts), Some(node)) = (one.drive, first) {
+            levels[pieces.root(*node)].get_or_insert(volts);
         }
     }
     for (one, first) in held.iter().zip(&firsts) {
-        let is_joined = |node: usize, pieces: &mut Pieces| ends.contains(&pieces.root(node));
-        let drifts = matches!(one.drive, Drive::Amperes(_))
-            && !first.is_some_and(|node| is_joined(node, &mut pieces));
-        if drifts {
+        let level = first.and_then(|node| levels[pieces.root(node)]);
+        if let (Drive::Amperes(_), None) = (one.drive, level) {
             let terminal = one.terminal.clone();
             return Err(Unsolved::NoPotential { terminal });
         }
     }
-    Ok(())
+    let level = |node: usize| levels[pieces.root(node)].unwrap_or(0.0);
+    Ok((0..system.node_count()).map(level).collect())
 }
 
 /// Which nodes are joined, by one that stands for all of a piece.

@@ -84,7 +84,9 @@ impl Given {
 fn rest_of(net: &Net, solution: &Solution) -> f64 {
     let largest = |all: &mut dyn Iterator<Item = f64>| all.map(f64::abs).fold(0.0, f64::max);
     let amperes = largest(&mut solution.terminals.iter().map(|one| one.amperes));
-    let volts = largest(&mut solution.volts.iter().copied());
+    let volts = || solution.terminals.iter().map(|one| one.volts);
+    let [lowest, highest] = [volts().reduce(f64::min), volts().reduce(f64::max)];
+    let volts = highest.unwrap_or(0.0) - lowest.unwrap_or(0.0);
     let siemens = largest(&mut net.cells.iter().map(|cell| 1.0 / cell.sheet));
     (LEFT * amperes).max(ROUNDED * volts * siemens)
 }
