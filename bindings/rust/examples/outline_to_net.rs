@@ -33,13 +33,7 @@ const OUTLINE: [[f64; 2]; 12] = [
 ];
 
 fn main() -> ExitCode {
-    match run() {
-        Ok(()) => ExitCode::SUCCESS,
-        Err(why) => {
-            eprintln!("outline_to_net: {why}");
-            ExitCode::FAILURE
-        }
-    }
+    output::end("outline_to_net", run())
 }
 
 fn run() -> Result<(), Box<dyn Error>> {

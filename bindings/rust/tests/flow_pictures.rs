@@ -320,16 +320,22 @@ fn panel(svg: &str, solved: &Solved, layer: u16) -> [f64; 4] {
         let [x, y, w, h] = ["x", "y", "width", "height"].map(|name| number(tag, name).expect(name));
         [x, y, x + w, y + h]
     });
-    rects
-        .reduce(|a, b| {
-            [
-                a[0].min(b[0]),
-                a[1].min(b[1]),
-                a[2].max(b[2]),
-                a[3].max(b[3]),
-            ]
-        })
-        .expect("leaves")
+    around(rects)
+}
+
+/// The rectangle round all of them.
+fn around<T: PartialOrd + Copy>(rects: impl Iterator<Item = [T; 4]>) -> [T; 4] {
+    let least = |a: T, b: T| if b < a { b } else { a };
+    let most = |a: T, b: T| if b > a { b } else { a };
+    let both = |a: [T; 4], b: [T; 4]| {
+        [
+            least(a[0], b[0]),
+            least(a[1], b[1]),
+            most(a[2], b[2]),
+            most(a[3], b[3]),
+        ]
+    };
+    rects.reduce(both).expect("leaves")
 }
 
 fn is_at(a: [f64; 4], b: [f64; 4]) -> bool {
@@ -468,19 +474,7 @@ fn what_the_iteration_left_is_nothing() {
 fn labels_stand_clear_of_each_other() {
     let board = "level 2\npitch 0.5\npolygon 1 0 0.0005\n0 0\n20 0\n20 20\n0 20\n";
     let mesh = Mesh::of_board(&text::parse(board).expect("a board")).expect("a mesh");
-    let [west, south, east, north] = {
-        let rects = mesh.leaves().map(|leaf| leaf.rect);
-        rects
-            .reduce(|a, b| {
-                [
-                    a[0].min(b[0]),
-                    a[1].min(b[1]),
-                    a[2].max(b[2]),
-                    a[3].max(b[3]),
-                ]
-            })
-            .expect("leaves")
-    };
+    let [west, south, east, north] = around(mesh.leaves().map(|leaf| leaf.rect));
     let part = |from: i64, to: i64, of: i64| from + (to - from) / 12 * of;
     let mut terminals = Vec::new();
     for of in 0..12 {

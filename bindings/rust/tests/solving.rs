@@ -500,6 +500,25 @@ fn nodes_along_a_side() {
     assert_eq!(sides::along(net.rows(), 99, Side::East), Ok(Vec::new()));
 }
 
+/// A board with links, from the bottom of layer 1 to the top of layer 2.
+fn solved_upwards(board: &str, drive: Drive) -> (Net, Result<Solution, Unsolved>) {
+    let whole = text::parse_whole(board).expect("a board");
+    let mesh = Mesh::of_board(&whole.board).expect("a mesh");
+    let net = mesh.linked_net(whole.links.rows()).expect("a net");
+    let top = Spot::End {
+        layer: 2,
+        component: 0,
+        side: Side::North,
+    };
+    let terminals = [
+        end(Side::South, drive),
+        Terminal::new("top", top, Drive::Volts(0.0)),
+    ];
+    let system = System::of_cells(&net).expect("aligned");
+    let solution = system.solve(&mesh.held(&net, &terminals));
+    (net, solution)
+}
+
 /// Two strips one above the other on layers 1 and 2, each one square long twice, joined where one ends and the other
 /// begins: by a via over both ends, then by one at a corner.
 #[test]
@@ -507,19 +526,8 @@ fn what_a_via_joins_is_one_resistance() {
     let strips = "level 1\ntarget 8\npolygon 1 0 1\n0 0\n8 0\n8 16\n0 16\npolygon 2 0 1\n0 16\n8 16\n8 32\n0 32\n";
     let via = |half: i64| format!("{strips}via 1 2 0 4 16 {half} {half} 0.5\n");
     let solved = |text: &str| {
-        let whole = text::parse_whole(text).expect("a board");
-        let mesh = Mesh::of_board(&whole.board).expect("a mesh");
-        let net = mesh.linked_net(whole.links.rows()).expect("a net");
-        let top = Spot::End {
-            layer: 2,
-            component: 0,
-            side: Side::North,
-        };
-        let terminals = [
-            end(Side::South, Drive::Volts(1.0)),
-            Terminal::new("top", top, Drive::Volts(0.0)),
-        ];
-        let solution = on_cells(&mesh, &net, &terminals);
+        let (net, solution) = solved_upwards(text, Drive::Volts(1.0));
+        let solution = solution.expect("a solution");
         let through: f64 = solution.edges.iter().sum();
         assert_in_balance(&solution);
         let amperes =
@@ -546,20 +554,7 @@ fn links_too_far_from_the_copper_have_no_solution() {
     let strips = "level 1\ntarget 8\npolygon 1 0 5e-4\n0 0\n64 0\n64 64\n0 64\npolygon 2 0 5e-4\n0 0\n64 0\n64 64\n0 64\n";
     let solved = |ohms: f64, drive: Drive| {
         let text = format!("{strips}via 1 2 0 32 32 16 16 {ohms:e}\n");
-        let whole = text::parse_whole(&text).expect("a board");
-        let mesh = Mesh::of_board(&whole.board).expect("a mesh");
-        let net = mesh.linked_net(whole.links.rows()).expect("a net");
-        let top = Spot::End {
-            layer: 2,
-            component: 0,
-            side: Side::North,
-        };
-        let terminals = [
-            end(Side::South, drive),
-            Terminal::new("top", top, Drive::Volts(0.0)),
-        ];
-        let system = System::of_cells(&net).expect("aligned");
-        system.solve(&mesh.held(&net, &terminals))
+        solved_upwards(&text, drive).1
     };
     for ohms in [1e-6, 1e-3, 1.0, 1e3] {
         let solution = solved(ohms, Drive::Amperes(3.0)).expect("a solution");

@@ -12,13 +12,7 @@ use std::io::Write;
 use std::process::ExitCode;
 
 fn main() -> ExitCode {
-    match run() {
-        Ok(()) => ExitCode::SUCCESS,
-        Err(why) => {
-            eprintln!("conductances: {why}");
-            ExitCode::FAILURE
-        }
-    }
+    output::end("conductances", run())
 }
 
 fn run() -> Result<(), Box<dyn Error>> {

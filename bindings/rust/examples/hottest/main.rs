@@ -13,13 +13,7 @@ use std::io::Write;
 use std::process::ExitCode;
 
 fn main() -> ExitCode {
-    match run() {
-        Ok(()) => ExitCode::SUCCESS,
-        Err(why) => {
-            eprintln!("hottest: {why}");
-            ExitCode::FAILURE
-        }
-    }
+    output::end("hottest", run())
 }
 
 fn run() -> Result<(), Box<dyn Error>> {

@@ -24,13 +24,7 @@ use std::process::ExitCode;
 const BOARD: &str = include_str!("../../../../boards/vias.txt");
 
 fn main() -> ExitCode {
-    match run() {
-        Ok(()) => ExitCode::SUCCESS,
-        Err(why) => {
-            eprintln!("layers: {why}");
-            ExitCode::FAILURE
-        }
-    }
+    output::end("layers", run())
 }
 
 fn run() -> Result<(), Box<dyn Error>> {

@@ -51,13 +51,7 @@ const OUTLINE: [[f64; 2]; 12] = [
 ];
 
 fn main() -> ExitCode {
-    match run() {
-        Ok(()) => ExitCode::SUCCESS,
-        Err(why) => {
-            eprintln!("neck: {why}");
-            ExitCode::FAILURE
-        }
-    }
+    output::end("neck", run())
 }
 
 fn run() -> Result<(), Box<dyn Error>> {

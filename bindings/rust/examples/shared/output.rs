@@ -1,6 +1,8 @@
-//! Standard output, whose errors say that it was that.
+//! Standard output, whose errors say that it was that, and how an example ends.
 
+use std::error::Error;
 use std::io::{self, stdout, Write};
+use std::process::ExitCode;
 
 pub struct Output;
 
@@ -16,4 +18,15 @@ impl Write for Output {
 
 fn named(why: io::Error) -> io::Error {
     io::Error::new(why.kind(), format!("cannot write standard output: {why}"))
+}
+
+/// With 0, or with 1 and what is wrong on standard error.
+pub fn end(example: &str, done: Result<(), Box<dyn Error>>) -> ExitCode {
+    match done {
+        Ok(()) => ExitCode::SUCCESS,
+        Err(why) => {
+            eprintln!("{example}: {why}");
+            ExitCode::FAILURE
+        }
+    }
 }
