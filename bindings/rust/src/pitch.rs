@@ -188,6 +188,15 @@ fn rounded(millimetres: f64) -> f64 {
     (millimetres * 1e9).round() / 1e9
 }
 
+/// As other lengths; what is far below a micrometre by its power of ten.
+fn in_figures(millimetres: f64) -> String {
+    if millimetres < 1e-6 {
+        format!("{millimetres:e}")
+    } else {
+        rounded(millimetres).to_string()
+    }
+}
+
 impl fmt::Display for Misfit {
     fn fmt(&self, f: &mut fmt::Formatter<'_>) -> fmt::Result {
         let Misfit {
@@ -198,7 +207,8 @@ impl fmt::Display for Misfit {
         match why {
             Why::NoPitch { max_level } => write!(
                 f,
-                "{given} mm is no pitch at level {max_level}; the nearest is {nearest:e} mm"
+                "{given} mm is no pitch at level {max_level}; the nearest is {} mm",
+                in_figures(nearest)
             ),
             Why::TooFar => write!(
                 f,

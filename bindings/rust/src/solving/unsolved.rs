@@ -117,7 +117,11 @@ impl fmt::Display for Unsolved {
                 "terminal {terminal}: a current into copper that no terminal with a potential is joined to"
             ),
             Unsolved::NoEnd { share } => {
-                write!(f, "no solution: the residual fell to {share:.1e} only")
+                write!(
+                    f,
+                    "no solution: the iteration comes to no end ({share:.0e} of what it began with is left), as where links \
+                     or copper have resistances too far from each other"
+                )
             }
             Unsolved::Imprecise { share } => write!(
                 f,
