@@ -8,7 +8,7 @@ use Rattle.refusals.specs.Said.{refusal, is_accepted}
 use Rattle.leafnet_text.specs.Lines.{refusal_line}
 use Rattle.leafnet_text.specs.Output.{ended, printed}
 use Rattle.leafnet_text.specs.Fronts.{AppendsFront}
-use Rattle.leafnet_command.specs.Asked.{Asked, asked_in, Due, known, hidden, nothing}
+use Rattle.leafnet_command.specs.Asked.{Asked, answer, asked_in, Due, known, hidden, nothing}
 use Rattle.leafnet_command.specs.declared.request.TheConstants.{USAGE}
 use Rattle.leafnet_command.specs.declared.request.Request.TheVariants.{Answer}
 use Rattle.leafnet_command.specs.declared.ending.Ending.{Ending}
@@ -65,6 +65,11 @@ EndsAs due ending = ⊤
 abbrev pub NamesAsked : Asked → Ending → Type 0
 NamesAsked asked (Unread source why) = asked_in (Some (Answer source)) ≡ asked
 NamesAsked asked ending = ⊤
+
+-- standard input is read only where its record is asked for
+abbrev pub Leaves : Asked → Option (List ℕ) → Option (List ℕ) → Type 0
+Leaves answer old new = ⊤
+Leaves asked old new = new ≡ old
 
 -- standard output gets what is due
 abbrev pub Gets : Due → Option (List ℕ) → Option (List ℕ) → Type 0

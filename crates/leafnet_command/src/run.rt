@@ -3,7 +3,7 @@ ghost use Rattle.std.specs.Prelude.{Some, map, string_bytes};
 ghost use Rattle.refusals.specs.Said.{accepted};
 ghost use Rattle.leafnet_command.specs.declared.request.Request.TheVariants.{Answer};
 ghost use Rattle.leafnet_command.specs.Asked.{Asked, answer, asked_by, asked_in, due, known};
-ghost use Rattle.leafnet_command.specs.Ended.{EndsAs, Gets, GetsFront, IsAnswered, NamesAsked};
+ghost use Rattle.leafnet_command.specs.Ended.{EndsAs, Gets, GetsFront, IsAnswered, Leaves, NamesAsked};
 
 use crate::ending::Ending;
 use crate::request::{Request, Source, USAGE, VERSION, parse};
@@ -61,6 +61,7 @@ fn serve<'a, F: Files, R: Read, W: Write>(
 ) -> Ending<'a>
     ensures ending { EndsAs (due (asked_in request.entry) (R.remaining input.old)) result }
     ensures named { NamesAsked (asked_in request.entry) result }
+    ensures left { Leaves (asked_in request.entry) (R.remaining input.old) (R.remaining input.new) }
     ensures text { IsAnswered result → Gets (due (asked_in request.entry) (R.remaining input.old))
         (W.contents output.old) (W.contents output.new) }
     ensures front { GetsFront (due (asked_in request.entry) (R.remaining input.old))
@@ -91,6 +92,7 @@ pub fn run<'a, F: Files, R: Read, W: Write>(
 ) -> Ending<'a>
     ensures ending { EndsAs (due (asked_by (map string_bytes words.now)) (R.remaining input.old)) result }
     ensures named { NamesAsked (asked_by (map string_bytes words.now)) result }
+    ensures left { Leaves (asked_by (map string_bytes words.now)) (R.remaining input.old) (R.remaining input.new) }
     ensures text { IsAnswered result → Gets (due (asked_by (map string_bytes words.now)) (R.remaining input.old))
         (W.contents output.old) (W.contents output.new) }
     ensures front { GetsFront (due (asked_by (map string_bytes words.now)) (R.remaining input.old))
