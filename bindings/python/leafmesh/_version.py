@@ -1,3 +1,3 @@
 """The version of this package and of the library that it calls."""
 
-VERSION = "0.10.0"
+VERSION = "0.11.0"

@@ -165,7 +165,7 @@ fn records_on_standard_input(rt: HostRuntime) -> Result<(), Fail> {
 #[test]
 fn other_command_lines(rt: HostRuntime) -> Result<(), Fail> {
     let version = Wanted {
-        printed: "leafnet 0.10.0\n",
+        printed: "leafnet 0.11.0\n",
         said: "",
         status: 0,
     };

@@ -12,7 +12,7 @@ another way.
 ";
 
 /// What `--version` prints: the version of header and crate, too.
-pub const VERSION: &str = "leafnet 0.10.0\n";
+pub const VERSION: &str = "leafnet 0.11.0\n";
 
 /// Where a record is read from.
 #[derive(Clone, Copy, Debug, PartialEq, Eq)]
