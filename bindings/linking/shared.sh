@@ -2,7 +2,7 @@
 # shared.sh ARCHIVE FOLDER: makes the shared library of the static one, with its links, in a folder that is there.
 #
 # It exports the calls of include/leafmesh.h and nothing else. Its name for the loader has as much of the version as a
-# program depends on (libleafmesh.so.0.10, say). It is made by cc, or the compiler that CC names, for x86-64.
+# program depends on (libleafmesh.so.0.11, say). It is made by cc, or the compiler that CC names, for x86-64.
 set -eu
 # shellcheck source=../usage.sh
 . "$(dirname "$0")/../usage.sh"
