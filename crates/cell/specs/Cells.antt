@@ -1,12 +1,11 @@
 -- The cell that the code passes by value, and what its constructors and methods hand back.
 use Rattle.std.specs.Prelude.{ℕ, ◌+◌}
 use Rattle.cell.specs.declared.Cell.{Cell}
-use Rattle.cell.specs.declared.TheConstants.Cell.{NO_CELL}
 use Rattle.cell.specs.Boxes.{Box, Quad, mid, quadrant}
 
 -- marks no parent and no child
 abbrev pub no_cell : ℕ
-no_cell = NO_CELL
+no_cell = 4294967295
 
 abbrev pub box_of : Cell → Box
 box_of c = record { x0 = c.x0; y0 = c.y0; x1 = c.x1; y1 = c.y1 }

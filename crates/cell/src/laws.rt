@@ -1,6 +1,19 @@
-//! What contact comes to.
+//! What contact comes to, and whose numbers a cell's constants are.
+ghost use Rattle.std.specs.Prelude.{◌≡◌};
+ghost use Rattle.refusals.specs.Limits.{widest_level};
+ghost use Rattle.cell.specs.Cells.{no_cell};
+ghost use Rattle.cell.specs.Ticks.{tick};
 ghost use Rattle.cell.specs.Laws.{SomeBorder, OneSide, BorderOnAnySide, BorderHasLength, BorderTurned, AnswerTurned};
 ghost use Rattle.cell.specs.Laws.{ContactIsMutual, CornersDoNotTouch, SomeQuadrantTouches, OneContact};
+
+use crate::Cell;
+
+/// The constants of a cell are the rules' numbers.
+pub fn constants_of_the_rules()
+    ensures no_cell { Cell.NO_CELL ≡ no_cell }
+    ensures widest_level { Cell.WIDEST_LEVEL ≡ widest_level }
+    ensures tick { Cell.TICK ≡ tick }
+{}
 
 /// Two cells have a border exactly if they share an edge by the rules.
 pub fn some_border()

@@ -1,4 +1,5 @@
-//! The rules' table of ranges: each number once. specs/Limits.antt names them for the contracts.
+//! The rules' table of ranges for the code. specs/Limits.antt has it for the contracts, and the law
+//! `laws::ranges_of_the_rules` holds each constant to its number there.
 
 /// A coordinate lies within this many ticks of 0, either way: 2^36.
 pub const COORDINATE: i64 = 1 << 36;
