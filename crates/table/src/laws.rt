@@ -1,6 +1,15 @@
 //! What the calls on a lent table come to.
+ghost use Rattle.std.specs.Prelude.{◌≡◌, pos};
+ghost use Rattle.cell.specs.Cells.{no_cell};
 ghost use Rattle.table.specs.Laws.{TestIsDefinition, EachLeafOnce, OrderHasTheLeaves, OrderIsAsLong, OneList};
 ghost use Rattle.table.specs.Laws.{LeavesAreListed, LeavesByRoots, OneRefined};
+
+use crate::slots::NO_CELL;
+
+/// What stands in a row for no cell is the rules' number.
+pub fn row_marks_no_cell()
+    ensures { NO_CELL ≡ pos no_cell }
+{}
 
 /// The one walk over a row says yes exactly if the rules' definition holds, clause by clause.
 pub fn test_is_definition()
