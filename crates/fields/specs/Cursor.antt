@@ -31,6 +31,11 @@ abbrev pub Reads : {A : Type 0} → Result A Refusal → Cursor → Result (A ×
 Reads (Ok x) after reading = reading ≡ Ok (x, after)
 Reads (Err e) after reading = reading ≡ Err e
 
+-- The same of a field that is there or isn't, whatever its value: where it isn't, reading refuses by 2 where it begins.
+abbrev pub Finds : {A : Type 0} → Option A → Cursor → Cursor → Result (A × Cursor) Refusal → Type 0
+Finds (Some x) before after reading = reading ≡ Ok (x, after)
+Finds None before after reading = reading ≡ Err (WrongLength before.at)
+
 abbrev pub IsFieldAt : ℕ → List ℕ → ℕ → Option (List ℕ) → Type 0
 IsFieldAt n bytes at field = field ≡ (if nat_lt (length (drop at bytes)) n then None else Some (take n (drop at bytes)))
 

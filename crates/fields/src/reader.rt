@@ -1,9 +1,9 @@
 //! A reader that carries the lent bytes and its offset. Each call takes it apart and calls the offset reader.
 
-ghost use Rattle.std.specs.Prelude.{◌≡◌, ◌≤◌, length, OnErr, Ok};
+ghost use Rattle.std.specs.Prelude.{◌≡◌, ◌≤◌, length, IfNone, OnErr, Ok};
 ghost use Rattle.std.specs.Int.{w8, w16, w32, w64};
 ghost use Rattle.refusals.specs.declared.Refusal.TheVariants.{OutOfRange};
-ghost use Rattle.fields.specs.Cursor.{start, past, Reads, require, bytes_of, number, signed_number};
+ghost use Rattle.fields.specs.Cursor.{start, past, Finds, Reads, require, bytes_of, number, signed_number};
 ghost use Rattle.fields.specs.Codec.{ranged};
 
 use crate::offset::field_at;
@@ -66,58 +66,57 @@ impl<'a> Reader<'a> {
 
     // The next N bytes. The reader moves past them, or stays where one of them is missing.
     #[inline]
-    fn field<const N: usize>(&mut self) -> Result<[u8; N], Refusal>
-        ensures read { Reads result self.new (bytes_of N self.old) }
-        ensures refused_stays { OnErr result (self.new ≡ self.old) }
+    fn field<const N: usize>(&mut self) -> Option<[u8; N]>
+        ensures read { Finds result self.old self.new (bytes_of N self.old) }
+        ensures missing_stays { IfNone result (self.new ≡ self.old) }
     {
-        // `let .. else`: where a field is read, its refusal and the place of it stand written out.
-        let Some(field) = field_at::<N>(self.bytes, self.at) else {
-            return Err(Refusal::WrongLength(self.at));
-        };
+        let field = field_at::<N>(self.bytes, self.at)?;
         self.at += N;
-        Ok(field)
+        Some(field)
     }
 
+    // A number is there whole or it isn't: whoever reads it says by `let .. else` which refusal that is, and its place.
+
     #[inline]
-    pub fn read_u8(&mut self) -> Result<u8, Refusal>
-        ensures read { Reads result self.new (number w8 self.old) }
-        ensures refused_stays { OnErr result (self.new ≡ self.old) }
+    pub fn read_u8(&mut self) -> Option<u8>
+        ensures read { Finds result self.old self.new (number w8 self.old) }
+        ensures missing_stays { IfNone result (self.new ≡ self.old) }
     {
         let [byte] = self.field::<1>()?;
-        Ok(byte)
+        Some(byte)
     }
 
     #[inline]
-    pub fn read_u16(&mut self) -> Result<u16, Refusal>
-        ensures read { Reads result self.new (number w16 self.old) }
-        ensures refused_stays { OnErr result (self.new ≡ self.old) }
+    pub fn read_u16(&mut self) -> Option<u16>
+        ensures read { Finds result self.old self.new (number w16 self.old) }
+        ensures missing_stays { IfNone result (self.new ≡ self.old) }
     {
-        Ok(u16::from_be_bytes(self.field::<2>()?))
+        Some(u16::from_be_bytes(self.field::<2>()?))
     }
 
     #[inline]
-    pub fn read_u32(&mut self) -> Result<u32, Refusal>
-        ensures read { Reads result self.new (number w32 self.old) }
-        ensures refused_stays { OnErr result (self.new ≡ self.old) }
+    pub fn read_u32(&mut self) -> Option<u32>
+        ensures read { Finds result self.old self.new (number w32 self.old) }
+        ensures missing_stays { IfNone result (self.new ≡ self.old) }
     {
-        Ok(u32::from_be_bytes(self.field::<4>()?))
+        Some(u32::from_be_bytes(self.field::<4>()?))
     }
 
     #[inline]
-    pub fn read_u64(&mut self) -> Result<u64, Refusal>
-        ensures read { Reads result self.new (number w64 self.old) }
-        ensures refused_stays { OnErr result (self.new ≡ self.old) }
+    pub fn read_u64(&mut self) -> Option<u64>
+        ensures read { Finds result self.old self.new (number w64 self.old) }
+        ensures missing_stays { IfNone result (self.new ≡ self.old) }
     {
-        Ok(u64::from_be_bytes(self.field::<8>()?))
+        Some(u64::from_be_bytes(self.field::<8>()?))
     }
 
     /// In two's complement.
     #[inline]
-    pub fn read_i64(&mut self) -> Result<i64, Refusal>
-        ensures read { Reads result self.new (signed_number self.old) }
-        ensures refused_stays { OnErr result (self.new ≡ self.old) }
+    pub fn read_i64(&mut self) -> Option<i64>
+        ensures read { Finds result self.old self.new (signed_number self.old) }
+        ensures missing_stays { IfNone result (self.new ≡ self.old) }
     {
-        Ok(self.read_u64()?.cast_signed())
+        Some(self.read_u64()?.cast_signed())
     }
 
     /// Goes on past n bytes. Internal: they are there.
@@ -135,11 +134,7 @@ impl<'a> Reader<'a> {
         requires { N ≤ length self.old.rest }
         ensures { bytes_of N self.old ≡ Ok (result, self.new) }
     {
-        let end = self.at + N;
-        let mut field = [0; N];
-        field.copy_from_slice(&self.bytes[self.at..end]);
-        self.at = end;
-        field
+        self.field::<N>().unwrap()
     }
 
     // One call for each width, as std's `from_be_bytes` is: a trait over the widths would be longer than what it saves.
@@ -199,7 +194,9 @@ impl<'a> Reader<'a> {
         ensures refused_stays { OnErr result (self.new ≡ self.old) }
     {
         let mut ahead = self.ahead();
-        let value = ahead.read_u16()?;
+        let Some(value) = ahead.read_u16() else {
+            return Err(Refusal::WrongLength(self.at));
+        };
         self.accept(ahead, value, low <= value && value <= high)
     }
 
@@ -210,7 +207,9 @@ impl<'a> Reader<'a> {
         ensures refused_stays { OnErr result (self.new ≡ self.old) }
     {
         let mut ahead = self.ahead();
-        let value = ahead.read_u64()?;
+        let Some(value) = ahead.read_u64() else {
+            return Err(Refusal::WrongLength(self.at));
+        };
         self.accept(ahead, value, low <= value && value <= high)
     }
 }

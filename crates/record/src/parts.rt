@@ -15,7 +15,10 @@ pub fn read_level(reader: &mut Reader<'_>, most: u8) -> Result<u64, Refusal>
     ensures refused_stays { OnErr result (reader.new ≡ reader.old) }
 {
     let mut ahead = reader.ahead();
-    let level = match ahead.read_u8()? {
+    let Some(level) = ahead.read_u8() else {
+        return Err(Refusal::WrongLength(reader.offset()));
+    };
+    let level = match level {
         255 => DEFAULT_LEVEL,
         level if level <= most => u64::from(level),
         _ => return Err(Refusal::OutOfRange(reader.offset())),
@@ -31,7 +34,9 @@ pub fn read_layer(reader: &mut Reader<'_>, last: Option<u16>) -> Result<u16, Ref
     ensures refused_stays { OnErr result (reader.new ≡ reader.old) }
 {
     let mut ahead = reader.ahead();
-    let layer = ahead.read_u16()?;
+    let Some(layer) = ahead.read_u16() else {
+        return Err(Refusal::WrongLength(reader.offset()));
+    };
     reader.accept(ahead, layer, last.is_none_or(|last| last < layer))
 }
 
@@ -42,6 +47,8 @@ pub fn read_coordinate(reader: &mut Reader<'_>) -> Result<i64, Refusal>
     ensures refused_stays { OnErr result (reader.new ≡ reader.old) }
 {
     let mut ahead = reader.ahead();
-    let value = ahead.read_i64()?;
+    let Some(value) = ahead.read_i64() else {
+        return Err(Refusal::WrongLength(reader.offset()));
+    };
     reader.accept(ahead, value, cell::ticks::in_range(value))
 }

@@ -75,8 +75,12 @@ fn read_ring(reader: &mut Reader<'_>, count: u16) -> Result<(), Refusal>
 fn read_polygon(reader: &mut Reader<'_>, limits: Limits) -> Result<u16, Refusal>
     ensures { ReadsPolygon result reader.new ((polygon limits).reading reader.old) }
 {
-    reader.read_u16()?;
-    reader.read_u32()?;
+    let Some(_layer) = reader.read_u16() else {
+        return Err(Refusal::WrongLength(reader.offset()));
+    };
+    let Some(_component) = reader.read_u32() else {
+        return Err(Refusal::WrongLength(reader.offset()));
+    };
     reader.read_u64_within(SHEET_LOW_BITS, SHEET_HIGH_BITS)?;
     let points = reader.read_u16_within(0, limits.ring_points)?;
     read_ring(reader, points)?;
@@ -104,7 +108,9 @@ fn read_splits(reader: &mut Reader<'_>) -> Result<usize, Refusal>
 {
     let count = usize::from(reader.read_u16_within(0, u16::MAX)?);
     for _ in 0..count {
-        reader.read_u32()?;
+        let Some(_id) = reader.read_u32() else {
+            return Err(Refusal::WrongLength(reader.offset()));
+        };
     }
     Ok(count)
 }
@@ -135,9 +141,15 @@ pub fn walk(bytes: &[u8]) -> Result<Read, Refusal>
     ensures { Answers result (board bytes.now) }
 {
     let mut reader = Reader::new(bytes);
-    let version = Version::try_from(reader.read_u8()?)?;
+    let Some(byte) = reader.read_u8() else {
+        return Err(Refusal::WrongLength(reader.offset()));
+    };
+    let version = Version::try_from(byte)?;
     let at = reader.offset();
-    if reader.read_u32()? as usize != reader.left() {
+    let Some(length) = reader.read_u32() else {
+        return Err(Refusal::WrongLength(at));
+    };
+    if length as usize != reader.left() {
         return Err(Refusal::WrongLength(at));
     }
     let limits = version.limits();
