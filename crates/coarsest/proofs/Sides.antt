@@ -1,9 +1,10 @@
 -- The cuts are exact: a cell's sides are positive multiples of a power of two that its level tells. Assumes nothing.
-use Rattle.std.proofs.Common.{◌≡◌, sym, ap, subst, ◌∙◌, List, [], ◌∷◌, ℕ, suc, ◌+◌, ◌*◌, ◌-◌, ◌^◌, ◌<◌, ◌≤◌, arith, pow-suc, mul_assoc, length}
+use Rattle.std.proofs.Common.{◌≡◌, sym, ap, subst, ◌∙◌, List, [], ◌∷◌, ℕ, suc, ◌+◌, ◌*◌, ◌-◌, ◌^◌, ◌<◌, ◌≤◌, arith, pow-suc, pow_pos, mul-pos, mul_assoc, length, Some}
 use native.Mathlib.Nat.{sub-zero}
-use Rattle.cell.specs.Boxes.{Box, Quad, sw, se, nw, ne, quadrant, mid}
+use Rattle.cell.specs.Boxes.{Box, Quad, num, sw, se, nw, ne, quadrant, mid}
 use Rattle.table.specs.Mesh.{Cell, at}
 use Rattle.coarsest.specs.Names.{Route, place}
+use Rattle.coarsest.specs.Laws.{IsCutExactly, NoCutRounds, ChildrenAreHalves}
 use Rattle.table.specs.Formed.{Formed}
 use Rattle.coarsest.proofs.Find.{named, tells, find-rooted}
 use Rattle.coarsest.proofs.Least.{level-most}
@@ -46,3 +47,42 @@ cell-sides M t formed i h =
     let m = level-most M t formed i h in
     let l = s.level in
     rw (s.box, s.level) (place-sides M (at t n.root).box (r.wide, r.high) n.path (omega arith))
+
+-- ---- the law that src/laws.rt promises: no cut rounds
+
+halved : (n a b : ℕ) → Span (suc n) a b → IsCutExactly a b
+halved n a b s =
+    let e = s.1 in
+    let d = twice s.0 n in
+    let p : 0 < suc s.0 * 2 ^ n = mul-pos (omega arith) (pow_pos n) in
+    (suc s.0 * 2 ^ n, p, omega arith, omega arith)
+
+pub no-cut-rounds : NoCutRounds
+no-cut-rounds M t formed i h =
+    let m = level-most M t formed i h in
+    let e : M + 1 - (at t i).level ≡ suc (M - (at t i).level) = omega arith in
+    let s = subst (λ (n : ℕ). Sides n (at t i).box) e (cell-sides M t formed i h) in
+    (halved (M - (at t i).level) _ _ s.0, halved (M - (at t i).level) _ _ s.1)
+
+-- one side of a child of a side that is cut exactly
+lower : (a b : ℕ) → IsCutExactly a b → 2 * (mid a b - a) ≡ b - a
+lower a b s = let e = s.2 in let f = s.3 in omega arith
+
+upper : (a b : ℕ) → IsCutExactly a b → 2 * (b - mid a b) ≡ b - a
+upper a b s = let e = s.2 in let f = s.3 in omega arith
+
+abbrev HalfOf : Box → Box → Type 0
+HalfOf child parent = (2 * (child.x1 - child.x0) ≡ parent.x1 - parent.x0) × (2 * (child.y1 - child.y0) ≡ parent.y1 - parent.y0)
+
+quadrant-half : (B : Box) (q : Quad) → IsCutExactly B.x0 B.x1 → IsCutExactly B.y0 B.y1 → HalfOf (quadrant B q) B
+quadrant-half B sw x y = (lower _ _ x, lower _ _ y)
+quadrant-half B se x y = (upper _ _ x, lower _ _ y)
+quadrant-half B nw x y = (lower _ _ x, upper _ _ y)
+quadrant-half B ne x y = (upper _ _ x, upper _ _ y)
+
+pub children-are-halves : ChildrenAreHalves
+children-are-halves M t formed i f e q =
+    let s = formed.split i f e in
+    let h : i < length t = omega (arith, s.above, s.below) in
+    let c = no-cut-rounds M t formed i h in
+    subst (λ (b : Box). HalfOf b (at t i).box) (sym (s.kid q).box) (quadrant-half (at t i).box q c.0 c.1)

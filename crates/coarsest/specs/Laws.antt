@@ -1,8 +1,8 @@
--- The laws of the passes, for both engines and every allowed difference k of levels. crates/coarsest/src/laws.rt
--- promises each.
-use Rattle.std.specs.Prelude.{ℕ, ◌+◌, ◌*◌, ◌<◌, ◌≡◌, ◌↔◌, ◌||◌, ◌⊎◌, true, false, List}
+-- The laws of the passes, for both engines and every allowed difference k of levels, and of the cuts that they make.
+-- crates/coarsest/src/laws.rt promises each.
+use Rattle.std.specs.Prelude.{ℕ, ◌+◌, ◌*◌, ◌-◌, ◌<◌, ◌≡◌, ◌↔◌, ◌||◌, ◌⊎◌, true, false, List}
 use Rattle.std.specs.Prelude.{Some, length, Contains}
-use Rattle.cell.specs.Boxes.{Box}
+use Rattle.cell.specs.Boxes.{Box, Quad, num, mid}
 use Rattle.table.specs.Mesh.{Cell, at, leaf_count}
 use Rattle.table.specs.Formed.{Formed}
 use Rattle.coarsest.specs.declared.Engine.{Engine}
@@ -103,3 +103,20 @@ EveningAddsThree =
 abbrev pub PassSettles : Type 0
 PassSettles =
     (e : Engine) (k : ℕ) (t : List Cell) (a b : ℕ) → a < length t → b < length t → is_due e k (pass e k t) a b ≡ false
+
+-- the side from a to b is cut into two of one positive length, so that `mid` doesn't round
+abbrev pub IsCutExactly : ℕ → ℕ → Type 0
+IsCutExactly a b = (half : ℕ) × (0 < half) × (mid a b ≡ a + half) × (b ≡ a + half + half)
+
+-- both sides of every cell are, of a split one and of one that isn't split yet
+abbrev pub NoCutRounds : Type 0
+NoCutRounds =
+    (M : ℕ) (t : List Cell) → Formed M t → (i : ℕ) → i < length t
+    → IsCutExactly (at t i).box.x0 (at t i).box.x1 × IsCutExactly (at t i).box.y0 (at t i).box.y1
+
+-- so a child's sides are the halves of its parent's
+abbrev pub ChildrenAreHalves : Type 0
+ChildrenAreHalves =
+    (M : ℕ) (t : List Cell) → Formed M t → (i f : ℕ) → (at t i).kids ≡ Some f → (q : Quad)
+    → let parent = (at t i).box in let child = (at t (f + num q)).box in
+    (2 * (child.x1 - child.x0) ≡ parent.x1 - parent.x0) × (2 * (child.y1 - child.y0) ≡ parent.y1 - parent.y0)

@@ -1,7 +1,9 @@
-//! The laws of the passes: each function ensures one of them, for every table, and does nothing.
+//! The laws of the passes, and of the cuts that they make: each function ensures one of them, for every table, and does
+//! nothing.
 ghost use Rattle.coarsest.specs.Laws.{CoarsestIsReached, CoarsestIsOne, PassesEnd, StaysFormed, KeepsRoots};
 ghost use Rattle.coarsest.specs.Laws.{SplittingTellsLeaves, MoreSplitsEndFiner, PartsEndTheSame, NeedsTheCellsReached};
 ghost use Rattle.coarsest.specs.Laws.{EveningAddsThree, PassSettles, OneName, ListIsSplit, LaterSplitsEndTheSame};
+ghost use Rattle.coarsest.specs.Laws.{NoCutRounds, ChildrenAreHalves};
 
 /// What the passes end in is the coarsest splitting that they may end in.
 pub fn coarsest_is_reached()
@@ -71,4 +73,10 @@ pub fn evening_adds_three()
 /// What one pass leaves to the next: no two cells that stood at its start.
 pub fn pass_settles()
     ensures { PassSettles }
+{}
+
+/// Every cell's middles are whole ticks, so a child is half as wide and half as high as its parent, to the tick.
+pub fn no_cut_rounds()
+    ensures middles { NoCutRounds }
+    ensures children { ChildrenAreHalves }
 {}
