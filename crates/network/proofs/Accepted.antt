@@ -1,5 +1,5 @@
 -- What an accepted call found, and what it leaves. Assumes nothing.
-use Rattle.std.proofs.Common.{◌≡◌, refl, sym, ◌∙◌, Bool, true, false, not, cond, List, ℕ, ◌<◌, ◌≤◌, arith, zero-add, ltb, nat_le, eqb-true, length, get_or, Float, None, Some, Option, slice_index}
+use Rattle.std.proofs.Common.{◌≡◌, refl, sym, ◌∙◌, Bool, true, false, not, cond, List, [], ◌∷◌, ℕ, ◌<◌, ◌≤◌, arith, zero-add, ltb, nat_le, eqb-true, length, get_or, Float, None, Some, Option, slice_index}
 use lib.Ieee.{nan}
 use Rattle.std.specs.Prelude.{All, IsTrue}
 use Rattle.std.specs.List.{range_with_len}
@@ -22,8 +22,8 @@ use Rattle.links.specs.Made.{linked, linked_network}
 use Rattle.links.proofs.Conducting.{linked-conduct}
 use Rattle.network.proofs.Bare.{leaf_count-leaves, leaves-few}
 use Rattle.network.specs.declared.NetSize.{NetSize}
-use Rattle.network.specs.Says.{fits, first_bad, unless_bad, judged, network_says, size_values}
-use Rattle.network.specs.Laws.{AcceptedCall, AcceptedEdgesConduct, AcceptedCellsAreRectangles, OneAnswer, OneContent}
+use Rattle.network.specs.Says.{fits, first_bad, unless_bad, judged, network_says, size_values, edge_rows_says}
+use Rattle.network.specs.Laws.{AcceptedCall, AcceptedEdgesConduct, AcceptedCellsAreRectangles, OneAnswer, OneContent, OneCount}
 
 -- what is accepted passed the test, and what stands behind it is accepted
 passed : (test : Bool) (rest : Said) (number place : ℕ) (values : List ℕ) → cond test rest (refused number place) ≡ accepted values
@@ -92,3 +92,6 @@ one-answer row head p sheets links lent = one-said size_values netted (λ c. ref
 
 pub one-content : OneContent
 one-content row head p sheets links lent left other a b = a ∙ sym b
+
+pub one-count : OneCount
+one-count row head p sheets links = one-said (λ n. n ∷ []) (λ vs. slice_index vs 0) (λ n. refl) (edge_rows_says row head p sheets links)

@@ -1,4 +1,5 @@
--- What an accepted call leaves, and that its contract permits one outcome: the laws that src/laws.rt promises. Definitions only.
+-- What an accepted call leaves, and that the contracts of both calls permit one outcome: the laws that src/laws.rt
+-- promises. Definitions only.
 use Rattle.std.specs.Prelude.{ℕ, ◌≡◌, List, ℤ, Float, All, Result}
 use Rattle.refusals.specs.declared.Refusal.{Refusal}
 use Rattle.refusals.specs.Said.{accepted}
@@ -9,7 +10,7 @@ use Rattle.net.specs.Net.{Cornered}
 use Rattle.net.specs.Laws.{IsPositive}
 use Rattle.links.specs.declared.rows.Links.{Links}
 use Rattle.network.specs.declared.NetSize.{NetSize}
-use Rattle.network.specs.Says.{Rows, netted_said, network_says, network_leaves, net_of}
+use Rattle.network.specs.Says.{Rows, netted_said, network_says, network_leaves, net_of, rows_said, edge_rows_says}
 
 -- a call, and the counts that it answers where it is accepted
 pub record AcceptedCall : Type 0 where
@@ -43,3 +44,10 @@ abbrev pub OneContent : Type 0
 OneContent =
     (row : List ℤ) (head : Head) (p : Polygons) (sheets : List Float) (links : Links) (lent left other : Rows)
     → left ≡ network_leaves row head p sheets links lent → other ≡ network_leaves row head p sheets links lent → left ≡ other
+
+-- and two answers of the call that counts edge rows. It writes nothing, so that is its whole outcome
+abbrev pub OneCount : Type 0
+OneCount =
+    (row : List ℤ) (head : Head) (p : Polygons) (sheets : List Float) (links : Links)
+    → (answer other : Result ℕ Refusal) → rows_said answer ≡ edge_rows_says row head p sheets links
+    → rows_said other ≡ edge_rows_says row head p sheets links → answer ≡ other
