@@ -46,6 +46,14 @@ grep -qx "VERSION = \"$version\"" python/leafmesh/_version.py || fail "_version.
 grep -qx 'license = "MIT OR Apache-2.0"' rust/Cargo.toml || fail "Cargo.toml has another licence"
 grep -q 'MIT OR Apache-2.0' ../LICENSE || fail "LICENSE has another licence"
 
+say "pages that a script writes say what the last commit has"
+pages=$(git -C "$root" ls-files -- '*design_pages.py' 2>/dev/null) || pages=
+if [ -n "$pages" ] && command -v python3 >/dev/null; then
+    python3 "$root/$pages"
+else
+    echo "left out: that needs git, the clone's history and python3"
+fi
+
 say "usage of all scripts, and when library.sh makes what"
 ./test_usage.sh
 ./test_library.sh

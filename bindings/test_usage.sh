@@ -82,7 +82,7 @@ script=beside.sh
 refuses "$root/oracle/beside.sh" --without-leaves
 
 if command -v python3 >/dev/null; then
-    for script in docs/design_changes.py docs/design_pass.py bindings/files.py oracle/faults.py; do
+    for script in docs/design_changes.py docs/design_pages.py docs/design_pass.py bindings/files.py oracle/faults.py; do
         helps python3 "$root/$script"
         refuses python3 "$root/$script" --no-such-word
     done

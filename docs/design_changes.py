@@ -1,7 +1,7 @@
 #!/usr/bin/env python3
 """Lists what differs between two commits of what callers and readers see, old and new side by side:
 
-    python3 docs/design_changes.py OLD [NEW] > docs/DESIGN-CHANGES.md
+    python3 docs/design_changes.py OLD [NEW]
 
 Public functions (signature and clauses), ghost fields and invariants of types, and definitions in specs/. Names that
 only went into snake case, and std's words under their newer names, count as the same. A function or definition is
@@ -12,8 +12,9 @@ and conform promise, is shown under its present name.
 import argparse
 import collections
 import re
+from pathlib import Path
 
-from design_pass import files, matching
+from design_pass import TOP, files, matching, page
 
 NEWER = [(r'\beqb\b', 'nat_eq'), (r'\bltb\b', 'nat_lt'), (r'\bleb\b', 'nat_le'), (r'\bget_or\b', 'slice_index_or'),
          (r'\bsome_below\b|\bany_below\b', 'any'), (r'\bNode\b', 'MeshNode'), (r'\bPatch\b', 'NetCell')]
@@ -74,8 +75,8 @@ def theorems(crate, raw):
 
 def print_theorems(old, new):
     print('\n## Theorems')
-    page = open('docs/DESIGN-PASS.md').read().split('\n## Theorems\n')[1]
-    for row in re.findall(r'(?m)^\| (`.*) \| (.*) \|$', page):
+    table = page('DESIGN-PASS.md').read_text().split('\n## Theorems\n')[1]
+    for row in re.findall(r'(?m)^\| (`.*) \| (.*) \|$', table):
         before, now = (re.findall(r'`([^`]+)`', side) for side in row)
         print('\n' + ', '.join(before) + '\n\n```')
         for word in before:
@@ -85,6 +86,9 @@ def print_theorems(old, new):
         for word in re.findall(r'[\w:]+::(?:\{[^}]*\}|\w+)', row[1]):
             crate = word.split('::')[0]
             for fn in re.findall(r'\w+', word.rsplit('::', 1)[1] if '{' not in word else word[word.index('{'):]):
+                # A word with a capital is a type, which keeps a fact.
+                if (crate, fn) not in new['functions'] and fn[0].islower():
+                    raise SystemExit(f'{word}: a theorem of the table that is gone')
                 for sign, clauses in new['functions'].get((crate, fn), []):
                     print(f'+ {crate}: ' + sign)
                     for clause in clauses:
@@ -187,8 +191,8 @@ def main():
     old_commit, new_commit = words.old, words.new
     old, new = read(old_commit), read(new_commit)
     print('# What changed of what callers and readers see\n')
-    print(f'Written by `python3 docs/design_changes.py {old_commit} {new_commit} > docs/DESIGN-CHANGES.md`, whose head '
-          'says what counts as the same.')
+    script = Path(__file__).resolve().relative_to(TOP)
+    print(f'Written by `python3 {script} {old_commit} {new_commit}`, whose head says what counts as the same.')
     print('Lines that begin with - are the old ones, lines that begin with + the new ones.')
     titles = {'functions': 'Public functions', 'ghosts': 'Facts that types keep', 'definitions': 'Definitions'}
     for kind, title in titles.items():

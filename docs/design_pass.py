@@ -10,10 +10,29 @@ import io
 import re
 import subprocess
 import tarfile
+from pathlib import Path
+
+HERE = Path(__file__).resolve().parent
+
+
+def git(*words, at=HERE):
+    return subprocess.run(['git', '-C', str(at), *words], capture_output=True, check=True).stdout
+
+
+TOP = Path(git('rev-parse', '--show-toplevel').decode().rstrip('\n'))
+
+
+def page(name):
+    """Where a page stands, by its name: the one file of it that git knows."""
+    known = git('ls-files', '--', f'*{name}', at=TOP).decode().split()
+    found = [TOP / line for line in known if Path(line).name == name]
+    if len(found) != 1:
+        raise SystemExit(f'{name}: {len(found)} of them, and not one')
+    return found[0]
 
 
 def files(commit):
-    tar = subprocess.run(['git', 'archive', commit, 'crates'], capture_output=True, check=True).stdout
+    tar = git('archive', commit, 'crates', at=TOP)
     with tarfile.open(fileobj=io.BytesIO(tar)) as archive:
         for member in archive:
             if member.isfile() and re.search(r'/src/.*\.rt$|/(specs|proofs)/.*\.antt$', member.name):
@@ -91,16 +110,15 @@ AGAIN = {
 CONTRACT = re.compile(r'\b(requires|ensures|ghost)\b|[≡≤→λ]')
 
 
-def again(commit):
-    """Counts lines by one pattern a row, without comments, quotes and contracts."""
-    n = collections.Counter()
+def counted_again(commit):
+    """How many lines fit the pattern of each row, without comments, quotes and contracts."""
+    n = collections.Counter({row: 0 for row in AGAIN})
     for name, raw in files(commit):
         if name.endswith('.rt'):
             code = [line for line in bare(raw).split('\n') if not CONTRACT.search(line)]
             for row, pattern in AGAIN.items():
                 n[row] += sum(1 for line in code if re.search(pattern, line))
-    for row in AGAIN:
-        print(f'{n[row]:7,}  {row}')
+    return n
 
 
 def words_taken():
@@ -114,12 +132,8 @@ def words_taken():
     return parser.parse_args()
 
 
-def main():
-    words = words_taken()
-    wanted, commit = words.list, words.commit
-    if words.again:
-        again(commit)
-        return
+def counted(commit):
+    """The counts of a commit by their names, and of those that have places the places."""
     n, places = collections.Counter(), collections.defaultdict(list)
 
     def add(word, place, text='', count=1):
@@ -190,9 +204,20 @@ def main():
         if other != fn and other in names:
             add('2 pairs of a function for x and one for y', fn, other)
     n['crates'] = len(crates)
-    if wanted:
+    return n, places
+
+
+def main():
+    words = words_taken()
+    if words.again:
+        n = counted_again(words.commit)
+        for row in AGAIN:
+            print(f'{n[row]:7,}  {row}')
+        return
+    n, places = counted(words.commit)
+    if words.list:
         for word in places:
-            if wanted in word:
+            if words.list in word:
                 print('\n'.join(places[word]))
     else:
         for word in sorted(n):
