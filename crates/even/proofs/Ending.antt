@@ -1,6 +1,6 @@
 -- The coarsest splitting, for each thing that can be said: what was done is the one coarsest splitting, where there was no room it needs more cells
 -- than slots, and what is not well formed has none to keep. Assumes nothing.
-use Rattle.std.proofs.Common.{ℕ, ◌+◌, ◌*◌, ◌-◌, ◌/◌, ◌<◌, ◌≤◌, ◌≡◌, refl, sym, ap, subst, ◌∙◌, List, [], ◌∷◌, arith, ℤ, length}
+use Rattle.std.proofs.Common.{ℕ, ◌+◌, ◌*◌, ◌/◌, ◌<◌, ◌≤◌, ◌≡◌, refl, sym, ap, subst, ◌∙◌, List, [], ◌∷◌, arith, ℤ, length}
 use Rattle.refusals.specs.Said.{accepted, refused}
 use Rattle.table.specs.declared.Head.{Head}
 use Rattle.table.specs.Mesh.{Cell, table, leaf_count}
@@ -34,25 +34,27 @@ module _ (e : Engine) (head : Head) (t u : List ℤ) (w : WellFormed t head) whe
   cells = evened e k M (table t n)
 
   -- a split is four cells more, and three leaves
-  grown-by : (splits : ℕ) → (leaf_count cells - head.leaves) / 3 ≡ splits
-      → (length cells ≡ n + 4 * splits) × (leaf_count cells ≡ head.leaves + 3 * splits)
-  grown-by splits s =
+  abbrev pub Spent : ℕ → Type 0
+  Spent splits = (length cells ≡ n + 4 * splits) × (leaf_count cells ≡ head.leaves + 3 * splits)
+
+  pub spent : (splits : ℕ) × Spent splits
+  spent =
       let a = evened-leaves e k M (table t n) in
       let more = a.leaves in
       let longer = a.cells in
       let l = w.leaves in
-      (omega (arith, length-table t n), omega arith)
+      (a.splits, (omega (arith, length-table t n), omega arith))
 
-  pub ends-done : (count leaves : ℕ) → table u count ≡ cells → leaves ≡ leaf_count cells → count ≤ length t / 8
-      → EndsCoarsest e head t u (accepted ((leaves - head.leaves) / 3 ∷ count ∷ leaves ∷ M ∷ []))
-  ends-done count leaves c f room =
+  -- by whichever growth the splits are counted
+  pub ends-done : (splits count leaves : ℕ) → Spent splits → table u count ≡ cells → leaves ≡ leaf_count cells
+      → count ≤ length t / 8 → EndsCoarsest e head t u (accepted (splits ∷ count ∷ leaves ∷ M ∷ []))
+  ends-done splits count leaves spent-so c f room =
       let l : count ≡ length cells = sym (length-table u count) ∙ ap length c in
-      let splits = (leaves - head.leaves) / 3 in
       record {
         exists = λ f. (length cells, evened-needs e k M (table t n) w.cells);
         done = λ x y z s.
             let d = same-values splits count leaves x y z M s in
-            let g = grown-by x (ap (λ (v : ℕ). (v - head.leaves) / 3) (sym f) ∙ d.0) in (
+            let g = subst Spent d.0 spent-so in (
               subst (λ (v : ℕ). Evens k M (table t n) (table u v)) d.1
                   (subst (Evens k M (table t n)) (sym c) (evened-evens e k M (table t n) w.cells)),
               sym d.1 ∙ l ∙ g.0,

@@ -20,7 +20,7 @@ use Rattle.coarsest.proofs.Evened.{evened-keeps}
 use Rattle.even.specs.Rows.{row_of}
 use Rattle.even.specs.Even.{even_cells, even_head, even_splits, even_says, even_row, EndsCoarsest}
 use Rattle.even.proofs.Rowing.{row_is}
-use Rattle.even.proofs.Ending.{ends-done, ends-full, ends-bad}
+use Rattle.even.proofs.Ending.{spent, ends-done, ends-full, ends-bad}
 
 pub head-same : (g h : Head) → g.count ≡ h.count → g.leaves ≡ h.leaves → g.max_level ≡ h.max_level → g ≡ h
 head-same g h c l m = ap₂ (λ (x y : ℕ). head_of x y g.max_level) c l ∙ ap (head_of h.count h.leaves) m
@@ -126,8 +126,13 @@ definitions-agree e head row = by (well_formed row head) (leb (length (even_cell
         → EndsCoarsest e head row (even_row e row head) (even_says e row head)
     by true true a b =
         let room = leb-true _ _ b in
+        let w = formed-facts row head a in
+        let u = row_of (even_cells e row head) (length row) in
+        let s = spent e head row u w in
+        let longer = s.1.0 in
+        let more = s.1.1 in
         rw (a, b)
-        (ends-done e head row (row_of (even_cells e row head) (length row)) (formed-facts row head a) (length (even_cells e row head))
-        (leaf_count (even_cells e row head)) (cells-held row head a e room) refl room)
+        (ends-done e head row u w (even_splits e row head) (length (even_cells e row head)) (leaf_count (even_cells e row head))
+        (omega arith, omega arith) (cells-held row head a e room) refl room)
     by true false a b = rw (a, b) (ends-full e head row row (formed-facts row head a) (leb-false _ _ b) refl)
     by false b a b' = rw a (ends-bad e head row (λ w. true≢false (sym (facts-formed row head w) ∙ a)))

@@ -1,9 +1,10 @@
-use Rattle.std.proofs.Common.{sym, ap, ap₂, ◌∙◌, true≢false, arith, ◌≡◌, ◌≤◌, ◌/◌, ℤ, List, length, le-leb}
+use Rattle.std.proofs.Common.{sym, ap, ap₂, ◌∙◌, true≢false, arith, ◌≡◌, ◌≤◌, ◌+◌, ◌*◌, ◌-◌, ◌/◌, ℕ, ℤ, List, ◌∷◌, length, le-leb}
+use Rattle.refusals.specs.Said.{accepted}
 use borrow.Author.Tests.{lt-leb}
 use Rattle.table.specs.declared.Head.{Head}
 use Rattle.table.specs.Mesh.{leaf_count}
 use Rattle.table.specs.Formed.{WellFormed}
-use Rattle.table.specs.Rows.{IsTable, cells_in}
+use Rattle.table.specs.Rows.{IsTable, cells_in, head_values}
 use Rattle.coarsest.specs.declared.Engine.{Engine}
 use Rattle.coarsest.specs.Passes.{difference}
 use Rattle.table.proofs.Cells.{length-table}
@@ -65,27 +66,39 @@ module _ (e : Engine) (head grown : Head) (old new : List ℤ) (formed : IsTable
   as-leafy : leaf_count (even_cells e old head) ≡ grown.leaves
   as-leafy = ap leaf_count (sym cells) ∙ sym (formed-facts _ _ formed).leaves
 
-  grows : WellFormed old head → head.leaves ≤ grown.leaves
-  grows w = let a = (evened-leaves e (difference e) head.max_level (cells_in old head)).leaves in omega (arith, as-leafy, w.leaves)
+  -- four cells and three leaves more a split
+  grows : WellFormed old head
+      → (n : ℕ) × (grown.count ≡ head.count + 4 * n) × (grown.leaves ≡ head.leaves + 3 * n)
+  grows w =
+      let a = evened-leaves e (difference e) head.max_level (cells_in old head) in
+      let cells = a.cells in
+      let leaves = a.leaves in
+      let before = length-table old head.count in
+      (a.splits, omega (arith, as_many, before, cells), omega (arith, as-leafy, w.leaves, leaves))
+
+  -- the answer, by whichever growth its splits are counted
+  says : (splits : ℕ) → splits ≡ (grown.count - head.count) / 4 → IsTable old head → length new ≡ length old
+      → grown.max_level ≡ head.max_level → accepted (splits ∷ head_values grown) ≡ even_says e old head
+  unfolding even_says
+  says splits quarter formed-so long deep =
+      sym (rw (formed-so, as_many, as-leafy, le-leb _ _ (room long), ← deep, ← quarter))
 
 pub overflow_sub-result : goal.overflow_sub-result
 overflow_sub-result c =
+    let g =
     grows c.args.engine c.args.head c.in-Ok.grown c.args.row.now c.even_out.new.row c.in-Ok.ensures.formed
-    c.in-Ok.ensures.cells (formed-facts _ _ (sym c.well_formed-2.ensures ∙ c.if-not-well_formed.false))
+    c.in-Ok.ensures.cells (formed-facts _ _ (sym c.well_formed-2.ensures ∙ c.if-not-well_formed.false)) in
+    omega (arith, g.1, g.2)
 
 pub returns-in-Ok-clause-says : goal.returns-in-Ok-clause-says
-unfolding even_says
 returns-in-Ok-clause-says c =
     let yes = sym c.well_formed-2.ensures ∙ c.if-not-well_formed.false in
     let g = c.in-Ok.ensures in
-    sym (rw (
-      yes,
-      as_many c.args.engine c.args.head c.in-Ok.grown c.args.row.now c.even_out.new.row g.formed g.cells,
-      as-leafy c.args.engine c.args.head c.in-Ok.grown c.args.row.now c.even_out.new.row g.formed g.cells,
-      le-leb _ _ (room c.args.engine c.args.head c.in-Ok.grown c.args.row.now c.even_out.new.row g.formed
-          g.cells c.even_out.auto.row),
-      ← g.max_level,
-    ))
+    let s =
+    grows c.args.engine c.args.head c.in-Ok.grown c.args.row.now c.even_out.new.row g.formed g.cells
+    (formed-facts _ _ yes) in
+    says c.args.engine c.args.head c.in-Ok.grown c.args.row.now c.even_out.new.row g.formed g.cells
+    _ (omega (arith, s.1, s.2)) yes c.even_out.auto.row g.max_level
 
 pub returns-in-Ok-clause-row_after : goal.returns-in-Ok-clause-row_after
 unfolding even_row
