@@ -82,11 +82,14 @@ script=beside.sh
 refuses "$root/oracle/beside.sh" --without-leaves
 
 if command -v python3 >/dev/null; then
-    for script in docs/design_changes.py docs/design_pages.py docs/design_pass.py bindings/files.py oracle/faults.py; do
+    for script in docs/design_changes.py docs/design_pages.py docs/design_pass.py bindings/files.py oracle/edits.py \
+        oracle/faults.py; do
         helps python3 "$root/$script"
         refuses python3 "$root/$script" --no-such-word
     done
     refuses python3 "$root/oracle/faults.py" no-fault-has-this-word
+    script=oracle/edits.py
+    refuses python3 "$root/oracle/edits.py" no_crate/no_edit
 else
     echo "usage of docs/*.py, oracle/*.py and bindings/*.py left out: that needs python3"
 fi

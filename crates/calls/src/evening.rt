@@ -80,3 +80,38 @@ fn a_wrong_number_of_leaves(rt: HostRuntime) -> Result<(), Fail> {
     assert!(rt; row == before);
     Ok(())
 }
+
+// Two roots that have a corner in common; the first is split there twice.
+#[test]
+fn a_corner_asks_nobody(rt: HostRuntime) -> Result<(), Fail> {
+    let mut row = [0i64; 112];
+    row[..ROOTS.len()].copy_from_slice(&ROOTS);
+    row[9] = 8;
+    row[11] = 16;
+    let head = Head {
+        count: 2,
+        leaves: 2,
+        max_level: 2,
+    };
+    let once = refine(&mut row, head, 0)?;
+    let twice = refine(&mut row, once, 5)?;
+    let done = balance(&mut row, twice).ok().ok_or("refused")?;
+    assert_eq!(rt; done.splits, 0);
+    assert_eq!(rt; done.head, twice);
+    Ok(())
+}
+
+#[test]
+fn conform_of_roots_splits_none(rt: HostRuntime) -> Result<(), Fail> {
+    let mut row = [0i64; 336];
+    row[..ROOTS.len()].copy_from_slice(&ROOTS);
+    let head = Head {
+        count: 2,
+        leaves: 2,
+        max_level: 2,
+    };
+    let done = conform(&mut row, head).ok().ok_or("refused")?;
+    assert_eq!(rt; done.splits, 0);
+    assert_eq!(rt; done.head, head);
+    Ok(())
+}

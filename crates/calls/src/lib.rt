@@ -9,6 +9,8 @@ mod checking;
 #[cfg(test)]
 mod contacts;
 #[cfg(test)]
+mod cutting;
+#[cfg(test)]
 mod evening;
 #[cfg(test)]
 mod judging;
@@ -22,5 +24,7 @@ mod readers;
 mod records;
 #[cfg(test)]
 mod refused;
+#[cfg(test)]
+mod sorting;
 #[cfg(test)]
 mod tables;

@@ -69,3 +69,10 @@ fn read_and_written(rt: HostRuntime) {
     assert_eq!(rt; write(FOUND.settings, &rows, &mut out), Ok(102));
     assert_eq!(rt; out, SQUARE);
 }
+
+#[test]
+fn a_target_of_0(rt: HostRuntime) {
+    let mut none = SQUARE;
+    none[15] = 0;
+    assert_eq!(rt; check(&none), Err(Refusal::OutOfRange(8)));
+}

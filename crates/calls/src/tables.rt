@@ -79,3 +79,15 @@ fn a_split(rt: HostRuntime) -> Result<(), Fail> {
     assert_eq!(rt; refine(&mut row, head, 0), Err(Refusal::NoRoom));
     Ok(())
 }
+
+#[test]
+fn a_child_that_is_split_is_no_leaf(rt: HostRuntime) -> Result<(), Fail> {
+    let mut row = [0; 96];
+    row[..48].copy_from_slice(&two_roots());
+    let once = refine(&mut row, HEAD, 1)?;
+    let head = refine(&mut row, once, 3)?;
+    let mut out = [9; 12];
+    assert_eq!(rt; leaves(&row, head, &mut out), Ok(8));
+    assert_eq!(rt; out, [0, 2, 4, 5, 6, 7, 8, 9, 9, 9, 9, 9]);
+    Ok(())
+}
