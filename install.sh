@@ -1,15 +1,22 @@
 #!/bin/sh
-# install.sh PREFIX: puts the header, the library, and files for pkg-config and CMake under PREFIX (include, lib,
-# lib/pkgconfig, lib/cmake/leafmesh), and says which settings find them there.
+# install.sh PREFIX: puts the header, the library, files for pkg-config and CMake, and the programs under PREFIX
+# (include, lib, lib/pkgconfig, lib/cmake/leafmesh, bin), and says which settings find them there.
 # install.sh --version: says which version that is.
 #
 # The library is libleafmesh.a and, made of it where there is a C compiler for x86-64 (cc, or the one that CC names),
-# the shared library with its links. With DESTDIR set all of it goes below that folder, and the files still say PREFIX.
-# libleafmesh.a is made first unless it is there, or taken from the folder that LEAFMESH_LIBRARY names.
+# the shared library with its links. The programs are leafnet and the tools board, draw and relax, which need cargo and
+# cc. What can't be made here is left out, and a line says so. With DESTDIR set all of it goes below that folder, and
+# the files still say PREFIX.
+#
+# libleafmesh.a and leafnet are made first unless they are there. LEAFMESH_LIBRARY names a folder to take the library
+# from, and then nothing is proved: LEAFMESH_PROGRAM names leafnet's file. cargo builds in CARGO_TARGET_DIR where that
+# is set.
 set -eu
 root=$(cd "$(dirname "$0")" && pwd)
 # shellcheck source=bindings/usage.sh
 . "$root/bindings/usage.sh"
+# shellcheck source=bindings/places.sh
+. "$root/bindings/places.sh"
 # shellcheck source=bindings/linking/version.sh
 . "$root/bindings/linking/version.sh"
 version=$(version_of "$root/include/leafmesh.h")
@@ -19,11 +26,13 @@ if [ "$#${1:-}" = "1--version" ]; then
     exit 0
 fi
 take_names 1 1 "PREFIX | --version" "$@"
+see_places_from_here
 
 fail() {
     echo "install.sh: $*" >&2
     exit 1
 }
+left_out() { echo "install.sh: no $*" >&2; }
 
 # A word as the shell reads it.
 quoted() {
@@ -49,21 +58,40 @@ case $1 in
 *) prefix=$(pwd)/$1 ;;
 esac
 prefix=${prefix%/}
-[ -n "${LEAFMESH_LIBRARY:-}" ] || "$root/bindings/library.sh"
+leafnet=${LEAFMESH_PROGRAM:-}
+if [ -n "${LEAFMESH_LIBRARY:-}" ]; then
+    :
+elif [ -n "$leafnet" ]; then
+    "$root/bindings/library.sh"
+else
+    "$root/bindings/library.sh" leafmesh leafnet
+    leafnet=$root/crates/leafnet/out/leafnet
+fi
 archive=${LEAFMESH_LIBRARY:-$root/crates/leafmesh/out}/libleafmesh.a
 [ -f "$archive" ] || fail "no $archive"
+[ -z "$leafnet" ] || [ -f "$leafnet" ] || fail "no $leafnet"
 made=$(mktemp -d)
 trap 'rm -rf "$made"' EXIT
-# Before anything is put anywhere.
+# All is made before anything is put anywhere.
 if compiler_is_there; then
     "$root/bindings/linking/shared.sh" "$archive" "$made" ||
         fail "no shared library can be made of $archive by ${CC:-cc}; nothing is installed"
 else
-    echo "install.sh: no shared library: that needs a C compiler for x86-64, cc or the one that CC names" >&2
+    left_out "shared library: that needs a C compiler for x86-64, cc or the one that CC names"
+fi
+[ -n "$leafnet" ] || left_out "leafnet: beside LEAFMESH_LIBRARY, LEAFMESH_PROGRAM names it"
+tools=
+if builder_is_there; then
+    tools=$(tools_in "$root/bindings/rust")
+    # shellcheck disable=SC2086
+    built=$(build_tools "$root/bindings/rust" "$made/target" $tools) ||
+        fail "the tools $tools can't be built by cargo; nothing is installed"
+else
+    left_out "tools: they need cargo and cc"
 fi
 
 to=${DESTDIR:-}$prefix
-install -d "$to/include" "$to/lib/pkgconfig" "$to/lib/cmake/leafmesh"
+install -d "$to/include" "$to/lib/pkgconfig" "$to/lib/cmake/leafmesh" "$to/bin"
 install -m 644 "$root/include/leafmesh.h" "$to/include/"
 install -m 644 "$archive" "$to/lib/"
 # One that is there from before would be linked with this header.
@@ -72,6 +100,10 @@ if [ -e "$made/libleafmesh.so" ]; then
     install -m 755 "$made/libleafmesh.so.$version" "$to/lib/"
     cp -P "$made/libleafmesh.so" "$made/libleafmesh.so.$series" "$to/lib/"
 fi
+[ -z "$leafnet" ] || install -m 755 "$leafnet" "$to/bin/leafnet"
+for tool in $tools; do
+    install -m 755 "$built/$tool" "$to/bin/"
+done
 for file in leafmesh.pc leafmesh-static.pc; do
     write_by $file "$to/lib/pkgconfig"
 done
@@ -82,5 +114,7 @@ done
 echo "leafmesh $version is in $to"
 echo "for pkg-config: export PKG_CONFIG_PATH=$(quoted "$prefix/lib/pkgconfig")"
 echo "for CMake: export CMAKE_PREFIX_PATH=$(quoted "${prefix:-/}")"
+[ -z "$leafnet$tools" ] ||
+    echo "for the programs: export PATH=$(quoted "$prefix/bin"):\"\$PATH\""
 [ ! -e "$to/lib/libleafmesh.so" ] ||
     echo "for programs that load the shared library: export LD_LIBRARY_PATH=$(quoted "$prefix/lib")"

@@ -12,6 +12,9 @@ case "$#${1:-}" in
 0 | 1--check | 1--write) ;;
 *) refuse_words "[--check | --write]" ;;
 esac
+# shellcheck source=places.sh
+. "$(dirname "$0")/places.sh"
+see_places_from_here
 cd "$(dirname "$0")"
 [ -n "${LEAFMESH_LIBRARY:-}" ] || ./library.sh
 folder=$(mktemp -d)

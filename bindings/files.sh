@@ -6,12 +6,14 @@ set -eu
 # shellcheck source=usage.sh
 . "$(dirname "$0")/usage.sh"
 take_no_words "$@"
+# shellcheck source=places.sh
+. "$(dirname "$0")/places.sh"
+see_places_from_here
 cd "$(dirname "$0")"
 [ -n "${LEAFMESH_LIBRARY:-}" ] || ./library.sh
-(cd rust && cargo build --offline --release --quiet --bin board)
-board=${CARGO_TARGET_DIR:-$PWD/rust/target}/release/board
 folder=$(mktemp -d)
 trap 'rm -rf "$folder"' EXIT
+board=$(build_tools "$PWD/rust" "$folder/target" board)/board
 
 fail() {
     echo "files.sh: $*" >&2

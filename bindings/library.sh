@@ -1,17 +1,19 @@
 #!/bin/sh
-# library.sh [leafnet]: makes crates/leafmesh/out/libleafmesh.a, or the program crates/leafnet/out/leafnet, unless it is
-# there and made of what stands here. Says nothing where there is nothing to do.
+# library.sh [leafmesh] [leafnet]: makes the library crates/leafmesh/out/libleafmesh.a and the program
+# crates/leafnet/out/leafnet, or the one of them that is named; without a name the library. What is there and made of
+# what stands here stays. Says nothing where there is nothing to do.
 #
-# It is made of its own crate and the crates below that, by crates.txt: of each its line there, src, specs and proofs.
+# A crate that both stand on is proved once, for the one that is made first.
+#
+# Each is made of its own crate and the crates below that, by crates.txt: of each its line there, src, specs and proofs.
 # A sum of these and of what was made stands beside it, with the ending .sum; the times of files count for nothing.
 set -eu
 # shellcheck source=usage.sh
 . "$(dirname "$0")/usage.sh"
 answer_help "$@"
-case "$#${1:-}" in
-0) crate=leafmesh made=crates/leafmesh/out/libleafmesh.a what="rt lib" named=LEAFMESH_LIBRARY ;;
-1leafnet) crate=leafnet made=crates/leafnet/out/leafnet what="rt run -- --version" named=LEAFMESH_PROGRAM ;;
-*) refuse_words "[leafnet]" ;;
+case "$*" in
+'' | leafmesh | leafnet | "leafmesh leafnet" | "leafnet leafmesh") ;;
+*) refuse_words "[leafmesh] [leafnet]" ;;
 esac
 cd "$(dirname "$0")/.."
 
@@ -42,26 +44,38 @@ sources() {
 # The sum of some sources and of what was made of them.
 sum_with() { { printf '%s\n' "$1" && sha256sum <"$made"; } | sha256sum; }
 
-now=$(sources)
-if [ -f "$made" ] && [ -f "$made.sum" ] && [ "$(sum_with "$now")" = "$(cat "$made.sum")" ]; then
-    exit 0
-fi
-command -v rt >/dev/null || {
-    echo "library.sh: $made is to be made by \`$what\` in crates/$crate, and there is no rt (README.md, \"Run it\");" \
-        "$named names one that is made elsewhere" >&2
+fail() {
+    echo "library.sh: $*" >&2
     exit 1
 }
+
+# Makes what a crate is for, by this command, unless it is there. A variable names one that is made elsewhere.
+make() { # CRATE MADE VARIABLE COMMAND
+    crate=$1 made=$2 variable=$3 command=$4
+    now=$(sources)
+    if [ -f "$made" ] && [ -f "$made.sum" ] && [ "$(sum_with "$now")" = "$(cat "$made.sum")" ]; then
+        return
+    fi
+    command -v rt >/dev/null || fail "$made is to be made by \`$command\` in crates/$crate, and there is no rt" \
+        "(README.md, \"Run it\"); $variable names one that is made elsewhere"
+    [ -w "crates/$crate" ] || fail "$made is to be made, and crates/$crate can't be written; $variable names one that" \
+        "is made elsewhere"
+    echo "$command in crates/$crate: the first run proves every crate it needs, in a quarter of an hour or more" >&2
+    (cd "crates/$crate" && $command >"$log" 2>&1 </dev/null) || {
+        tail -n 20 "$log" >&2
+        exit 1
+    }
+    [ -f "$made" ] || fail "\`$command\` ended well in crates/$crate, and there is no $made"
+    # Of the sources as they stood before: what was edited meanwhile may not be in it.
+    sum_with "$now" >"$made.sum"
+}
+
 log=$(mktemp)
 trap 'rm -f "$log"' EXIT
-echo "$what in crates/$crate: the first run proves every crate it needs and takes a quarter of an hour or more" >&2
-# The program is run once, for its version.
-(cd "crates/$crate" && $what >"$log" 2>&1 </dev/null) || {
-    tail -n 20 "$log" >&2
-    exit 1
-}
-[ -f "$made" ] || {
-    echo "library.sh: \`$what\` ended well in crates/$crate, and there is no $made" >&2
-    exit 1
-}
-# Of the sources as they stood before: what was edited meanwhile may not be in it.
-sum_with "$now" >"$made.sum"
+for name in "${@:-leafmesh}"; do
+    case $name in
+    leafmesh) make leafmesh crates/leafmesh/out/libleafmesh.a LEAFMESH_LIBRARY "rt lib" ;;
+    # It is run once, for its version.
+    leafnet) make leafnet crates/leafnet/out/leafnet LEAFMESH_PROGRAM "rt run -- --version" ;;
+    esac
+done

@@ -6,6 +6,9 @@ set -eu
 # shellcheck source=usage.sh
 . "$(dirname "$0")/usage.sh"
 take_no_words "$@"
+# shellcheck source=places.sh
+. "$(dirname "$0")/places.sh"
+see_places_from_here
 cd "$(dirname "$0")"
 root=$(cd .. && pwd)
 for tool in cargo cc c++ pkg-config; do
@@ -14,17 +17,13 @@ for tool in cargo cc c++ pkg-config; do
         exit 1
     }
 done
-if [ -n "${LEAFMESH_LIBRARY:-}" ]; then
-    echo "library: $LEAFMESH_LIBRARY"
-else
-    ./library.sh
-fi
-if [ -n "${LEAFMESH_PROGRAM:-}" ]; then
-    echo "program: $LEAFMESH_PROGRAM"
-else
-    ./library.sh leafnet
-fi
-leafnet=${LEAFMESH_PROGRAM:-$root/crates/leafnet/out/leafnet}
+make_what_is_not_named "$root"
+LEAFMESH_LIBRARY=${LEAFMESH_LIBRARY:-$root/crates/leafmesh/out}
+LEAFMESH_PROGRAM=${LEAFMESH_PROGRAM:-$root/crates/leafnet/out/leafnet}
+export LEAFMESH_LIBRARY LEAFMESH_PROGRAM
+echo "library: $LEAFMESH_LIBRARY"
+echo "program: $LEAFMESH_PROGRAM"
+leafnet=$LEAFMESH_PROGRAM
 folder=$(mktemp -d)
 trap 'rm -rf "$folder"' EXIT
 
@@ -54,9 +53,10 @@ else
     echo "left out: that needs git, the clone's history and python3"
 fi
 
-say "usage of all scripts, and when library.sh makes what"
+say "usage of all scripts, when library.sh makes what, and where draw.sh leaves its pictures"
 ./test_usage.sh
 ./test_library.sh
+rust/test_draw.sh
 
 say "installed, and linked by pkg-config and CMake"
 linking/test.sh
@@ -100,14 +100,30 @@ fn main() {
     assert_eq!((border.side, border.length), (leafmesh::Side::East, 1));
 }
 USER
-(cd "$folder/beside" && CARGO_TARGET_DIR=$folder/built cargo run --offline --quiet -p user)
+(
+    cd "$folder/beside"
+    # Found without a word where library.sh leaves it.
+    [ "$LEAFMESH_LIBRARY" != "$root/crates/leafmesh/out" ] || unset LEAFMESH_LIBRARY
+    CARGO_TARGET_DIR=$folder/built cargo run --offline --quiet -p user
+)
 cp -r "$folder/beside" "$folder/around"
 mkdir -p "$folder/around/leafmesh/bindings"
 cp -r rust "$folder/around/leafmesh/bindings/"
 rm -rf "$folder/around/leafmesh/bindings/rust/target"
 sed -i "s|path = \".*\"|path = \"../leafmesh/bindings/rust\"|" "$folder/around/user/Cargo.toml"
-library=${LEAFMESH_LIBRARY:-$root/crates/leafmesh/out}
-(cd "$folder/around" && LEAFMESH_LIBRARY=$library CARGO_TARGET_DIR=$folder/built cargo run --offline --quiet -p user)
+(cd "$folder/around" && CARGO_TARGET_DIR=$folder/built cargo run --offline --quiet -p user)
+
+say "the library's folder is seen from the one in which cargo is called"
+ln -s "$LEAFMESH_LIBRARY" "$folder/around/library"
+mkdir "$folder/around/elsewhere"
+near() { # FOLDER COMMAND
+    (cd "$1" && LEAFMESH_LIBRARY=library CARGO_TARGET_DIR=$folder/built cargo "$2" --offline --quiet -p user)
+}
+near "$folder/around" run
+if near "$folder/around/elsewhere" build 2>"$folder/said"; then
+    fail "took a library from another folder than the caller's"
+fi
+grep -q '/around/elsewhere/library: ' "$folder/said" || fail "a missing library isn't told: $(cat "$folder/said")"
 
 say "a missing library is told by name"
 without() { (cd "$folder/around" && LEAFMESH_LIBRARY=$folder CARGO_TARGET_DIR=$folder/built cargo build --offline); }
@@ -117,8 +133,7 @@ fi
 grep -q 'bindings/library.sh' "$folder/said" || fail "a missing library isn't told: $(cat "$folder/said")"
 
 say "leafnet's text of the sample boards, by the program and by the bindings"
-(cd rust && cargo build --offline --release --quiet --bins)
-bin=${CARGO_TARGET_DIR:-$root/bindings/rust/target}/release
+bin=$(build_tools "$root/bindings/rust" "$folder/target" board draw relax)
 for record in ../boards/*.record; do
     status=0
     "$leafnet" "$record" >"$folder/leafnet.txt" 2>"$folder/said" || status=$?

@@ -58,6 +58,12 @@ makes_none() { # WHY
 
 makes_both "nothing is there"
 makes_none "all is there"
+rm -r "$copy/crates/leafmesh/out" "$copy/crates/leafnet/out"
+makes "lib leafmesh
+run leafnet" "both are named, and nothing is there" leafmesh leafnet
+makes "" "both are named and there" leafnet leafmesh
+rm "$copy/crates/leafmesh/out/libleafmesh.a"
+makes "lib leafmesh" "both are named, and one is there" leafmesh leafnet
 find "$copy" -type f -exec touch -d '2040-01-01' {} +
 makes_none "all files are newer"
 find "$copy" -type f -exec touch -d '2020-01-01' {} +
@@ -110,8 +116,27 @@ echo "// more" >>"$copy/crates/refusals/src/lib.rt"
 export RT_FAILS=1
 if run; then fail "ended well, and rt didn't"; fi
 grep -q "isn't proved" "$folder/said" || fail "rt's words aren't told: $(cat "$folder/said")"
+if run leafmesh leafnet; then fail "ended well with both, and rt didn't"; fi
+[ "$(cat "$folder/calls")" = "lib leafmesh" ] || fail "went on behind a failure: $(cat "$folder/calls")"
 unset RT_FAILS
 makes_both "rt failed before"
+
+# A folder that can't be written, as nobody where this is run as root.
+as=
+[ "$(id -u)" != 0 ] || as="setpriv --reuid=65534 --regid=65534 --clear-groups"
+if [ -z "$as" ] || command -v setpriv >/dev/null; then
+    rm "$copy/crates/leafmesh/out/libleafmesh.a"
+    chmod 755 "$folder"
+    chmod a-w "$copy/crates/leafmesh"
+    # shellcheck disable=SC2086
+    if PATH="$folder/bin:$PATH" $as "$copy/bindings/library.sh" 2>"$folder/said"; then fail "ended well"; fi
+    grep -q "crates/leafmesh can't be written; LEAFMESH_LIBRARY names" "$folder/said" ||
+        fail "a folder that can't be written isn't told: $(cat "$folder/said")"
+    chmod u+w "$copy/crates/leafmesh"
+    makes "lib leafmesh" "it couldn't be made before"
+else
+    echo "library.sh in a folder that can't be written left out: that needs setpriv, or another user than root"
+fi
 
 # Without rt.
 tools=$folder/tools

@@ -50,7 +50,7 @@ count=0
 for script in $(cd "$root" && find install.sh bindings oracle -name '*.sh' -not -path '*/target/*'); do
     case $script in
     # Read by others and not run.
-    bindings/usage.sh | bindings/linking/version.sh | bindings/python/which.sh) continue ;;
+    bindings/usage.sh | bindings/places.sh | bindings/linking/version.sh | bindings/python/which.sh) continue ;;
     esac
     shows_its_top "$root/$script"
     refuses "$root/$script" --no-such-word
@@ -68,7 +68,8 @@ refuses "$root/install.sh" --version more
 ends_with 0 "$root/install.sh" --version
 grep -qx '[0-9]*\.[0-9]*\.[0-9]*' "$folder/printed" || fail "install.sh --version: $(cat "$folder/printed")"
 script=library.sh
-refuses "$root/bindings/library.sh" leafmesh
+refuses "$root/bindings/library.sh" table
+refuses "$root/bindings/library.sh" leafnet leafnet
 script=draw.sh
 refuses "$root/bindings/rust/draw.sh"
 refuses "$root/bindings/rust/draw.sh" board.txt -out

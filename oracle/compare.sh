@@ -26,10 +26,12 @@ take_words() { # [CALLS [COUNT [SEED]]], or bench or heap before CALLS
 }
 take_words "$@" || refuse_words "[CALLS [COUNT [SEED]] | bench [CALLS] | heap [CALLS]]"
 
+# shellcheck source=../bindings/places.sh
+. "$(dirname "$0")/../bindings/places.sh"
+see_places_from_here
 cd "$(dirname "$0")"
 . ./setup.sh
-[ -n "${LEAFMESH_LIBRARY:-}" ] || ../bindings/library.sh
-[ -n "${LEAFMESH_PROGRAM:-}" ] || ../bindings/library.sh leafnet
+make_what_is_not_named ..
 features=""
 if [ "${1:-}" = heap ]; then
     shift

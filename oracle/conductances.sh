@@ -7,6 +7,9 @@ set -eu
 # shellcheck source=../bindings/usage.sh
 . "$(dirname "$0")/../bindings/usage.sh"
 take_no_words "$@"
+# shellcheck source=../bindings/places.sh
+. "$(dirname "$0")/../bindings/places.sh"
+see_places_from_here
 cd "$(dirname "$0")"
 . ./setup.sh
 [ -n "${LEAFMESH_LIBRARY:-}" ] || ../bindings/library.sh

@@ -359,11 +359,12 @@ def copied_oracle(folder):
     for part in ("oracle", "bindings/rust"):
         no_work = shutil.ignore_patterns("target")
         shutil.copytree(os.path.join(ROOT, part), os.path.join(folder, part), ignore=no_work)
-    shutil.copy(os.path.join(ROOT, "bindings", "usage.sh"), os.path.join(folder, "bindings"))
+    for read in ("usage.sh", "places.sh"):
+        shutil.copy(os.path.join(ROOT, "bindings", read), os.path.join(folder, "bindings"))
     if "LEAFMESH_LIBRARY" not in os.environ:
         subprocess.run([os.path.join(ROOT, "bindings", "library.sh")], check=True)
-    library = os.environ.get("LEAFMESH_LIBRARY", os.path.join("..", "..", "crates", "leafmesh", "out"))
-    os.environ["LEAFMESH_LIBRARY"] = os.path.join(ROOT, "bindings", "rust", library)
+    library = os.environ.get("LEAFMESH_LIBRARY", os.path.join(ROOT, "crates", "leafmesh", "out"))
+    os.environ["LEAFMESH_LIBRARY"] = os.path.abspath(library)
     os.environ.setdefault("LEAFMESH_ORIGINAL", os.path.join(ROOT, "..", "shared", "docs", "src"))
     # The group runs no program, so it isn't made.
     os.environ.setdefault("LEAFMESH_PROGRAM", "leafnet")

@@ -9,6 +9,9 @@ set -eu
 # shellcheck source=../bindings/usage.sh
 . "$(dirname "$0")/../bindings/usage.sh"
 take_no_words "$@"
+# shellcheck source=../bindings/places.sh
+. "$(dirname "$0")/../bindings/places.sh"
+see_places_from_here
 cd "$(dirname "$0")"
 
 folder=$(mktemp -d)
@@ -19,7 +22,7 @@ if [ "$(uname -m)" != x86_64 ] || ! mpicc -c "$folder/there.c" -o "$folder/there
     exit 0
 fi
 [ -n "${LEAFMESH_LIBRARY:-}" ] || ../bindings/library.sh
-library=$(cd ../bindings/rust && cd "${LEAFMESH_LIBRARY:-../../crates/leafmesh/out}" && pwd)
+library=${LEAFMESH_LIBRARY:-../crates/leafmesh/out}
 mpicc -std=c11 -O2 -Wall -Wextra -Werror -I ../include p4est/driver.c "$library/libleafmesh.a" -lp4est -lsc \
     -o "$folder/driver"
 "$folder/driver"

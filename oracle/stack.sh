@@ -8,11 +8,13 @@ set -eu
 # shellcheck source=../bindings/usage.sh
 . "$(dirname "$0")/../bindings/usage.sh"
 take_no_words "$@"
+# shellcheck source=../bindings/places.sh
+. "$(dirname "$0")/../bindings/places.sh"
+see_places_from_here
 cd "$(dirname "$0")"
 . ./setup.sh
-[ -n "${LEAFMESH_LIBRARY:-}" ] || ../bindings/library.sh
-[ -n "${LEAFMESH_PROGRAM:-}" ] || ../bindings/library.sh leafnet
-library=$(cd ../bindings/rust && cd "${LEAFMESH_LIBRARY:-../../crates/leafmesh/out}" && pwd)
+make_what_is_not_named ..
+library=${LEAFMESH_LIBRARY:-../crates/leafmesh/out}
 program=${LEAFMESH_PROGRAM:-../crates/leafnet/out/leafnet}
 
 folder=$(mktemp -d)

@@ -6,6 +6,9 @@ set -eu
 # shellcheck source=../usage.sh
 . "$(dirname "$0")/../usage.sh"
 take_no_words "$@"
+# shellcheck source=../places.sh
+. "$(dirname "$0")/../places.sh"
+see_places_from_here
 cd "$(dirname "$0")"
 for tool in cc c++ pkg-config; do
     command -v "$tool" >/dev/null || {
@@ -13,6 +16,9 @@ for tool in cc c++ pkg-config; do
         exit 1
     }
 done
+[ -n "${LEAFMESH_LIBRARY:-}" ] || ../library.sh
+LEAFMESH_LIBRARY=${LEAFMESH_LIBRARY:-$(cd ../.. && pwd)/crates/leafmesh/out}
+export LEAFMESH_LIBRARY
 folder=$(mktemp -d)
 trap 'rm -rf "$folder"' EXIT
 ../../install.sh "$folder/prefix" >/dev/null

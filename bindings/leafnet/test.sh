@@ -5,6 +5,9 @@ set -eu
 # shellcheck source=../usage.sh
 . "$(dirname "$0")/../usage.sh"
 take_no_words "$@"
+# shellcheck source=../places.sh
+. "$(dirname "$0")/../places.sh"
+see_places_from_here
 cd "$(dirname "$0")"
 boards=../../boards
 leafnet=${LEAFMESH_PROGRAM:-../../crates/leafnet/out/leafnet}

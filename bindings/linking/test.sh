@@ -1,10 +1,14 @@
 #!/bin/sh
-# test.sh: installs into folders of several names, and links programs with what is there: the shared library and the
-# static one, by pkg-config and by CMake, and by the commands of docs/LINKING.md. Says what it leaves out, and why.
+# test.sh: installs into folders of several names, runs the programs that are there, and links others with what is
+# there: the shared library and the static one, by pkg-config and by CMake, and by the commands of docs/LINKING.md. Says
+# what it leaves out, and why.
 set -eu
 # shellcheck source=../usage.sh
 . "$(dirname "$0")/../usage.sh"
 take_no_words "$@"
+# shellcheck source=../places.sh
+. "$(dirname "$0")/../places.sh"
+see_places_from_here
 cd "$(dirname "$0")"
 # shellcheck source=version.sh
 . ./version.sh
@@ -20,11 +24,16 @@ for tool in cc c++ pkg-config nm readelf; do
     }
 done
 [ -n "${LEAFMESH_LIBRARY:-}" ] || ../library.sh
-# As cargo sees it.
-LEAFMESH_LIBRARY=$(cd ../rust && cd "${LEAFMESH_LIBRARY:-../../crates/leafmesh/out}" && pwd)
+LEAFMESH_LIBRARY=${LEAFMESH_LIBRARY:-$root/crates/leafmesh/out}
 export LEAFMESH_LIBRARY
 folder=$(mktemp -d)
 trap 'rm -rf "$folder"' EXIT
+# leafnet is put as it is, so that where none is named another program stands for it.
+if [ -z "${LEAFMESH_PROGRAM:-}" ]; then
+    LEAFMESH_PROGRAM=$folder/leafnet
+    printf '#!/bin/sh\necho leafnet %s\n' "$version" >"$LEAFMESH_PROGRAM"
+fi
+export LEAFMESH_PROGRAM
 
 fail() {
     echo "linking: $*" >&2
@@ -83,6 +92,22 @@ link_by_pkg_config() { # WHAT INSTALL.SH SAID
     runs "$folder/static"
 }
 
+# By the setting that install.sh says, wherever the caller is.
+run_the_programs() { # PREFIX, WHAT INSTALL.SH SAID
+    if ! builder_is_there; then
+        echo "linking: the tools in bin left out: they need cargo and cc"
+        return
+    fi
+    (
+        eval "$(sed -n 's/^for the programs: //p' "$2")"
+        for program in leafnet board draw relax; do
+            same "$program" "$1/bin/$program" "$(command -v $program)"
+            same "$program" "$program $version" "$($program --version)"
+        done
+        board solve "$root/boards/across.txt" | grep -q '^V / A .* ohm$' || fail "board solves nothing"
+    )
+}
+
 # Names that pkg-config has to quote. What it leaves to the shell, a dollar and brackets, xargs reads.
 install_under_quoted_names() {
     for name in "it's" 'a "b"' 'back\slash' 'a#b;c&d|e'; do
@@ -110,8 +135,42 @@ install_elsewhere() {
     DESTDIR=$folder/stage "$root/install.sh" /usr/ >/dev/null
     grep -qx 'prefix=/usr' "$folder/stage/usr/lib/pkgconfig/leafmesh.pc" || fail "leafmesh.pc says another prefix"
     [ -f "$folder/stage/usr/lib/libleafmesh.so.$version" ] || fail "no library below DESTDIR"
-    (cd "$folder" && "$root/install.sh" near >/dev/null)
+    ln -s "$LEAFMESH_LIBRARY" "$folder/library"
+    ln -s "$LEAFMESH_PROGRAM" "$folder/program"
+    (cd "$folder" && LEAFMESH_LIBRARY=library LEAFMESH_PROGRAM=program "$root/install.sh" near >/dev/null)
     grep -qx "prefix=$folder/near" "$folder/near/lib/pkgconfig/leafmesh.pc" || fail "a near prefix isn't made absolute"
+    cmp "$LEAFMESH_PROGRAM" "$folder/near/bin/leafnet" || fail "another leafnet"
+}
+
+# With a library that is named nothing is proved, and leafnet is there only where it is named, too.
+install_without_leafnet() {
+    (unset LEAFMESH_PROGRAM && "$root/install.sh" "$folder/bare" >/dev/null 2>"$folder/said")
+    grep -q 'no leafnet: ' "$folder/said" || fail "nothing says that leafnet is left out"
+    [ ! -e "$folder/bare/bin/leafnet" ] || fail "a leafnet from nowhere"
+    if LEAFMESH_PROGRAM=$folder/no-leafnet "$root/install.sh" "$folder/none" >/dev/null 2>"$folder/said"; then
+        fail "installed without the leafnet that is named"
+    fi
+    [ ! -e "$folder/none" ] || fail "left $folder/none"
+}
+
+# Neither cargo nor a C compiler: the rest, and lines that say so. A cargo that fails is told, and nothing is left.
+install_without_cargo() {
+    mkdir "$folder/few" "$folder/broken"
+    for tool in sh cat chmod cp dirname install ln mkdir mktemp rm sed; do
+        ln -s "$(command -v $tool)" "$folder/few/$tool"
+    done
+    PATH=$folder/few "$root/install.sh" "$folder/lone" >/dev/null 2>"$folder/said" || fail "$(cat "$folder/said")"
+    grep -q 'no tools: they need cargo and cc' "$folder/said" || fail "nothing says that tools are left out"
+    grep -q 'no shared library' "$folder/said" || fail "nothing says that the shared library is left out"
+    same "programs without cargo" leafnet "$(ls "$folder/lone/bin")"
+    [ -f "$folder/lone/lib/libleafmesh.a" ] || fail "no library without cargo"
+    printf '#!/bin/sh\nexit 101\n' >"$folder/broken/cargo"
+    chmod +x "$folder/broken/cargo"
+    if PATH=$folder/broken:$PATH "$root/install.sh" "$folder/none" >/dev/null 2>"$folder/said"; then
+        fail "installed without tools"
+    fi
+    grep -q 'nothing is installed' "$folder/said" || fail "a failing cargo isn't told: $(cat "$folder/said")"
+    [ ! -e "$folder/none" ] || fail "left $folder/none"
 }
 
 # A compiler that can't is told, and nothing is left.
@@ -146,7 +205,7 @@ block_of_the_page() { # NUMBER
 lacks() { # BLOCK
     case $1 in
     *cmake*) command -v cmake >/dev/null || echo cmake ;;
-    *cargo*) command -v cargo >/dev/null || echo cargo ;;
+    *cargo* | *"board solve"*) builder_is_there || echo "cargo and cc" ;;
     *python3*) [ -n "$python" ] || echo "python3 with numpy" ;;
     esac
 }
@@ -165,7 +224,7 @@ do_as_the_page_says() {
         fi
         number=$((number + 1))
     done
-    [ $number -gt 6 ] || fail "docs/LINKING.md has too few blocks of commands"
+    [ $number -gt 7 ] || fail "docs/LINKING.md has too few blocks of commands"
 }
 
 configures() { # PREFIX VERSION
@@ -194,8 +253,11 @@ ask_cmake_for_versions() { # PREFIX
 "$root/install.sh" "$folder/a b" >"$folder/said"
 look_at_shared "$folder/a b/lib/libleafmesh.so"
 link_by_pkg_config "$folder/said"
+run_the_programs "$folder/a b" "$folder/said"
 install_under_quoted_names
 install_elsewhere
+install_without_leafnet
+install_without_cargo
 install_with_a_compiler_that_fails "$folder/none"
 install_without_compiler "$folder/old"
 do_as_the_page_says

@@ -9,6 +9,9 @@ take_no_words "$@"
 . "$(dirname "$0")/which.sh"
 # shellcheck source=../linking/version.sh
 . "$(dirname "$0")/../linking/version.sh"
+# shellcheck source=../places.sh
+. "$(dirname "$0")/../places.sh"
+see_places_from_here
 cd "$(dirname "$0")"
 root=$(cd ../.. && pwd)
 python=$(python_with_numpy)
@@ -20,20 +23,16 @@ compiler_is_there || {
     echo "python left out: the shared library needs a C compiler for x86-64, cc or the one that CC names"
     exit 0
 }
-[ -n "${LEAFMESH_LIBRARY:-}" ] || ../library.sh
-[ -n "${LEAFMESH_PROGRAM:-}" ] || ../library.sh leafnet
+make_what_is_not_named "$root"
 folder=$(mktemp -d)
 trap 'rm -rf "$folder"' EXIT
-if command -v cargo >/dev/null; then
-    (cd ../rust && cargo build --offline --release --quiet --bin board)
-    LEAFMESH_BOARD=${CARGO_TARGET_DIR:-$root/bindings/rust/target}/release/board
+if builder_is_there; then
+    LEAFMESH_BOARD=$(build_tools "$root/bindings/rust" "$folder/target" board)/board
     export LEAFMESH_BOARD
 else
-    echo "python: boards past leafnet's 64 slots left out: that needs cargo"
+    echo "python: boards past leafnet's 64 slots left out: that needs cargo and cc"
 fi
-# As cargo sees it.
-library=$(cd ../rust && cd "${LEAFMESH_LIBRARY:-../../crates/leafmesh/out}" && pwd)
-../linking/shared.sh "$library/libleafmesh.a" "$folder"
+../linking/shared.sh "${LEAFMESH_LIBRARY:-$root/crates/leafmesh/out}/libleafmesh.a" "$folder"
 LEAFMESH_PROGRAM=${LEAFMESH_PROGRAM:-$root/crates/leafnet/out/leafnet}
 export LEAFMESH_PROGRAM
 LEAFMESH_LIBRARY=$folder "$python" -B -W error -m unittest discover -q -s tests -t . 2>"$folder/said" || {
