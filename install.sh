@@ -59,13 +59,17 @@ case $1 in
 esac
 prefix=${prefix%/}
 leafnet=${LEAFMESH_PROGRAM:-}
-if [ -n "${LEAFMESH_LIBRARY:-}" ]; then
-    :
-elif [ -n "$leafnet" ]; then
-    "$root/bindings/library.sh"
-else
-    "$root/bindings/library.sh" leafmesh leafnet
-    leafnet=$root/crates/leafnet/out/leafnet
+no_leafnet="LEAFMESH_PROGRAM names none, beside the library that LEAFMESH_LIBRARY names"
+if [ -z "${LEAFMESH_LIBRARY:-}" ]; then
+    own=leafnet
+    if [ -n "$leafnet" ]; then
+        own=
+    elif ! command -v rt >/dev/null && ! "$root/bindings/library.sh" leafnet 2>/dev/null; then
+        no_leafnet="it is to be made, and there is no rt"
+        own=
+    fi
+    "$root/bindings/library.sh" leafmesh $own
+    [ -z "$own" ] || leafnet=$root/crates/leafnet/out/leafnet
 fi
 archive=${LEAFMESH_LIBRARY:-$root/crates/leafmesh/out}/libleafmesh.a
 [ -f "$archive" ] || fail "no $archive"
@@ -79,7 +83,7 @@ if compiler_is_there; then
 else
     left_out "shared library: that needs a C compiler for x86-64, cc or the one that CC names"
 fi
-[ -n "$leafnet" ] || left_out "leafnet: beside LEAFMESH_LIBRARY, LEAFMESH_PROGRAM names it"
+[ -n "$leafnet" ] || left_out "leafnet: $no_leafnet"
 tools=
 if builder_is_there; then
     tools=$(tools_in "$root/bindings/rust")

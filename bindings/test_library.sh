@@ -1,6 +1,7 @@
 #!/bin/sh
-# test_library.sh: library.sh makes library and program where they aren't there or not of these sources, and only then.
-# It is tried on a copy of the crates, with a stand-in for rt that notes its calls and proves nothing.
+# test_library.sh: library.sh makes library and program where they aren't there or not of these sources, and only then,
+# and install.sh makes both by one call of it. They are tried on a copy of the crates, with a stand-in for rt that notes
+# its calls and proves nothing.
 set -eu
 # shellcheck source=usage.sh
 . "$(dirname "$0")/usage.sh"
@@ -148,4 +149,41 @@ PATH=$tools "$copy/bindings/library.sh" 2>"$folder/said" || fail "nothing to do,
 echo "// more" >>"$copy/crates/refusals/src/lib.rt"
 if PATH=$tools "$copy/bindings/library.sh" 2>"$folder/said"; then fail "ended well without rt"; fi
 grep -q "there is no rt" "$folder/said" || fail "no rt isn't told: $(cat "$folder/said")"
+
+# install.sh, where there is no compiler.
+cp -r install.sh include "$copy/"
+cp -r bindings/places.sh bindings/linking "$copy/bindings/"
+for tool in basename cp install ln mkdir wc; do
+    ln -s "$(command -v "$tool")" "$tools/$tool"
+done
+installs() { # WHAT WHY PATH [SETTING..]
+    what=$1 why=$2 path=$3
+    shift 3
+    rm -rf "$folder/prefix"
+    : >"$folder/calls"
+    env -u LEAFMESH_LIBRARY -u LEAFMESH_PROGRAM "PATH=$path" "$@" "$copy/install.sh" "$folder/prefix" \
+        >"$folder/printed" 2>"$folder/said" || fail "install.sh, $why: ended with $?: $(cat "$folder/said")"
+    [ "$(cat "$folder/calls")" = "$what" ] || fail "install.sh, $why: rt was called for '$(cat "$folder/calls")'"
+    [ -f "$folder/prefix/lib/libleafmesh.a" ] || fail "install.sh, $why: no library"
+}
+has_leafnet() { [ -f "$folder/prefix/bin/leafnet" ] || fail "install.sh, $why: no leafnet"; }
+has_no_leafnet() { # SAID
+    [ ! -e "$folder/prefix/bin/leafnet" ] || fail "install.sh, $why: a leafnet"
+    grep -q "no leafnet: $1" "$folder/said" || fail "install.sh, $why: said $(cat "$folder/said")"
+}
+installs "lib leafmesh
+run leafnet" "both are of other sources" "$tools:$folder/bin"
+has_leafnet
+installs "" "both are there, and no rt" "$tools"
+has_leafnet
+rm "$copy/crates/leafnet/out/leafnet"
+installs "" "leafnet isn't there, and no rt" "$tools"
+has_no_leafnet "it is to be made, and there is no rt"
+installs "" "leafnet isn't there, and a library is named" "$tools:$folder/bin" LEAFMESH_LIBRARY="$copy/crates/leafmesh/out"
+has_no_leafnet "LEAFMESH_PROGRAM names none"
+echo "// more" >>"$copy/crates/refusals/src/lib.rt"
+installs "lib leafmesh" "leafnet is named" "$tools:$folder/bin" LEAFMESH_PROGRAM="$tools/cat"
+has_leafnet
+installs "run leafnet" "the library is there" "$tools:$folder/bin"
+has_leafnet
 echo "library.sh: as expected"
