@@ -14,7 +14,8 @@ that the library refuses raises Refusal and changes nothing that it was given.
 
 The net's conductances are the original's, and not the copper's at a change of level, beside other copper of the layer,
 and where two polygons of a component meet: see docs/CONDUCTANCES.md. `Mesh.network` refuses a board whose net would be
-wrong, with a node that isn't joined (NotJoined); `Table.network`, which is the library's own, doesn't.
+wrong, with copper that is drawn twice (Overlap) or a node that isn't joined (NotJoined); `Table.network`, which is the
+library's own, doesn't.
 
 The shared library is the one in the folder that LEAFMESH_LIBRARY names, or the file; without it the one that the loader
 finds, where install.sh put it.
@@ -27,7 +28,7 @@ except ImportError as missing:
 
 from ._version import VERSION as __version__
 from .board import Board, Polygons, Settings, read, write
-from .errors import JoinsNothing, LeafmeshError, NotJoined, Reason, Refusal
+from .errors import JoinsNothing, LeafmeshError, NotJoined, Overlap, Reason, Refusal
 from .geometry import Border, Side, contact, strips
 from .limits import CAP, COORDINATE, DEFAULT_LEVEL, MAX_LEVEL, NO_CELL, SLOTS, TICK
 from .links import Links
@@ -39,7 +40,7 @@ from .table import Hanging, Head, Table
 __all__ = [
     "__version__",
     "Board", "Polygons", "Settings", "read", "write",
-    "JoinsNothing", "LeafmeshError", "NotJoined", "Reason", "Refusal",
+    "JoinsNothing", "LeafmeshError", "NotJoined", "Overlap", "Reason", "Refusal",
     "Border", "Side", "contact", "strips",
     "CAP", "COORDINATE", "DEFAULT_LEVEL", "MAX_LEVEL", "NO_CELL", "SLOTS", "TICK",
     "Links", "Mesh", "Net", "power",

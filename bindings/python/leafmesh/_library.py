@@ -58,7 +58,10 @@ def _place() -> str:
     named = os.environ.get("LEAFMESH_LIBRARY")
     if not named:
         return SONAME
-    return os.path.join(named, SONAME) if os.path.isdir(named) else named
+    if os.path.isdir(named):
+        named = os.path.join(named, SONAME)
+    # The loader takes a name without a slash for one that it is to look for.
+    return os.path.abspath(named) if os.path.exists(named) else named
 
 
 def _loaded():

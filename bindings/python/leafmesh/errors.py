@@ -50,6 +50,22 @@ class Refusal(LeafmeshError):
         return f"refused {self.number} {self.place}: {self.words}"
 
 
+class Overlap(LeafmeshError):
+    """Copper that is drawn twice, and would conduct twice. `place` (x, y in ticks) is the lowest place, of these the
+    westmost one, of all that two or more polygons of one layer and component enclose; `polygons` are the two of the
+    lowest numbers that enclose what lies north-east of it, next to it."""
+
+    def __init__(self, polygons: tuple, place: tuple):
+        super().__init__(polygons, place)
+        self.polygons = polygons
+        self.place = place
+
+    def __str__(self) -> str:
+        first, second = self.polygons
+        return (f"polygon {second} overlaps polygon {first} from {self.place} on: copper of one layer and component is "
+                "drawn once")
+
+
 class NotJoined(LeafmeshError):
     """A net that would be wrong: the node at `place` stands inside a leaf's side, from `side[0]` to `side[1]`, and
     isn't joined along it. All three are x and y in ticks."""

@@ -1,6 +1,5 @@
 """A board's mesh and net."""
 
-import operator
 from typing import Optional
 
 import numpy as np
@@ -9,6 +8,8 @@ from .board import Board, Polygons, Settings, read
 from .errors import JoinsNothing, NotJoined
 from .links import NO_LINKS, Links
 from .net import Net
+from .overlaps import first_overlap
+from .rows import holds_bools, mask
 from .table import Hanging, Head, Table
 
 
@@ -49,9 +50,10 @@ class Mesh:
         return self._table
 
     def refine(self, ids) -> None:
-        """Splits one leaf, or several in turn: all of them, or none where one is refused."""
+        """Splits one leaf, or several in turn: all of them, or none where one is refused. In place of ids it takes a
+        mask, one bool a leaf in the order of the net's cells: refine(net.power(volts) > limit)."""
         table = self._table.copy()
-        for id in ids if np.iterable(ids) else [operator.index(ids)]:
+        for id in self._asked(ids):
             table.refine(id)
         self._table = table
 
@@ -72,8 +74,11 @@ class Mesh:
         return self._table.leaf_order()
 
     def network(self, links: Links = NO_LINKS) -> Net:
-        """The net of the leaves and of the links between them. Raises NotJoined where it would be wrong, and
-        JoinsNothing for the first link that finds no node on one side."""
+        """The net of the leaves and of the links between them. Raises Overlap where copper is drawn twice, NotJoined
+        where the net would be wrong otherwise, and JoinsNothing for the first link that finds no node on one side."""
+        overlap = first_overlap(self.cells, self.polygons)
+        if overlap:
+            raise overlap
         net = self._table.network(self.polygons, links)
         found = self.check(net)
         if found:
@@ -84,6 +89,13 @@ class Mesh:
     def check(self, net: Net) -> Optional[Hanging]:
         """The first node inside a leaf's side that isn't joined along it, by layer and component."""
         return self._table.check_by_layer(net, self.polygons)
+
+    def _asked(self, ids):
+        """One id, or a row of them, or those of the leaves that a mask has."""
+        if not np.iterable(ids):
+            return [ids]
+        ids = ids if isinstance(ids, np.ndarray) else list(ids)
+        return self.leaf_order()[mask(ids, self.head.leaves)] if holds_bools(ids) else ids
 
     def _refuse_idle(self, links: Links) -> None:
         own = self._table.edge_rows(self.polygons)

@@ -26,7 +26,9 @@ CHANNEL = np.dtype(
 
 
 def number(value, what: str, kind="u8") -> int:
-    """A whole number that this type can hold."""
+    """A whole number that this type can hold. A bool is none: it stands for a choice."""
+    if _is_bool(value):
+        raise TypeError(f"{what}: a whole number, not {value}")
     value = operator.index(value)
     limits = np.iinfo(kind)
     if not limits.min <= value <= limits.max:
@@ -37,6 +39,8 @@ def number(value, what: str, kind="u8") -> int:
 def numbers(values, kind: str, what: str, width: int = 1) -> np.ndarray:
     """A row of numbers, or of so many in each entry."""
     given, kind = np.asarray(values), np.dtype(kind)
+    if holds_bools(values):
+        raise TypeError(f"{what}: numbers, and no bools")
     if given.size == 0:
         given = np.zeros((0, width) if width > 1 else 0, kind)
     if given.ndim != (2 if width > 1 else 1) or (width > 1 and given.shape[1] != width):
@@ -67,7 +71,32 @@ def entries(values, kind: np.dtype, what: str) -> np.ndarray:
 
 
 def _field(value, kind: np.dtype, what: str):
-    return number(value, what, kind) if kind.kind in "iu" else float(value)
+    if kind.kind in "iu":
+        return number(value, what, kind)
+    if _is_bool(value):
+        raise TypeError(f"{what}: a number, not {value}")
+    return float(value)
+
+
+def _is_bool(value) -> bool:
+    return isinstance(value, (bool, np.bool_)) or (isinstance(value, np.ndarray) and value.dtype == bool)
+
+
+def holds_bools(values) -> bool:
+    """Whether a bool is among them, which numpy would take for a number."""
+    if isinstance(values, np.ndarray) and values.dtype != object:
+        return values.dtype == bool
+    return any(map(_is_bool, np.asarray(values, object).flat))
+
+
+def mask(values, length: int) -> np.ndarray:
+    """A row of so many bools, one a leaf."""
+    given = np.asarray(values, object)
+    if not all(map(_is_bool, given.flat)):
+        raise TypeError("a row of ids has numbers alone, a mask has bools alone")
+    if given.shape != (length,):
+        raise ValueError(f"a mask has one bool a leaf, of {length} leaves, and not the shape {given.shape}")
+    return given.astype(bool)
 
 
 def lent_table(row) -> np.ndarray:

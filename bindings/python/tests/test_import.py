@@ -12,11 +12,11 @@ from leafmesh._library import SONAME
 PACKAGE = Path(__file__).resolve().parents[1]
 
 
-def imported(library, before=""):
-    """The end of an import in a process of its own: its last line of words, none where it went well."""
+def imported(library, before="", folder=None):
+    """The end of an import in a process of its own, in this folder: its last line of words, none where it went well."""
     environment = {**os.environ, "LEAFMESH_LIBRARY": str(library), "PYTHONPATH": str(PACKAGE)}
     run = subprocess.run([sys.executable, "-c", before + "import leafmesh"], env=environment, capture_output=True,
-                         text=True)
+                         text=True, cwd=folder)
     return run.stderr.strip().split("\n")[-1]
 
 
@@ -27,6 +27,11 @@ class Import(unittest.TestCase):
     def test_a_folder_and_a_file_are_taken(self):
         self.assertEqual(imported(self.library), "")
         self.assertEqual(imported(os.path.join(self.library, SONAME)), "")
+
+    def test_both_are_seen_from_the_callers_folder(self):
+        above, name = os.path.split(os.path.abspath(self.library))
+        self.assertEqual(imported(name, folder=above), "")
+        self.assertEqual(imported(SONAME, folder=self.library), "")
 
     def test_a_missing_library_is_told_by_name(self):
         with tempfile.TemporaryDirectory() as empty:
