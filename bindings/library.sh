@@ -10,7 +10,7 @@
 set -eu
 # shellcheck source=usage.sh
 . "$(dirname "$0")/usage.sh"
-answer_help "$@"
+take_names 0 2 "[leafmesh] [leafnet]" "$@"
 case "$*" in
 '' | leafmesh | leafnet | "leafmesh leafnet" | "leafnet leafmesh") ;;
 *) refuse_words "[leafmesh] [leafnet]" ;;

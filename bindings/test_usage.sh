@@ -70,6 +70,7 @@ grep -qx '[0-9]*\.[0-9]*\.[0-9]*' "$folder/printed" || fail "install.sh --versio
 script=library.sh
 refuses "$root/bindings/library.sh" table
 refuses "$root/bindings/library.sh" leafnet leafnet
+refuses "$root/bindings/library.sh" ""
 script=draw.sh
 refuses "$root/bindings/rust/draw.sh"
 refuses "$root/bindings/rust/draw.sh" board.txt -out
