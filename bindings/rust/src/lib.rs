@@ -131,6 +131,7 @@ mod grid;
 mod leaf;
 mod lent;
 mod links;
+pub mod merging;
 mod mesh;
 pub mod msh;
 mod name;

@@ -2,6 +2,7 @@
 
 use crate::columns::{LEVEL, PARENT, POLYGON};
 use crate::lent::Lent;
+use crate::merging::first_overlap;
 use crate::sides::has_side;
 use crate::unmeshed::{refused, Idle, Loose, TooLong, Unmeshed};
 use crate::{
@@ -342,8 +343,9 @@ impl Mesh {
     ///
     /// # Errors
     ///
-    /// Those of [`Table::network`]; [`Unmeshed::TooLong`] or [`Unmeshed::Loose`] where the net would be wrong,
-    /// since [`Mesh::check_by_layer`] names a node inside a leaf's side.
+    /// Those of [`Table::network`]; where the net would be wrong [`Unmeshed::Overlap`], since polygons of one layer and
+    /// component have an area in common, or [`Unmeshed::TooLong`] or [`Unmeshed::Loose`], since
+    /// [`Mesh::check_by_layer`] names a node inside a leaf's side.
     pub fn net(&self) -> Result<Net, Unmeshed> {
         self.linked_net(Links::default())
     }
@@ -355,6 +357,9 @@ impl Mesh {
     /// Those of [`Table::linked_network`] and of [`Mesh::net`]; [`Unmeshed::Idle`] for the first link that joins
     /// nothing.
     pub fn linked_net(&self, links: Links) -> Result<Net, Unmeshed> {
+        if let Some(overlap) = first_overlap(self.polygons.outlines()) {
+            return Err(Unmeshed::Overlap(overlap));
+        }
         let net = self.unjudged_linked_net(links)?;
         if let Some(hanging) = self.check_by_layer(net.rows())? {
             return Err(self.why_loose(&net, hanging));

@@ -1,5 +1,6 @@
 //! Why a board has no mesh, or a mesh no net that could be used.
 
+use crate::merging::Overlap;
 use crate::{strips, Link, Outlines, Point, Reason, Rect, Refusal, Settings};
 use std::error::Error;
 use std::fmt;
@@ -14,6 +15,8 @@ pub enum Unmeshed {
     TooLong(TooLong),
     /// A node stands inside a leaf's side and isn't joined along it: the net would be wrong there.
     Loose(Loose),
+    /// Copper of one layer and component is drawn twice, and would conduct twice.
+    Overlap(Overlap),
     /// A link joins nothing: the library passes it over.
     Idle(Idle),
 }
@@ -68,6 +71,7 @@ impl fmt::Display for Unmeshed {
             Unmeshed::Refused(refusal) => refusal.fmt(f),
             Unmeshed::TooLong(long) => long.fmt(f),
             Unmeshed::Loose(loose) => loose.fmt(f),
+            Unmeshed::Overlap(overlap) => overlap.fmt(f),
             Unmeshed::Idle(idle) => idle.fmt(f),
         }
     }

@@ -5,6 +5,7 @@ use super::splitting::{base_cells, first_refused, no_room, Refused};
 use super::unit::Unit;
 use super::{Lines, Unclear};
 use crate::limits::MEANS_DEFAULT;
+use crate::merging::Overlap;
 use crate::unmeshed::{strips_of, Loose, TooLong, Unmeshed};
 use crate::{Board, Link, Point, Reason, Refusal, Settings, MAX_LEVEL};
 use std::fmt;
@@ -43,7 +44,7 @@ impl Lines {
     }
 
     pub(super) fn fault(&self, board: &Board, why: &Unmeshed) -> Unclear {
-        let Fault { part, words } = Fault::of(board, why, Unit(self.pitch));
+        let Fault { part, words } = Fault::of(board, why, Some(self));
         let line = part.and_then(|part| self.of_part(board, &part));
         Unclear { line, words }
     }
@@ -73,7 +74,7 @@ impl Lines {
 
 /// Why a board that was given by its record has no mesh, or no net, in ticks and with the part that is to blame.
 pub fn blame_record(board: &Board, why: &Unmeshed) -> String {
-    let Fault { part, words } = Fault::of(board, why, Unit(None));
+    let Fault { part, words } = Fault::of(board, why, None);
     match part {
         Some(part) => format!("{part}: {words}"),
         None => words,
@@ -89,11 +90,14 @@ fn first_point(board: &Board, polygon: usize) -> usize {
 }
 
 impl Fault {
-    fn of(board: &Board, why: &Unmeshed, unit: Unit) -> Self {
+    /// By the lines of a text, in its unit.
+    fn of(board: &Board, why: &Unmeshed, lines: Option<&Lines>) -> Self {
+        let unit = Unit(lines.and_then(|lines| lines.pitch));
         match *why {
             Unmeshed::Refused(refusal) => Fault::of_refusal(board, refusal, unit),
             Unmeshed::TooLong(long) => Fault::of_long_strip(long, unit),
             Unmeshed::Loose(loose) => Fault::of_loose_node(loose, unit),
+            Unmeshed::Overlap(overlap) => Fault::of_overlap(board, overlap, unit, lines),
             Unmeshed::Idle(idle) => Fault {
                 part: Some(Part::Link(idle.link)),
                 words: idle.words().to_string(),
@@ -177,6 +181,26 @@ impl Fault {
                 point: long.point,
             }),
             words: format!("{cells} {name} long; at most {cap} base cells"),
+        }
+    }
+
+    /// At the later polygon of the two.
+    fn of_overlap(board: &Board, overlap: Overlap, unit: Unit, lines: Option<&Lines>) -> Self {
+        let [first, second] = overlap.polygons;
+        let other = match lines.and_then(|lines| lines.polygons.get(first)) {
+            Some(line) => format!("the polygon of line {line}"),
+            None => format!("polygon {first}"),
+        };
+        let way_out = match board.sheets.get(first) == board.sheets.get(second) {
+            true => "`board merge` unites the two",
+            false => "take it out of one of the two, whose sheet resistances differ",
+        };
+        Fault {
+            part: Some(Part::Polygon(second)),
+            words: format!(
+                "overlaps {other} from {} on: copper of one layer and component is drawn once; {way_out}",
+                unit.show_point(overlap.place)
+            ),
         }
     }
 
