@@ -122,6 +122,7 @@ mod first_pages {
     struct Crate;
 }
 
+mod astray;
 mod borders;
 pub mod csv;
 pub mod drawing;
@@ -149,6 +150,7 @@ pub mod tool;
 mod unmeshed;
 pub mod vtk;
 
+pub use astray::{Astray, SameLayer};
 pub use borders::{borders, Border, LeafBorder, Side};
 pub use leaf::{Leaf, Region};
 pub use links::{Channel, ChannelEnd, Contact, Footprint, Link, Links, OwnedLinks, Via};

@@ -131,6 +131,17 @@ pub enum Link {
     Channel(usize),
 }
 
+impl Link {
+    /// As texts and refusals call it: "via 3".
+    pub(crate) fn in_words(self) -> String {
+        match self {
+            Link::Contact(at) => format!("contact {at}"),
+            Link::Via(at) => format!("via {at}"),
+            Link::Channel(at) => format!("channel {at}"),
+        }
+    }
+}
+
 impl<'a> Links<'a> {
     /// Each by itself, in their order.
     pub fn each(self) -> impl Iterator<Item = (Link, Links<'a>)> {

@@ -1,5 +1,6 @@
 //! A board's mesh and net with rooms of their own: the calls of [`Table`], one after another.
 
+use crate::astray::Coppers;
 use crate::columns::{LEVEL, PARENT, POLYGON};
 use crate::lent::Lent;
 use crate::merging::first_overlap;
@@ -354,8 +355,8 @@ impl Mesh {
     ///
     /// # Errors
     ///
-    /// Those of [`Table::linked_network`] and of [`Mesh::net`]; [`Unmeshed::Idle`] for the first link that joins
-    /// nothing.
+    /// Those of [`Table::linked_network`] and of [`Mesh::net`]; for the first link that joins nothing [`Unmeshed::Idle`],
+    /// that ends on no copper [`Unmeshed::Astray`], or that is a via from a layer to itself [`Unmeshed::SameLayer`].
     pub fn linked_net(&self, links: Links) -> Result<Net, Unmeshed> {
         if let Some(overlap) = first_overlap(self.polygons.outlines()) {
             return Err(Unmeshed::Overlap(overlap));
@@ -364,11 +365,28 @@ impl Mesh {
         if let Some(hanging) = self.check_by_layer(net.rows())? {
             return Err(self.why_loose(&net, hanging));
         }
-        let edges = self.edges_of_links(links)?;
-        match links.each().zip(edges).find(|&(_, edges)| edges == 0) {
-            Some(((link, _), _)) => Err(Unmeshed::Idle(Idle { link })),
-            None => Ok(net),
+        let coppers = self.coppers();
+        for ((link, one), edges) in links.each().zip(self.edges_of_links(links)?) {
+            if edges == 0 {
+                return Err(Unmeshed::Idle(Idle { link }));
+            }
+            coppers.judge(link, one)?;
         }
+        Ok(net)
+    }
+
+    /// What is copper: the base cells.
+    fn coppers(&self) -> Coppers {
+        let rows = &self.polygons;
+        let base_cells = (0..self.head.count).filter(|&id| self.slot(id)[PARENT] == NO_CELL);
+        Coppers::of(base_cells.map(|id| {
+            let polygon = self.polygon(id);
+            (
+                rows.layers[polygon],
+                rows.components[polygon],
+                self.rect(id),
+            )
+        }))
     }
 
     /// The net of the leaves, without links, whatever stands inside their sides: as [`Table::network`] makes it.

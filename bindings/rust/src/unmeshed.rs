@@ -1,5 +1,6 @@
 //! Why a board has no mesh, or a mesh no net that could be used.
 
+use crate::astray::{Astray, SameLayer};
 use crate::merging::Overlap;
 use crate::{strips, Link, Outlines, Point, Reason, Rect, Refusal, Settings};
 use std::error::Error;
@@ -19,6 +20,10 @@ pub enum Unmeshed {
     Overlap(Overlap),
     /// A link joins nothing: the library passes it over.
     Idle(Idle),
+    /// A via or a channel ends where there is no copper of its layer and component.
+    Astray(Astray),
+    /// A via joins a layer to itself.
+    SameLayer(SameLayer),
 }
 
 /// A link that finds no node at one of its ends.
@@ -73,6 +78,8 @@ impl fmt::Display for Unmeshed {
             Unmeshed::Loose(loose) => loose.fmt(f),
             Unmeshed::Overlap(overlap) => overlap.fmt(f),
             Unmeshed::Idle(idle) => idle.fmt(f),
+            Unmeshed::Astray(astray) => astray.fmt(f),
+            Unmeshed::SameLayer(via) => via.fmt(f),
         }
     }
 }
@@ -94,12 +101,7 @@ impl Idle {
 
 impl fmt::Display for Idle {
     fn fmt(&self, f: &mut fmt::Formatter<'_>) -> fmt::Result {
-        let (name, at) = match self.link {
-            Link::Contact(at) => ("contact", at),
-            Link::Via(at) => ("via", at),
-            Link::Channel(at) => ("channel", at),
-        };
-        write!(f, "{name} {at} {}", self.words())
+        write!(f, "{} {}", self.link.in_words(), self.words())
     }
 }
 

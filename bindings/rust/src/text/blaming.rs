@@ -7,7 +7,7 @@ use super::{Lines, Unclear};
 use crate::limits::MEANS_DEFAULT;
 use crate::merging::Overlap;
 use crate::unmeshed::{strips_of, Loose, TooLong, Unmeshed};
-use crate::{Board, Link, Point, Reason, Refusal, Settings, MAX_LEVEL};
+use crate::{Astray, Board, Link, Point, Reason, Refusal, Settings, MAX_LEVEL};
 use std::fmt;
 
 /// What is wrong, and with which part of a board.
@@ -30,9 +30,7 @@ impl fmt::Display for Part {
             Part::Polygon(polygon) => write!(f, "polygon {polygon}"),
             Part::Point { polygon, point } => write!(f, "polygon {polygon}, point {point}"),
             Part::Split(at) => write!(f, "split {at}"),
-            Part::Link(Link::Contact(at)) => write!(f, "contact {at}"),
-            Part::Link(Link::Via(at)) => write!(f, "via {at}"),
-            Part::Link(Link::Channel(at)) => write!(f, "channel {at}"),
+            Part::Link(link) => f.write_str(&link.in_words()),
         }
     }
 }
@@ -102,6 +100,23 @@ impl Fault {
                 part: Some(Part::Link(idle.link)),
                 words: idle.words().to_string(),
             },
+            Unmeshed::Astray(astray) => Fault::of_astray(astray, unit),
+            Unmeshed::SameLayer(same) => Fault {
+                part: Some(Part::Link(Link::Via(same.via))),
+                words: same.words(),
+            },
+        }
+    }
+
+    fn of_astray(astray: Astray, unit: Unit) -> Self {
+        let [place, nearest] = [astray.place, astray.nearest].map(|at| unit.show_point(at));
+        let away = unit.show_distance(astray.distance());
+        Fault {
+            part: Some(Part::Link(astray.link)),
+            words: format!(
+                "{}, {place}: the nearest is at {nearest}, {away} away",
+                astray.whose()
+            ),
         }
     }
 

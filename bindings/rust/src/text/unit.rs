@@ -1,6 +1,7 @@
 //! Numbers of a text, each refused in words: of which unit it is, and in which range.
 
 use crate::limits::{HALF, RESISTANCE_HIGH, RESISTANCE_LOW};
+use crate::tool::digits;
 use crate::{Pitch, Point, Rect, COORDINATE};
 use std::fmt::Display;
 use std::ops::RangeInclusive;
@@ -71,6 +72,23 @@ impl Unit {
             Some(pitch) => format!("{} mm", pitch.short(ticks)),
             None => format!("{ticks} ticks"),
         }
+    }
+
+    /// How far apart two places are, with six figures and the unit.
+    pub fn show_distance(self, ticks: f64) -> String {
+        match self.0 {
+            Some(pitch) => format!("{} mm", digits(ticks * pitch.millimetres(1))),
+            None => format!("{} ticks", digits(ticks)),
+        }
+    }
+
+    /// Lengths as a line of the text has them, parted by blanks.
+    pub fn words(self, all: &[i64]) -> String {
+        let word = |&ticks: &i64| match self.0 {
+            Some(pitch) => pitch.short(ticks).to_string(),
+            None => ticks.to_string(),
+        };
+        all.iter().map(word).collect::<Vec<_>>().join(" ")
     }
 
     /// Width and height as the text would say them, with their unit.
