@@ -2,7 +2,7 @@
 
 use leafmesh::drawing::{densities, Picture, Quantity};
 use leafmesh::limits::POTENTIAL;
-use leafmesh::tool::{By, Command, End, Given, Stop, Switch, Takes, Tool, Words};
+use leafmesh::tool::{By, Command, End, Given, Stop, Switch, Takes, Tool, Words, SNAP};
 use leafmesh::{looks_at_its_ends, printed, Mesh, Net};
 use std::process::ExitCode;
 
@@ -24,7 +24,7 @@ const DRAW: Tool = Tool {
         name: "",
         help: HELP,
         switches: &[
-            BOARD, POWER, CURRENT, TERMINAL, BORDERS, TITLE, RECORD, POTENTIALS, PRINTED,
+            BOARD, POWER, CURRENT, TERMINAL, BORDERS, TITLE, RECORD, POTENTIALS, PRINTED, SNAP,
         ],
         make: draw,
     }],
@@ -33,7 +33,7 @@ const DRAW: Tool = Tool {
 
 const HELP: &str = "\
 usage: draw BOARD [--power | --current] [--terminal WORDS] .. [--borders]
-            [--title WORDS] [-o FILE]
+            [--snap PITCH] [--title WORDS] [-o FILE]
        draw [--printed FILE] [--record FILE [--potentials FILE]] [--borders]
             [--title WORDS] [-o FILE]
        draw --help | --version
@@ -50,6 +50,8 @@ what leafnet printed, from standard input.
                     \"NAME VALUE V|A end LAYER COMPONENT west|east|south|north\",
                     \".. edge|rect LAYER COMPONENT X0 Y0 X1 Y1\" or
                     \".. pad POLYGON\"; instead of one with the same name
+  --snap PITCH      with a text's points on another pitch in millimetres; each
+                    move is told
   --borders         a line on every border that two leaves share, the longer the
                     wider
   --title WORDS     words over the picture; without them the board's file
@@ -104,8 +106,8 @@ fn board_of(words: &Words) -> Result<Option<End>, Stop> {
     }
 }
 
-fn of_board(board: &End, words: &Words) -> Result<Picture, String> {
-    let given = Given::read(board)?.with_terminals(&words.all(TERMINAL.0))?;
+fn of_board(board: &End, words: &Words) -> Result<Picture, Stop> {
+    let given = Given::read(words, board)?.with_terminals(&words.all(TERMINAL.0))?;
     let name = board.name();
     let title = words.one(TITLE.0);
     let title = title.as_deref().or(name.as_deref()).unwrap_or("a board");
@@ -114,7 +116,7 @@ fn of_board(board: &End, words: &Words) -> Result<Picture, String> {
         (_, true) => (Quantity::SheetCurrent, CURRENT.0),
         _ => {
             let (mesh, net) = given.mesh()?;
-            return of_mesh(title, &given, &mesh, &net);
+            return Ok(of_mesh(title, &given, &mesh, &net)?);
         }
     };
     let solved = given.solved(By::Cells, asker)?;
@@ -131,7 +133,7 @@ fn of_mesh(title: &str, given: &Given, mesh: &Mesh, net: &Net) -> Result<Picture
     Ok(picture.with_links(net, given.links.rows()))
 }
 
-fn of_printed(words: &Words) -> Result<Picture, String> {
+fn of_printed(words: &Words) -> Result<Picture, Stop> {
     let input = words.file_of(PRINTED.0).unwrap_or_default();
     let text = input.read_text()?;
     let title = words.one(TITLE.0);
@@ -139,9 +141,9 @@ fn of_printed(words: &Words) -> Result<Picture, String> {
     let said = |why: String| input.said(&why);
     let Some(record) = words.file_of(RECORD.0) else {
         let printed = printed::read_sound(&text).map_err(said)?;
-        return Picture::of_printed(title, &printed, None).map_err(said);
+        return Ok(Picture::of_printed(title, &printed, None).map_err(said)?);
     };
-    let given = Given::read(&record)?;
+    let given = Given::read(words, &record)?;
     let printed = printed::read(&text).map_err(said)?;
     let (mesh, net) = given.mesh()?;
     let own = printed::show_mesh(&given.board, &mesh, &net);

@@ -59,13 +59,8 @@ fn relax(words: &Words) -> Result<Vec<u8>, Stop> {
 }
 
 /// With the terminals of the board, whose mesh tells pads.
-fn of_board(
-    printed: &Printed,
-    input: &End,
-    board: &End,
-    words: &Words,
-) -> Result<Vec<f64>, String> {
-    let given = Given::read(board)?.with_terminals(&words.all(TERMINAL.0))?;
+fn of_board(printed: &Printed, input: &End, board: &End, words: &Words) -> Result<Vec<f64>, Stop> {
+    let given = Given::read(words, board)?.with_terminals(&words.all(TERMINAL.0))?;
     let solved = given.solved(By::Net, "relax")?;
     let own = printed::show_mesh(&given.board, &solved.mesh, &solved.net);
     printed::is_of(printed, &own).map_err(|why| input.said(&why))?;

@@ -32,6 +32,7 @@ use std::collections::HashMap;
 
 pub use cutting::{cut, Bounds};
 pub use overlap::{first_overlap, Overlap};
+pub(crate) use sweep::encloses;
 
 /// Polygons of one layer, component and sheet resistance that have an area or a border in common, one through another.
 #[derive(Clone, Debug, PartialEq, Eq)]

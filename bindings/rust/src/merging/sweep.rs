@@ -99,7 +99,7 @@ fn by_height(sides: &[(i64, i64, i64)]) -> Vec<&[(i64, i64, i64)]> {
 }
 
 /// Whether a ring encloses what lies north-east of a place, next to it.
-pub(super) fn encloses(ring: &[Point], [x, y]: Point) -> bool {
+pub(crate) fn encloses(ring: &[Point], [x, y]: Point) -> bool {
     let next = ring.iter().cycle().skip(1);
     let crossed = ring.iter().zip(next).filter(|([ax, ay], [bx, by])| {
         let (low, high) = (*ay.min(by), *ay.max(by));

@@ -22,21 +22,29 @@ pub fn is_record(bytes: &[u8]) -> bool {
 ///
 /// Those of [`parse_whole`]; a record; the first line that isn't UTF-8.
 pub fn parse_bytes(bytes: &[u8]) -> Result<Whole, Unclear> {
+    parse_whole(text_of(bytes)?)
+}
+
+/// The text in a file.
+///
+/// # Errors
+///
+/// A record; the first line that isn't UTF-8.
+pub fn text_of(bytes: &[u8]) -> Result<&str, Unclear> {
     if is_record(bytes) {
         return Err(Unclear {
             line: None,
             words: "this is a record already, not a board's text".to_string(),
         });
     }
-    let text = std::str::from_utf8(bytes).map_err(|why| {
+    std::str::from_utf8(bytes).map_err(|why| {
         let before = &bytes[..why.valid_up_to()];
         let newlines = before.iter().filter(|&&byte| byte == b'\n').count();
         Unclear {
             line: Some(newlines + 1),
             words: "this isn't UTF-8".to_string(),
         }
-    })?;
-    parse_whole(text)
+    })
 }
 
 /// The board of the record in a file: what [`read`] answers, with words for what is none. Where the record asks for the

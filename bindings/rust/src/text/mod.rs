@@ -78,10 +78,12 @@ mod bytes;
 mod form;
 mod judging;
 mod linking;
+mod merging;
 mod packing;
 mod reading;
 mod rings;
 mod showing;
+mod snapping;
 mod splitting;
 mod terminals;
 mod unit;
@@ -94,9 +96,11 @@ use std::fmt;
 use unit::Unit;
 
 pub use blaming::blame_record;
-pub use bytes::{is_record, parse_bytes, read_record};
+pub use bytes::{is_record, parse_bytes, read_record, text_of};
+pub use merging::{merge, Merged};
 pub use packing::{pack, pack_board, pack_whole, Packed};
 pub use showing::{show, show_linked, show_whole};
+pub use snapping::{snap, Move, Snapped};
 pub use splitting::with_splits;
 
 /// A line that is no part of a board, or says what a board can't have.
@@ -229,19 +233,23 @@ pub fn parse_with_lines(text: &str) -> Result<(Board, Lines), Unclear> {
 /// of fewer than four points, the number of a polygon that isn't there; and, where a rectangle is to be refined, base
 /// cells that can't be, and the first line that splits what can't be split.
 pub fn parse_whole(text: &str) -> Result<Whole, Unclear> {
+    reading_of(text)?.end()
+}
+
+/// The lines of a text, each by itself.
+fn reading_of(text: &str) -> Result<Reading, Unclear> {
     let mut reading = Reading::new();
     let text = text.strip_prefix('\u{feff}').unwrap_or(text);
     for (index, line) in text.lines().enumerate() {
         let meant = line.split('#').next().unwrap_or("");
         let words: Vec<&str> = meant.split_whitespace().collect();
-        reading
-            .take_line(index + 1, &words)
-            .map_err(|words| Unclear {
-                line: Some(index + 1),
-                words,
-            })?;
+        let taken = reading.take_line(index + 1, &words);
+        taken.map_err(|why| Unclear {
+            line: Some(index + 1),
+            words: why + &reading.way_out(text, &words),
+        })?;
     }
-    reading.end()
+    Ok(reading)
 }
 
 /// A terminal by what stands behind `terminal` in a text, as a command line may have it. Its lengths are in millimetres

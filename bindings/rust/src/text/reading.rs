@@ -5,7 +5,7 @@ use super::linking::{channel_of, contact_of, via_of};
 use super::splitting::{ids_of, region_of, Mark, Task};
 use super::terminals::terminal_of;
 use super::unit::{component, cut, finite, grouped, layer, ohms, whole, Unit};
-use super::{Unclear, Whole};
+use super::{snapping, Unclear, Whole};
 use crate::limits::{CAP, CELL, LAYER_ENTRIES, MEANS_DEFAULT, POLYGONS, RING_POINTS, SPLITS};
 use crate::{Board, Pitch, COORDINATE, MAX_LEVEL};
 
@@ -234,6 +234,30 @@ impl Reading {
             _ => return Err(senseless(words)),
         }
         Ok(())
+    }
+
+    /// What to do about a line that isn't taken, where its lengths are no multiples of the pitch.
+    pub fn way_out(&self, text: &str, words: &[&str]) -> String {
+        let Whole { board, lines, .. } = &self.whole;
+        let layer = board.polygons.last().map(|&[layer, ..]| layer);
+        let own = board
+            .layers
+            .iter()
+            .find(|entry| Some(entry[0]) == layer && entry[1] > 0);
+        let cell = own.map(|&[layer, cell]| (layer, cell as i64));
+        snapping::way_out(text, words, lines.pitch, board.settings().max_level, cell)
+    }
+
+    /// What the lines say together without what they split, and the lines that split cells by their ids.
+    pub fn end_unsplit(self) -> Result<(Whole, Vec<usize>), Unclear> {
+        self.whole.judge()?;
+        let by_id = self
+            .marks
+            .iter()
+            .filter(|mark| matches!(mark.task, Task::Split(_)));
+        let mut lines: Vec<usize> = by_id.map(|mark| mark.line).collect();
+        lines.dedup();
+        Ok((self.whole, lines))
     }
 
     /// What the lines say together.

@@ -1,6 +1,6 @@
 //! A board as the tools are given it.
 
-use super::{say, End, Terminals};
+use super::{board_file, say, End, Stop, Terminals, Words};
 use crate::sides::inside;
 use crate::solving::Unsolved;
 use crate::text::{self, Lines, Unclear, Whole};
@@ -33,10 +33,11 @@ impl Given {
     ///
     /// # Errors
     ///
-    /// In words: it can't be read, or is no board.
-    pub fn read(from: &End) -> Result<Self, String> {
-        let bytes = from.read()?;
-        Given::of_bytes(&bytes, from).map_err(|why| from.said(&why.to_string()))
+    /// In words: it can't be read, or is no board. Those of [`board_file`].
+    pub fn read(words: &Words, from: &End) -> Result<Self, Stop> {
+        let bytes = board_file(words, from)?;
+        let given = Given::of_bytes(&bytes, from);
+        Ok(given.map_err(|why| from.said(&why.to_string()))?)
     }
 
     fn of_bytes(bytes: &[u8], from: &End) -> Result<Self, Unclear> {

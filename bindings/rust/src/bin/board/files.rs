@@ -2,7 +2,7 @@
 
 use crate::{given, TERMINAL};
 use leafmesh::field::{Field, Flows};
-use leafmesh::tool::{By, Command, Given, Solved, Stop, Switch, Takes, Words};
+use leafmesh::tool::{By, Command, Given, Solved, Stop, Switch, Takes, Words, SNAP};
 use leafmesh::{csv, msh, vtk, Mesh, Net, Refusal};
 
 /// What flows goes into the file, too.
@@ -12,7 +12,7 @@ pub const VTK: Command = Command {
     name: "vtk",
     help: concat!(
         "\
-usage: board vtk [FILE] [--power] [--terminal WORDS] .. [-o FILE]
+usage: board vtk [FILE] [--power] [--terminal WORDS] .. [--snap PITCH] [-o FILE]
 
 The mesh as a file for ParaView (VTK's legacy form): leaves as quads, links as
 lines.
@@ -22,7 +22,7 @@ lines.
 ",
         terminal_help!()
     ),
-    switches: &[POWER, TERMINAL],
+    switches: &[POWER, TERMINAL, SNAP],
     make: |words| of_mesh(words, vtk::of_linked_mesh),
 };
 
@@ -30,7 +30,7 @@ pub const MSH: Command = Command {
     name: "msh",
     help: concat!(
         "\
-usage: board msh [FILE] [--power] [--terminal WORDS] .. [-o FILE]
+usage: board msh [FILE] [--power] [--terminal WORDS] .. [--snap PITCH] [-o FILE]
 
 The mesh as a file for Gmsh (form 4.1): leaves as quads, links as lines, a
 physical group for each component of a layer and one for the links.
@@ -40,7 +40,7 @@ physical group for each component of a layer and one for the links.
 ",
         terminal_help!()
     ),
-    switches: &[POWER, TERMINAL],
+    switches: &[POWER, TERMINAL, SNAP],
     make: |words| of_mesh(words, msh::of_mesh),
 };
 
@@ -48,7 +48,7 @@ pub const CSV: Command = Command {
     name: "csv",
     help: concat!(
         "\
-usage: board csv [FILE] [--power] [--terminal WORDS] .. [-o FILE]
+usage: board csv [FILE] [--power] [--terminal WORDS] .. [--snap PITCH] [-o FILE]
 
 A line a leaf, behind a heading: its names, its sides in millimetres or ticks,
 its sheet resistance.
@@ -58,7 +58,7 @@ its sheet resistance.
 ",
         terminal_help!()
     ),
-    switches: &[POWER, TERMINAL],
+    switches: &[POWER, TERMINAL, SNAP],
     make: table,
 };
 

@@ -12,10 +12,11 @@ macro_rules! terminal_help {
 }
 
 mod files;
+mod merge;
 mod refine;
 mod solve;
 
-use leafmesh::tool::{say, Command, Given, Stop, Switch, Takes, Tool, Words};
+use leafmesh::tool::{board_file, say, Command, Given, Stop, Switch, Takes, Tool, Words, SNAP};
 use leafmesh::{looks_at_its_ends, printed, text, Mesh, Unmeshed};
 use std::fmt::Display;
 use std::process::ExitCode;
@@ -33,6 +34,7 @@ const BOARD: Tool = Tool {
         files::CSV,
         solve::SOLVE,
         refine::REFINE,
+        merge::MERGE,
     ],
     help: "\
 usage: board COMMAND [FILE] [OPTION ..] [-o FILE]
@@ -50,18 +52,23 @@ Reads a board's text or record from a file or from standard input (no file, or
   csv      a table of its leaves
   solve    what flows between its terminals, as tables to be read
   refine   the board with its hottest leaves split, round by round
+  merge    the text with its copper drawn once
+
+Beside any of them but unpack:
+  --snap PITCH  a text's points are moved to multiples of this pitch, in
+                millimetres, which becomes the text's; each move is told
 ",
 };
 
 const PACK: Command = Command {
     name: "pack",
     help: "\
-usage: board pack [FILE] [-o FILE]
+usage: board pack [FILE] [--snap PITCH] [-o FILE]
 
 The record of a board's text. A text with links is refused, since a record has
 none; terminals are left out with a warning.
 ",
-    switches: &[],
+    switches: &[SNAP],
     make: pack,
 };
 
@@ -79,12 +86,12 @@ The text of a board's record, in ticks.
 const NET: Command = Command {
     name: "net",
     help: "\
-usage: board net [FILE] [-o FILE]
+usage: board net [FILE] [--snap PITCH] [-o FILE]
 
 Leaves, nodes and edges of a board's text or record, as leafnet prints them, of
 a board of any size and with links.
 ",
-    switches: &[],
+    switches: &[SNAP],
     make: net,
 };
 
@@ -99,7 +106,8 @@ fn main() -> ExitCode {
 fn pack(words: &Words) -> Result<Vec<u8>, Stop> {
     let input = words.input();
     let said = |why: &dyn Display| input.said(&why.to_string());
-    let whole = text::parse_bytes(&input.read()?).map_err(|why| said(&why))?;
+    let bytes = board_file(words, &input)?;
+    let whole = text::parse_bytes(&bytes).map_err(|why| said(&why))?;
     let packed = text::pack_whole(&whole).map_err(|why| said(&why))?;
     let mut warnings: Vec<String> = packed.warnings.iter().map(ToString::to_string).collect();
     match Mesh::of_board(&whole.board) {
@@ -119,12 +127,13 @@ fn unpack(words: &Words) -> Result<Vec<u8>, Stop> {
 }
 
 fn net(words: &Words) -> Result<Vec<u8>, Stop> {
-    let given = Given::read(&words.input())?;
+    let given = Given::read(words, &words.input())?;
     let (mesh, net) = given.mesh()?;
     Ok(printed::show_mesh(&given.board, &mesh, &net).into_bytes())
 }
 
 /// The board that is asked for, with the terminals that are named beside it.
-fn given(words: &Words) -> Result<Given, String> {
-    Given::read(&words.input())?.with_terminals(&words.all(TERMINAL.0))
+fn given(words: &Words) -> Result<Given, Stop> {
+    let given = Given::read(words, &words.input())?;
+    Ok(given.with_terminals(&words.all(TERMINAL.0))?)
 }

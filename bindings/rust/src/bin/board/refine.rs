@@ -1,7 +1,7 @@
 //! A board with its hottest leaves split, round by round.
 
 use crate::{given, TERMINAL};
-use leafmesh::tool::{digits, say, By, Command, Given, Solved, Stop, Switch, Takes, Words};
+use leafmesh::tool::{digits, say, By, Command, Given, Solved, Stop, Switch, Takes, Words, SNAP};
 use leafmesh::{record_length, text, write, Board, Mesh, Reason, SLOTS};
 use std::str::FromStr;
 
@@ -14,7 +14,7 @@ pub const REFINE: Command = Command {
     help: concat!(
         "\
 usage: board refine [FILE] --rounds N [--share S] [--leaves M]
-                    [--terminal WORDS] .. [-o FILE]
+                    [--terminal WORDS] .. [--snap PITCH] [-o FILE]
 
 The board with its hottest leaves split: of a text the text as it stands and
 splits behind it, of a record a record. A round solves on the cells, splits the
@@ -30,7 +30,7 @@ reached by then is written.
 ",
         terminal_help!()
     ),
-    switches: &[ROUNDS, SHARE, LEAVES, TERMINAL],
+    switches: &[ROUNDS, SHARE, LEAVES, TERMINAL, SNAP],
     make: refine,
 };
 

@@ -1,7 +1,7 @@
 //! What flows between a board's terminals, as tables to be read.
 
 use crate::{given, TERMINAL};
-use leafmesh::tool::{digits, By, Command, Given, Solved, Stop, Switch, Takes, Words};
+use leafmesh::tool::{digits, By, Command, Given, Solved, Stop, Switch, Takes, Words, SNAP};
 use leafmesh::{Leaf, Link, Refusal};
 use std::fmt::{self, Write};
 
@@ -12,7 +12,7 @@ pub const SOLVE: Command = Command {
     name: "solve",
     help: concat!(
         "\
-usage: board solve [FILE] [--net] [--terminal WORDS] .. [-o FILE]
+usage: board solve [FILE] [--net] [--terminal WORDS] .. [--snap PITCH] [-o FILE]
 
 What flows between a board's terminals: their volts and amperes, the power in
 all, the hottest leaf, and of each link the current from its first end to its
@@ -23,7 +23,7 @@ second.
 ",
         terminal_help!()
     ),
-    switches: &[NET, TERMINAL],
+    switches: &[NET, TERMINAL, SNAP],
     make: solve,
 };
 
