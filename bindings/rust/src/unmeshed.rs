@@ -109,7 +109,8 @@ impl fmt::Display for TooLong {
     fn fmt(&self, f: &mut fmt::Formatter<'_>) -> fmt::Result {
         write!(
             f,
-            "polygon {}, point {}: {} base cells long; at most {}",
+            "polygon {}, point {}: {} base cells long; at most {}: give its layer a larger cell, take a larger target, or \
+             draw two polygons that touch",
             self.polygon, self.point, self.cells, self.cap
         )
     }
@@ -174,7 +175,7 @@ pub(crate) fn strips_of(ring: &[Point]) -> Vec<Rect> {
 }
 
 /// The first point at an end of a ring's edge that bounds a strip on the west.
-fn west_of(ring: &[Point], [x0, y0, _, y1]: Rect) -> usize {
+pub(crate) fn west_of(ring: &[Point], [x0, y0, _, y1]: Rect) -> usize {
     let next = |at: usize| (at + 1) % ring.len();
     let bounds = |at: usize| {
         let ([ax, ay], [bx, by]) = (ring[at], ring[next(at)]);

@@ -6,8 +6,8 @@ use super::unit::Unit;
 use super::{Lines, Unclear};
 use crate::limits::MEANS_DEFAULT;
 use crate::merging::Overlap;
-use crate::unmeshed::{strips_of, Loose, TooLong, Unmeshed};
-use crate::{Astray, Board, Link, Point, Reason, Refusal, Settings, MAX_LEVEL};
+use crate::unmeshed::{strips_of, west_of, Loose, TooLong, Unmeshed};
+use crate::{Astray, Board, Link, Point, Reason, Rect, Refusal, Settings, MAX_LEVEL};
 use std::fmt;
 
 /// What is wrong, and with which part of a board.
@@ -18,8 +18,15 @@ struct Fault {
 
 /// A part of a board, by its index.
 enum Part {
+    /// The target, or the pitch.
+    Target,
+    /// A layer with a cell of its own, by its index among these.
+    Layer(usize),
     Polygon(usize),
-    Point { polygon: usize, point: usize },
+    Point {
+        polygon: usize,
+        point: usize,
+    },
     Split(usize),
     Link(Link),
 }
@@ -27,6 +34,8 @@ enum Part {
 impl fmt::Display for Part {
     fn fmt(&self, f: &mut fmt::Formatter<'_>) -> fmt::Result {
         match *self {
+            Part::Target => f.write_str("target"),
+            Part::Layer(entry) => write!(f, "layer of entry {entry}"),
             Part::Polygon(polygon) => write!(f, "polygon {polygon}"),
             Part::Point { polygon, point } => write!(f, "polygon {polygon}, point {point}"),
             Part::Split(at) => write!(f, "split {at}"),
@@ -59,6 +68,8 @@ impl Lines {
 
     fn of_part(&self, board: &Board, part: &Part) -> Option<usize> {
         match *part {
+            Part::Target => self.target,
+            Part::Layer(entry) => self.layers.get(entry).copied(),
             Part::Polygon(polygon) => self.polygons.get(polygon).copied(),
             Part::Point { polygon, point } => {
                 let first = first_point(board, polygon);
@@ -93,8 +104,8 @@ impl Fault {
         let unit = Unit(lines.and_then(|lines| lines.pitch));
         match *why {
             Unmeshed::Refused(refusal) => Fault::of_refusal(board, refusal, unit),
-            Unmeshed::TooLong(long) => Fault::of_long_strip(long, unit),
-            Unmeshed::Loose(loose) => Fault::of_loose_node(loose, unit),
+            Unmeshed::TooLong(long) => Fault::of_long_strip(board, long, unit),
+            Unmeshed::Loose(loose) => Fault::of_loose_node(board, loose, unit),
             Unmeshed::Overlap(overlap) => Fault::of_overlap(board, overlap, unit, lines),
             Unmeshed::Idle(idle) => Fault {
                 part: Some(Part::Link(idle.link)),
@@ -150,27 +161,47 @@ impl Fault {
         })
     }
 
-    /// The first strip whose base cells can't be split often enough.
+    /// The first strip whose base cells can't be split often enough: by the cell, where that is no multiple of what it has
+    /// to be, and otherwise by the length.
     fn of_uneven_cell(board: &Board, polygon: usize, unit: Unit) -> Option<Self> {
         let cut = Cut::of(board, polygon)?;
-        let strips = strips_of(ring(board, polygon)?).into_iter();
-        let mut sizes = strips.map(|[x0, y0, x1, y1]| [x1 - x0, y1 - y0]);
-        let size = sizes.find(|size| !size.iter().all(|&long| cut.is_even(long)))?;
-        let [nx, ny] = size.map(|long| cut.cells(long));
-        let step = match unit.0 {
-            Some(_) => format!("{}, {} ticks", unit.show(cut.step as i64), cut.step),
-            None => format!("{} ticks", cut.step),
+        let ring = ring(board, polygon)?;
+        let sides = |&[x0, y0, x1, y1]: &Rect| [x1 - x0, y1 - y0];
+        let mut strips = strips_of(ring).into_iter();
+        let strip = strips.find(|strip| !sides(strip).iter().all(|&long| cut.is_even(long)))?;
+        let size = sides(&strip);
+        let (step, level) = (unit.show_step(cut.step), level_in_words(board));
+        let cell = cut.in_words(unit);
+        if cut.cell % cut.step != 0 {
+            let nearest = unit.show(nearest(cut.cell as i64, cut.step as i64));
+            return Some(Fault {
+                part: Some(cut.part(polygon)),
+                words: format!(
+                    "{cell} is no multiple of {step} ({level}): the nearest is {nearest}"
+                ),
+            });
+        }
+        let (long, way) = size
+            .into_iter()
+            .zip(["wide", "high"])
+            .find(|&(long, _)| !cut.is_even(long))?;
+        let of = match long as u64 > cut.cell {
+            true => cut.cell,
+            false => cut.step,
         };
-        let (strip, level) = (unit.show_size(size), board.settings().max_level);
-        let whose = match board.max_level {
-            MEANS_DEFAULT => ", the default",
-            _ => "",
+        let what = match long as u64 > cut.cell {
+            true => cell,
+            false => format!("{step} ({level}):"),
         };
+        let nearest = unit.show(nearest(long, of as i64));
+        let (size, long) = (unit.show_size(size), unit.show(long));
         Some(Fault {
-            part: Some(Part::Polygon(polygon)),
+            part: Some(Part::Point {
+                polygon,
+                point: west_of(ring, strip),
+            }),
             words: format!(
-                "a strip of {strip} has {nx} by {ny} base cells, whose sides must be multiples of {step} (level \
-                 {level}{whose})"
+                "a strip of {size} is {long} {way}, no multiple of {what} the nearest is {nearest}"
             ),
         })
     }
@@ -186,16 +217,31 @@ impl Fault {
         Some(Fault { part, words })
     }
 
-    fn of_long_strip(long: TooLong, unit: Unit) -> Self {
+    /// With the three ways out.
+    fn of_long_strip(board: &Board, long: TooLong, unit: Unit) -> Self {
         let own = unit.0.filter(|pitch| pitch.target() == long.cell);
         let name = own.map_or("base cells", |_| "pitches");
         let (cells, cap) = (long.cells, long.cap);
+        let layer = board
+            .polygons
+            .get(long.polygon)
+            .map_or(0, |polygon| polygon[0]);
+        let larger = (long.cell * cells.div_ceil(cap)) as i64;
+        let target = match (unit.0, own) {
+            (Some(_), Some(_)) => format!("a larger pitch ({})", unit.show(larger)),
+            (Some(_), None) => "a larger pitch".to_string(),
+            (None, _) => format!("a larger target ({})", unit.show(larger)),
+        };
         Fault {
             part: Some(Part::Point {
                 polygon: long.polygon,
                 point: long.point,
             }),
-            words: format!("{cells} {name} long; at most {cap} base cells"),
+            words: format!(
+                "{cells} {name} long; at most {cap} base cells: give layer {layer} a larger cell (layer {layer} {}), take \
+                 {target}, or draw two polygons that touch",
+                unit.words(&[larger])
+            ),
         }
     }
 
@@ -219,14 +265,17 @@ impl Fault {
         }
     }
 
-    fn of_loose_node(loose: Loose, unit: Unit) -> Self {
+    fn of_loose_node(board: &Board, loose: Loose, unit: Unit) -> Self {
         let [from, to] = loose.side.map(|end| unit.show_point(end));
+        let misfit = Cut::of(board, loose.polygon).zip(ring(board, loose.polygon));
+        let misfit = misfit.and_then(|(cut, ring)| cut.misfit(ring, unit));
         Fault {
             part: Some(Part::Polygon(loose.polygon)),
             words: format!(
                 "a node at {} stands inside a leaf's side, from {from} to {to}, and isn't joined along it: make all \
-                 coordinates multiples of the base cell, and draw copper once",
-                unit.show_point(loose.place)
+                 coordinates multiples of the base cell, and draw copper once{}",
+                unit.show_point(loose.place),
+                misfit.unwrap_or_default()
             ),
         }
     }
@@ -234,6 +283,9 @@ impl Fault {
 
 /// How a polygon is cut into base cells.
 struct Cut {
+    layer: u64,
+    /// Where the layer stands among those with a cell of their own.
+    entry: Option<usize>,
     /// The size wanted of a cell.
     cell: u64,
     /// The most cells of a strip each way.
@@ -251,8 +303,11 @@ impl Cut {
         } = board.settings();
         let layer = board.polygons.get(polygon)?[0];
         let is_own = |entry: &&[u64; 2]| entry[0] == layer && entry[1] > 0;
-        let own = board.layers.iter().find(is_own);
+        let entry = board.layers.iter().position(|entry| is_own(&entry));
+        let own = entry.map(|entry| board.layers[entry]);
         Some(Cut {
+            layer,
+            entry,
             cell: own.map_or(target, |entry| entry[1]).max(1),
             cap: cap.max(1),
             step: 2 << max_level.min(MAX_LEVEL),
@@ -266,6 +321,66 @@ impl Cut {
     fn is_even(&self, long: i64) -> bool {
         long as u64 % (self.cells(long) * self.step) == 0
     }
+
+    /// What says how large a cell is; of a text without a target the polygon.
+    fn part(&self, polygon: usize) -> Part {
+        match self.entry {
+            Some(entry) => Part::Layer(entry),
+            None if self.cell == 1 => Part::Polygon(polygon),
+            None => Part::Target,
+        }
+    }
+
+    fn in_words(&self, unit: Unit) -> String {
+        let cell = unit.show(self.cell as i64);
+        match (self.entry, unit.0) {
+            (Some(_), _) => format!("the cell of layer {}, {cell},", self.layer),
+            (None, Some(_)) => format!("the pitch, {cell},"),
+            (None, None) if self.cell == 1 => {
+                "the target, 1 tick where no line says it,".to_string()
+            }
+            (None, None) => format!("the target, {cell},"),
+        }
+    }
+
+    /// The first side of a ring that is longer than a cell and no multiple of it, with the nearest length that is.
+    fn misfit(&self, ring: &[Point], unit: Unit) -> Option<String> {
+        let cell = self.cell as i64;
+        let next = ring.iter().cycle().skip(1);
+        let mut sides = ring.iter().zip(next);
+        let long = |[ax, ay]: &Point, [bx, by]: &Point| (ax - bx).abs() + (ay - by).abs();
+        let (from, to) =
+            sides.find(|(from, to)| long(from, to) > cell && long(from, to) % cell != 0)?;
+        let own = long(from, to);
+        Some(format!(
+            "; its side from {} to {} is {} long, no multiple of {} the nearest is {}",
+            unit.show_point(*from),
+            unit.show_point(*to),
+            unit.show(own),
+            self.in_words(unit),
+            unit.show(nearest(own, cell))
+        ))
+    }
+}
+
+/// The nearest multiple of a length, itself at least.
+fn nearest(long: i64, of: i64) -> i64 {
+    let below = long / of;
+    let whole = if 2 * (long % of) >= of {
+        below + 1
+    } else {
+        below
+    };
+    whole.max(1) * of
+}
+
+/// "level 3", or that it is the default.
+fn level_in_words(board: &Board) -> String {
+    let whose = match board.max_level {
+        MEANS_DEFAULT => ", the default",
+        _ => "",
+    };
+    format!("level {}{whose}", board.settings().max_level)
 }
 
 fn ring(board: &Board, polygon: usize) -> Option<&[Point]> {

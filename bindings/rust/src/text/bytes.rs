@@ -1,5 +1,6 @@
 //! What stands in a file: a board's text, or its record.
 
+use super::fields::why_refused;
 use super::{parse_whole, Unclear, Whole};
 use crate::limits::MEANS_DEFAULT;
 use crate::{read, Board};
@@ -55,7 +56,7 @@ pub fn text_of(bytes: &[u8]) -> Result<&str, Unclear> {
 /// A text; another version; what [`read`] refuses.
 pub fn read_record(bytes: &[u8]) -> Result<Board, Unclear> {
     judge_version(bytes)
-        .and_then(|()| read(bytes).map_err(|why| why.to_string()))
+        .and_then(|()| read(bytes).map_err(|why| why_refused(bytes, why)))
         .map(|board| match bytes.get(LEVEL).copied().map(u64::from) {
             Some(MEANS_DEFAULT) => Board {
                 max_level: MEANS_DEFAULT,

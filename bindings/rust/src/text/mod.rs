@@ -75,6 +75,8 @@
 
 mod blaming;
 mod bytes;
+mod drive;
+mod fields;
 mod form;
 mod judging;
 mod linking;

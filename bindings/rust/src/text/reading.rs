@@ -59,7 +59,7 @@ impl Reading {
             ["contact", ..] | ["via", ..] | ["channels", ..] | ["channel", ..] => {
                 self.take_link(line, words)
             }
-            [x, y] if is_number(x) => self.take_point(line, x, y),
+            [x, y] if is_number(x) && !x.ends_with([',', ';']) => self.take_point(line, x, y),
             _ => Err(senseless(words)),
         }
     }

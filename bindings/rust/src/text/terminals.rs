@@ -1,9 +1,9 @@
 //! The line of a terminal.
 
+use super::drive::{self, drive_of};
 use super::form::senseless;
 use super::linking::polygon;
-use super::unit::{component, cut, finite, layer, Unit};
-use crate::limits::{CURRENT, POTENTIAL};
+use super::unit::{component, layer, Unit};
 use crate::solving::{Drive, Spot, Terminal};
 use crate::{Rect, Side};
 use std::fmt::{self, Write};
@@ -26,27 +26,12 @@ fn side_of(word: &str) -> Option<Side> {
 pub(super) fn terminal_of(words: &[&str], unit: Unit) -> Result<Terminal, String> {
     let no_sense = || senseless(&[&["terminal"], words].concat());
     let [name, value, kind, spot @ ..] = words else {
-        return Err(no_sense());
+        let stuck = words.get(1).and_then(|value| drive::way_out(value, ""));
+        return Err(stuck.unwrap_or_else(no_sense));
     };
-    let (drive, name_of, most) = match *kind {
-        "V" => (
-            Drive::Volts(finite("potential", value)?),
-            "potential",
-            POTENTIAL,
-        ),
-        "A" => (
-            Drive::Amperes(finite("current", value)?),
-            "current",
-            CURRENT,
-        ),
-        _ => return Err(no_sense()),
+    let Some(drive) = drive_of(value, kind)? else {
+        return Err(drive::way_out(value, kind).unwrap_or_else(no_sense));
     };
-    if !drive.is_in_range() {
-        let value = cut(value);
-        return Err(format!(
-            "{name_of} {value} is out of range: -{most} to {most}"
-        ));
-    }
     Ok(Terminal {
         name: name.to_string(),
         spot: spot_of(spot, unit)?.ok_or_else(no_sense)?,

@@ -74,6 +74,14 @@ impl Unit {
         }
     }
 
+    /// What a base cell's side is a multiple of: in ticks, also where the text is in millimetres.
+    pub fn show_step(self, step: u64) -> String {
+        match self.0 {
+            Some(_) => format!("{}, {step} ticks", self.show(step as i64)),
+            None => format!("{step} ticks"),
+        }
+    }
+
     /// How far apart two places are, with six figures and the unit.
     pub fn show_distance(self, ticks: f64) -> String {
         match self.0 {

@@ -6,6 +6,7 @@ pub mod closed;
 mod digits;
 mod end;
 mod given;
+mod ground;
 mod solved;
 mod terminals;
 mod words;

@@ -39,6 +39,7 @@ impl Given {
     pub fn solved(&self, by: By, asker: &str) -> Result<Solved, String> {
         let (mesh, net) = self.mesh()?;
         let judged = self.terminals.judge(asker);
+        let judged = judged.and_then(|()| self.terminals.judge_ground(&self.board));
         judged.map_err(|why| self.said(&why))?;
         self.solved_net(mesh, net, by)
     }

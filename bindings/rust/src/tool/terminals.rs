@@ -1,8 +1,10 @@
 //! The terminals that a tool is given: those of a board's text, and those that are named beside it.
 
+use super::ground::missing_copper;
 use crate::solving::{Terminal, Unsolved};
-use crate::{text, Pitch};
+use crate::{text, Board, Pitch};
 use std::borrow::Cow;
+use std::fmt;
 
 /// Terminals in their order, and where each was named.
 #[derive(Clone, Debug, Default)]
@@ -62,13 +64,30 @@ impl Terminals {
         ))
     }
 
+    /// The first that is on copper which isn't there, behind its line.
+    ///
+    /// # Errors
+    ///
+    /// In words: what is missing, and where copper lies.
+    pub fn judge_ground(&self, board: &Board) -> Result<(), String> {
+        let missing = |(at, one)| missing_copper(board, one).map(|why| self.behind_line(at, &why));
+        self.all
+            .iter()
+            .enumerate()
+            .find_map(missing)
+            .map_or(Ok(()), Err)
+    }
+
+    fn behind_line(&self, at: usize, why: &dyn fmt::Display) -> String {
+        match self.lines[at] {
+            Some(line) => format!("line {line}: {why}"),
+            None => format!("--terminal: {why}"),
+        }
+    }
+
     /// Why they bring about nothing, behind the line of the one to blame, or the switch that named it.
     pub fn blame(&self, why: &Unsolved) -> String {
         let place = why.terminal().and_then(|name| self.place_of(name));
-        match place.map(|at| self.lines[at]) {
-            Some(Some(line)) => format!("line {line}: {why}"),
-            Some(None) => format!("--terminal: {why}"),
-            None => why.to_string(),
-        }
+        place.map_or_else(|| why.to_string(), |at| self.behind_line(at, why))
     }
 }
