@@ -4,9 +4,10 @@
 use crate::columns::{FIRST_CHILD, PARENT, X0, X1, Y0, Y1};
 use crate::refusal::{judged, judged_check, judged_net};
 use crate::{
-    borders, ffi, limits, Cell, CellName, Counts, Edge, Hanging, Head, LeafBorder, Links, Net,
-    NetRoom, NetRows, Node, Outlines, Quadrant, Reason, Rect, Refusal, NO_CELL, SLOT,
+    borders, ffi, limits, Cell, CellName, Counts, Edge, Hanging, Head, Joint, LeafBorder, Link,
+    Links, Net, NetRoom, NetRows, Node, Outlines, Quadrant, Reason, Rect, Refusal, NO_CELL, SLOT,
 };
+use std::iter::repeat;
 
 /// A row and the head of the table in it.
 #[derive(Clone, Copy)]
@@ -159,7 +160,7 @@ impl<'a> Lent<'a> {
             nodes: vec![Node::default(); limits::NODES_A_LEAF * leaves],
             edges: edges_lent(edge_rows)?,
             cells: vec![Cell::default(); limits::CELLS_A_LEAF * leaves],
-            links: 0,
+            ..Net::default()
         };
         let room = NetRoom {
             nodes: &mut net.nodes,
@@ -172,7 +173,29 @@ impl<'a> Lent<'a> {
         net.edges.truncate(counts.edges);
         net.cells.truncate(counts.cells);
         net.links = counts.links;
+        net.joints = self.joints(outlines, links)?;
         Ok(net)
+    }
+
+    /// How many edges each link makes, in the order of [`Links::each`].
+    pub fn edges_of_links(self, outlines: Outlines, links: Links) -> Result<Vec<usize>, Refusal> {
+        if links.is_empty() {
+            return Ok(Vec::new());
+        }
+        let own = self.edge_rows(outlines, Links::default())?;
+        let count = |(_, one)| Ok(self.edge_rows(outlines, one)? - own);
+        links.each().map(count).collect()
+    }
+
+    /// Of each edge of the links what it is by its link.
+    fn joints(self, outlines: Outlines, links: Links) -> Result<Vec<Joint>, Refusal> {
+        let counts = self.edges_of_links(outlines, links)?;
+        let joints = |((link, _), edges): ((Link, Links), usize)| {
+            let all = link.siemens(links).expect("a link of these");
+            let siemens = all / edges as f64;
+            repeat(Joint { link, siemens }).take(edges)
+        };
+        Ok(links.each().zip(counts).flat_map(joints).collect())
     }
 
     pub fn network_with(

@@ -156,7 +156,7 @@ pub use leaf::{Leaf, Region};
 pub use links::{Channel, ChannelEnd, Contact, Footprint, Link, Links, OwnedLinks, Via};
 pub use mesh::Mesh;
 pub use name::{CellName, NoName, Quadrant};
-pub use net::{Cell, Counts, Edge, Net, NetRoom, NetRows, Node};
+pub use net::{Cell, Counts, Edge, Joint, Net, NetRoom, NetRows, Node};
 pub use pitch::{Misfit, Pitch, Why};
 pub use polygons::Polygons;
 use refusal::{judged, judged_border, judged_read};

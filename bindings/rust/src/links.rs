@@ -161,6 +161,18 @@ impl<'a> Links<'a> {
     }
 }
 
+impl Link {
+    /// What all edges of this link conduct together, if it makes any: one over the resistance that it was given, and 1
+    /// of a contact. None where it isn't among these links.
+    pub fn siemens(self, links: Links) -> Option<f64> {
+        match self {
+            Link::Contact(at) => links.contacts.get(at).map(|_| 1.0),
+            Link::Via(at) => links.vias.get(at).map(|via| 1.0 / via.resistance),
+            Link::Channel(at) => links.channels.get(at).map(|one| 1.0 / one.resistance),
+        }
+    }
+}
+
 impl Footprint {
     /// Where it reaches, in ticks.
     pub fn rect(&self) -> Rect {

@@ -414,10 +414,7 @@ impl Mesh {
     ///
     /// Those of [`Table::edge_rows`].
     pub fn edges_of_links(&self, links: Links) -> Result<Vec<usize>, Refusal> {
-        let rows = |links| self.lent().edge_rows(self.polygons.outlines(), links);
-        let own = rows(Links::default())?;
-        let count = |(_, one)| Ok(rows(one)? - own);
-        links.each().map(count).collect()
+        self.lent().edges_of_links(self.polygons.outlines(), links)
     }
 
     /// The first node between the ends of a leaf's side that lacks an edge to the point before or after it, among nodes

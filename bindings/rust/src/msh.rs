@@ -218,7 +218,8 @@ fn put_leaves(leaves: &[Leaf], net: &Net, text: &mut String) -> fmt::Result {
         return Ok(());
     }
     let own = leaves.iter().map(|_| [0.0]);
-    let links = net.links().iter().map(|link| [link.conductance]);
+    let links = net.links_as_given();
+    let links = links.iter().map(|link| [link.conductance]);
     put_data("Element", "siemens", all, own.chain(links), text)
 }
 

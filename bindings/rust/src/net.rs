@@ -1,6 +1,6 @@
 //! The rows of a net, as the library has them in memory.
 
-use crate::{limits, power, Refusal};
+use crate::{limits, power, Link, Refusal};
 use std::mem::size_of;
 
 /// A node: layer, component, and where it stands, in ticks.
@@ -45,6 +45,16 @@ pub struct Cell {
 const _: () =
     assert!(size_of::<Node>() == 24 && size_of::<Edge>() == 24 && size_of::<Cell>() == 40);
 
+/// What a link's edge is by the link as it was given, wherever it lies: the net's own conductance of an edge along a
+/// cell's side is a weight (docs/RULES.md, "Weights").
+#[derive(Clone, Copy, Debug, PartialEq)]
+pub struct Joint {
+    /// The link that makes the edge.
+    pub link: Link,
+    /// One over the link's resistance, of a via its share of that, and 1 of a contact.
+    pub siemens: f64,
+}
+
 /// A net with rows of its own. Its last edges are links.
 #[derive(Clone, Debug, Default, PartialEq)]
 pub struct Net {
@@ -56,6 +66,9 @@ pub struct Net {
     pub cells: Vec<Cell>,
     /// How many of the edges are links.
     pub links: usize,
+    /// Of each edge that is a link, in their order. A net of other hands may have none: then nobody knows what its
+    /// links conduct, and [`System::of_cells`](crate::solving::System::of_cells) refuses it.
+    pub joints: Vec<Joint>,
 }
 
 impl Net {
@@ -71,6 +84,16 @@ impl Net {
     /// The edges that contacts, vias and channels make, in this order.
     pub fn links(&self) -> &[Edge] {
         &self.edges[self.edges.len().saturating_sub(self.links)..]
+    }
+
+    /// The same edges, each with what it conducts as its link was given, where the net says so.
+    pub(crate) fn links_as_given(&self) -> Vec<Edge> {
+        let mut links = self.links().to_vec();
+        if self.joints.len() == links.len() {
+            let each = links.iter_mut().zip(&self.joints);
+            each.for_each(|(edge, joint)| edge.conductance = joint.siemens);
+        }
+        links
     }
 }
 

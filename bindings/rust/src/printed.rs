@@ -79,6 +79,7 @@ impl Printed {
             edges: self.edges.clone(),
             cells: corners.map(|corners| Cell { corners, sheet }).collect(),
             links: self.links,
+            ..Net::default()
         })
     }
 

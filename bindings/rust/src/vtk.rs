@@ -19,14 +19,14 @@ pub fn of_mesh(mesh: &Mesh, net: NetRows, fields: &[Field]) -> Result<String, Re
     of_rows(mesh, net, &[], fields)
 }
 
-/// The same with the net's links as lines behind the leaves, and their conductances as the field siemens. Where links
+/// The same with the net's links as lines behind the leaves, and what they conduct as the field siemens. Where links
 /// have no value, as no level, they have -1; of the caller's own fields they have 0.
 ///
 /// # Errors
 ///
 /// Those of [`of_mesh`].
 pub fn of_linked_mesh(mesh: &Mesh, net: &Net, fields: &[Field]) -> Result<String, Refusal> {
-    of_rows(mesh, net.rows(), net.links(), fields)
+    of_rows(mesh, net.rows(), &net.links_as_given(), fields)
 }
 
 fn of_rows(mesh: &Mesh, net: NetRows, links: &[Edge], fields: &[Field]) -> Result<String, Refusal> {

@@ -215,7 +215,7 @@ fn a_net_in_lent_rows_is_the_same() {
                 nodes,
                 edges,
                 cells,
-                links: 0,
+                ..Net::default()
             },
             work,
         )

@@ -509,7 +509,11 @@ fn a_vtk_file_has_links_as_lines() {
         format!("POINT_DATA {}", net.nodes.len())
     );
     // Without links the file is the one of the leaves alone.
-    let bare = Net { links: 0, ..net };
+    let bare = Net {
+        links: 0,
+        joints: Vec::new(),
+        ..net
+    };
     let alone = vtk::of_mesh(&mesh, bare.rows(), &own).expect("a file");
     assert_eq!(vtk::of_linked_mesh(&mesh, &bare, &own), Ok(alone));
 }

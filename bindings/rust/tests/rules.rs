@@ -268,7 +268,7 @@ fn links_of(links: Links) -> Vec<([usize; 2], f64)> {
         nodes: vec![Node::default(); 8],
         edges: vec![Edge::default(); rows],
         cells: vec![Cell::default(); 2],
-        links: 0,
+        ..Net::default()
     };
     let (mut short, mut work) = (net.edges[1..].to_vec(), vec![7; 128]);
     let mut call = |edges: &mut [Edge], work: &mut [u64]| {

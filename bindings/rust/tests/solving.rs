@@ -2,7 +2,7 @@
 
 use leafmesh::sides::{self, Inside};
 use leafmesh::solving::{Drive, Held, Solution, Spot, System, Terminal, Unsolved};
-use leafmesh::{columns, text, Edge, Leaf, Mesh, Net, Reason, Region, Side};
+use leafmesh::{columns, text, Edge, Joint, Leaf, Link, Mesh, Net, Reason, Region, Side};
 
 fn meshed(board: &str) -> (Mesh, Net) {
     let board = text::parse(board).expect("a board");
@@ -475,11 +475,21 @@ fn nets_that_are_not_sound_are_refused() {
     net.edges[3].conductance = -1.0;
     let why = System::of_net(net.rows()).expect_err("a conductance below 0");
     assert_eq!(why, Unsolved::BadConductance { edge: 3 });
-    // Cells take no edge that isn't a link; more links than edges are all of them.
+    // Cells take no edge that isn't a link, and of a link what it was given.
     assert!(System::of_cells(&net).is_ok());
-    net.links = 99;
-    let why = System::of_cells(&net).expect_err("a conductance below 0");
-    assert_eq!(why, Unsolved::BadConductance { edge: 3 });
+    for links in [1, 99] {
+        net.links = links;
+        let why = System::of_cells(&net).expect_err("links of no resistance");
+        assert_eq!(why, Unsolved::NoJoints { links, joints: 0 });
+    }
+    let last = net.edges.len() - 1;
+    let link = Link::Contact(0);
+    for siemens in [-1.0, f64::NAN, f64::INFINITY] {
+        net.links = 1;
+        net.joints = vec![Joint { link, siemens }];
+        let why = System::of_cells(&net).expect_err("no conductance");
+        assert_eq!(why, Unsolved::BadConductance { edge: last });
+    }
 }
 
 #[test]

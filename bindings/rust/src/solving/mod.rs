@@ -169,18 +169,24 @@ impl System {
         System::of_parts(parts, Vec::new(), net.edges, 0)
     }
 
-    /// The cells as bilinear elements, hanging nodes tied, and the links by their conductances. Of edges that aren't
-    /// links nothing is read.
+    /// The cells as bilinear elements, hanging nodes tied, and the links by what they conduct as they were given
+    /// ([`Net::joints`]). Of edges that aren't links nothing is read.
     ///
     /// # Errors
     ///
-    /// Those of [`System::of_net`]; [`Unsolved::NoFit`] where a node stands inside a cell's side and not at its middle:
+    /// Those of [`System::of_net`]; [`Unsolved::NoJoints`] where the net doesn't say what its links conduct;
+    /// [`Unsolved::NoFit`] where a node stands inside a cell's side and not at its middle:
     /// the table that the net was made of isn't balanced, or its coordinates are no multiples of the base cell.
     pub fn of_cells(net: &Net) -> Result<Self, Unsolved> {
         let parts = parts_of(net.rows())?;
         let elements = net.cells.iter().map(|cell| Element::of(cell, &net.nodes));
-        let first = net.edges.len().saturating_sub(net.links);
-        System::of_parts(parts, elements.collect(), &net.edges[first..], first)
+        let (links, joints) = (net.links, net.joints.len());
+        if joints != links || links > net.edges.len() {
+            return Err(Unsolved::NoJoints { links, joints });
+        }
+        let links = net.links_as_given();
+        let first = net.edges.len() - links.len();
+        System::of_parts(parts, elements.collect(), &links, first)
     }
 
     /// `first` is the place of the first of the edges, in the net.

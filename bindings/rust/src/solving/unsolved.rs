@@ -20,6 +20,13 @@ pub enum Unsolved {
         /// The first such node.
         node: usize,
     },
+    /// A net that doesn't say of each of its links what it conducts as it was given.
+    NoJoints {
+        /// How many of its edges are links.
+        links: usize,
+        /// Of how many it says so.
+        joints: usize,
+    },
     /// There is no terminal.
     NoTerminal,
     /// What a terminal is held at is no number, or a potential that is out of range.
@@ -95,6 +102,10 @@ impl fmt::Display for Unsolved {
                 f,
                 "node {node} stands inside a cell's side, not at its middle: balance the table, make all coordinates \
                  multiples of the base cell, and no strip longer than cap of them"
+            ),
+            Unsolved::NoJoints { links, joints } => write!(
+                f,
+                "the net has {links} links and says of {joints} what they conduct: make it by a mesh or a table"
             ),
             Unsolved::NoTerminal => write!(f, "there is no terminal"),
             Unsolved::OutOfRange { terminal } => {
