@@ -85,7 +85,7 @@ fn run() -> Result<(), Box<dyn Error>> {
     }
     writeln!(out, "{:.4} W in all", solution.watts())?;
     if let Some((leaf, flow)) = solution.hottest(&mesh) {
-        let (watts, amperes) = (flow.watts, leaf.sheet_current(flow.watts) / 1e3);
+        let (watts, amperes) = (flow.watts, flow.sheet_current / 1e3);
         let [x, y] = [leaf.rect[0], leaf.rect[1]].map(|at| pitch.millimetres(at));
         writeln!(
             out,

@@ -1,7 +1,8 @@
 //! The leaves of a mesh as a table of values that commas part (RFC 4180): a heading, then a line a leaf.
 
+use crate::grid::leaves_of;
 use crate::solving::Flow;
-use crate::{Leaf, Mesh, Pitch, Reason, Refusal};
+use crate::{Leaf, Mesh, NetRows, Pitch, Reason, Refusal};
 
 /// Of every leaf.
 const COLUMNS: [&str; 6] = ["id", "name", "polygon", "layer", "component", "level"];
@@ -14,14 +15,15 @@ const FLOWS: [&str; 5] = [
     "jy_A_per_mm",
 ];
 
-/// The leaves in the order of the net's cells. Sides are in millimetres where there is a pitch, otherwise in ticks.
+/// The leaves in the order of the net's cells, with the cells' sheet resistances. Sides are in millimetres where there is a pitch, otherwise in ticks.
 /// `flows` has one entry a leaf, or none at all: then nothing is said of power and current.
 ///
 /// ```
 /// use leafmesh::{csv, text, Mesh, Pitch};
 ///
 /// let board = text::parse("level 1\npitch 0.5\npolygon 1 7 0.0005\n0 0\n0.5 0\n0.5 0.5\n0 0.5\nsplit 0\n")?;
-/// let table = csv::of_mesh(&Mesh::of_board(&board)?, Some(Pitch::new(0.5, 1)?), &[])?;
+/// let mesh = Mesh::of_board(&board)?;
+/// let table = csv::of_mesh(&mesh, mesh.net()?.rows(), Some(Pitch::new(0.5, 1)?), &[])?;
 /// let mut lines = table.split("\r\n");
 /// assert_eq!(
 ///     lines.next(),
@@ -33,9 +35,14 @@ const FLOWS: [&str; 5] = [
 ///
 /// # Errors
 ///
-/// [`Reason::BadTable`] where there are flows of another mesh.
-pub fn of_mesh(mesh: &Mesh, pitch: Option<Pitch>, flows: &[Flow]) -> Result<String, Refusal> {
-    let leaves: Vec<Leaf> = mesh.leaves().collect();
+/// Those of [`NetRows::judge`]; [`Reason::BadTable`] where there are a net or flows of another mesh.
+pub fn of_mesh(
+    mesh: &Mesh,
+    net: NetRows,
+    pitch: Option<Pitch>,
+    flows: &[Flow],
+) -> Result<String, Refusal> {
+    let leaves = leaves_of(mesh, net)?;
     if !flows.is_empty() && flows.len() != leaves.len() {
         let reason = Reason::BadTable;
         return Err(Refusal { reason, place: 0 });
@@ -87,7 +94,7 @@ fn flow_values(leaf: &Leaf, flow: &Flow) -> [String; 5] {
     [
         flow.watts,
         flow.watts / leaf.area() * 1e-6,
-        leaf.sheet_current(flow.watts) * 1e-3,
+        flow.sheet_current * 1e-3,
         x * 1e-3,
         y * 1e-3,
     ]

@@ -1,6 +1,6 @@
 //! Values that go with a mesh into its files.
 
-use crate::solving::Solution;
+use crate::solving::{Flow, Solution};
 use crate::{Leaf, Mesh};
 
 /// Values of the cells, or of the nodes: so many as there are of one or the other.
@@ -57,15 +57,12 @@ impl Flows {
         let cells = || mesh.leaves().zip(&solution.cells);
         let watts = solution.cells.iter().map(|cell| cell.watts);
         let zeros = solution.cells.iter().map(|_| 0.0);
-        let of_cells = |value: fn(&Leaf, f64) -> f64| {
-            cells()
-                .map(|(leaf, cell)| value(&leaf, cell.watts))
-                .collect()
-        };
+        let density = |(leaf, cell): (Leaf, &Flow)| cell.watts / leaf.area() * 1e-6;
+        let currents = solution.cells.iter().map(|cell| cell.sheet_current * 1e-3);
         Flows {
             watts: watts.chain(solution.edge_watts.iter().copied()).collect(),
-            densities: of_cells(|leaf, watts| watts / leaf.area() * 1e-6),
-            sheet_currents: of_cells(|leaf, watts| leaf.sheet_current(watts) * 1e-3),
+            densities: cells().map(density).collect(),
+            sheet_currents: currents.collect(),
             currents: cells()
                 .map(|(_, cell)| cell.current.map(|a| a * 1e-3))
                 .collect(),

@@ -28,18 +28,20 @@ pub fn with_links<T: Copy + Default>(
     fits.then(|| all.iter().copied().chain(zeros))
 }
 
-/// The leaves of a mesh that a net is of.
+/// The leaves of a mesh that a net is of, each with the sheet resistance of its cell.
 ///
 /// # Errors
 ///
 /// Those of [`NetRows::judge`]; [`Reason::BadTable`] of another mesh's net.
 pub fn leaves_of(mesh: &Mesh, net: NetRows) -> Result<Vec<Leaf>, Refusal> {
     net.judge()?;
-    let leaves: Vec<Leaf> = mesh.leaves().collect();
+    let mut leaves: Vec<Leaf> = mesh.leaves().collect();
     if leaves.len() != net.cells.len() {
         let reason = Reason::BadTable;
         return Err(Refusal { reason, place: 0 });
     }
+    let cells = leaves.iter_mut().zip(net.cells);
+    cells.for_each(|(leaf, cell)| leaf.sheet = cell.sheet);
     Ok(leaves)
 }
 

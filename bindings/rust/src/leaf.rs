@@ -17,7 +17,7 @@ pub struct Leaf {
     pub level: u64,
     /// In ticks.
     pub rect: Rect,
-    /// In ohms a square.
+    /// That of its polygon, in ohms a square.
     pub sheet: f64,
 }
 
@@ -35,10 +35,11 @@ impl Leaf {
         (x0..=x1).contains(&x) && (y0..=y1).contains(&y)
     }
 
-    /// The sheet current that this power stands for, in amperes a metre: the square root of the mean of its square over
-    /// the leaf.
-    pub fn sheet_current(&self, watts: f64) -> f64 {
-        (watts / (self.area() * self.sheet)).sqrt()
+    /// The sheet current that this power stands for in copper of this sheet resistance, in amperes a metre: the square
+    /// root of the mean of its square over the leaf. A net's cell has its own sheet resistance, which may be another one
+    /// than that of the leaf's polygon; [`Flow`](crate::solving::Flow) has the current of an element by its own.
+    pub fn sheet_current(&self, watts: f64, sheet: f64) -> f64 {
+        (watts / (self.area() * sheet)).sqrt()
     }
 }
 

@@ -70,7 +70,7 @@
 //! assert!((solution.watts() / (into.volts * into.amperes) - 1.0).abs() < 1e-9);
 //! let (hottest, flow) = solution.hottest(&mesh).expect("leaves");
 //! let [west, east] = [hottest.rect[0], hottest.rect[2]].map(|x| pitch.millimetres(x));
-//! assert!(3.0 <= west && east <= 4.0 && hottest.sheet_current(flow.watts) > 20e3);
+//! assert!(3.0 <= west && east <= 4.0 && flow.sheet_current > 20e3);
 //!
 //! // Picture: power density, with what the terminals apply.
 //! let picture = Picture::of_mesh("A neck between two pads", &mesh, net.rows())?
@@ -141,6 +141,7 @@ mod pitch;
 mod polygons;
 pub mod printed;
 mod refusal;
+mod sheets;
 pub mod sides;
 pub mod solving;
 mod table;
@@ -161,6 +162,7 @@ pub use pitch::{Misfit, Pitch, Why};
 pub use polygons::Polygons;
 use refusal::{judged, judged_border, judged_read};
 pub use refusal::{Reason, Refusal};
+pub use sheets::{SheetRegion, Sheets, Temperature};
 pub use table::Table;
 pub use unmeshed::{Idle, Loose, TooLong, Unmeshed};
 

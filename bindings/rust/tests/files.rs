@@ -467,7 +467,13 @@ fn files_of_another_mesh_are_refused() {
     let why = msh::of_mesh(&across.mesh, &drive.net, &[]).unwrap_err();
     assert_eq!(why.reason, Reason::BadTable);
     let pitch = Pitch::new(0.2, 4).ok();
-    let why = csv::of_mesh(&across.mesh, pitch, &drive.solution.cells).unwrap_err();
+    let why = csv::of_mesh(
+        &across.mesh,
+        across.net.rows(),
+        pitch,
+        &drive.solution.cells,
+    )
+    .unwrap_err();
     assert_eq!(why.reason, Reason::BadTable);
     let fields = flows.fields();
     let file = vtk::of_linked_mesh(&across.mesh, &across.net, &fields).expect("a file");

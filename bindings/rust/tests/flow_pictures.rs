@@ -56,7 +56,10 @@ impl Solved {
     /// W/mm2 and A/mm of each leaf.
     fn values(&self) -> Vec<(Leaf, [f64; 2])> {
         let value = |(leaf, watts): (Leaf, f64)| {
-            let both = [watts / (leaf.area() * 1e6), leaf.sheet_current(watts) / 1e3];
+            let both = [
+                watts / (leaf.area() * 1e6),
+                leaf.sheet_current(watts, leaf.sheet) / 1e3,
+            ];
             (leaf, both)
         };
         let watts = self.solution.cells.iter().map(|cell| cell.watts);
@@ -655,6 +658,7 @@ fn time_of(mesh: &Mesh) -> Duration {
     let flow = Flow {
         watts: 1e-3,
         current: [1.0, 0.0],
+        ..Flow::default()
     };
     let solution = Solution {
         volts: vec![0.0; net.nodes.len()],

@@ -281,7 +281,7 @@ fn leaves_say_what_they_are() {
         let side = (leaf.rect[2] - leaf.rect[0]) as f64;
         assert!((leaf.area() / (side * side * tick * tick) - 1.0).abs() < 1e-12);
         // 4 W over its area at its ohms a square.
-        let current = leaf.sheet_current(4.0);
+        let current = leaf.sheet_current(4.0, leaf.sheet);
         assert!((current * current * leaf.area() * leaf.sheet - 4.0).abs() < 1e-9);
     }
     assert_eq!(mesh.check_by_layer(net.rows()), Ok(None));

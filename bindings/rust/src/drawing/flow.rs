@@ -64,7 +64,7 @@ impl Flowing {
     fn of(leaf: &Leaf, flow: &Flow) -> Self {
         Flowing {
             density: density(leaf, flow.watts),
-            current: leaf.sheet_current(flow.watts) * 1e-3,
+            current: flow.sheet_current * 1e-3,
             towards: flow.current,
         }
     }
@@ -125,11 +125,11 @@ impl Flows {
     pub fn of(mesh: &Mesh, solution: &Solution, quantity: Quantity) -> Self {
         let leaves: Vec<Leaf> = mesh.leaves().collect();
         let cells = leaves.iter().zip(&solution.cells);
-        let sheet = leaves.first().map(|leaf| leaf.sheet);
+        let sheet = solution.cells.first().map(|cell| cell.sheet);
         Flows {
             quantity,
             cells: cells.map(|(leaf, flow)| Flowing::of(leaf, flow)).collect(),
-            sheet: sheet.filter(|&sheet| leaves.iter().all(|leaf| leaf.sheet == sheet)),
+            sheet: sheet.filter(|&sheet| solution.cells.iter().all(|cell| cell.sheet == sheet)),
         }
     }
 

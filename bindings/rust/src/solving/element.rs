@@ -12,6 +12,11 @@ pub struct Flow {
     pub watts: f64,
     /// The sheet current at the cell's centre along x and along y, in amperes a metre.
     pub current: [f64; 2],
+    /// The sheet current that the power stands for in copper of the cell's own sheet resistance, in amperes a metre: the
+    /// square root of the mean of its square over the cell.
+    pub sheet_current: f64,
+    /// The cell's own sheet resistance, in ohms a square. Where a net's cells were changed it isn't their polygon's.
+    pub sheet: f64,
 }
 
 /// A cell with its sides in metres.
@@ -69,9 +74,12 @@ impl Element {
         // The mean of the square of what runs straight from a to b.
         let square = |[a, b]: [f64; 2]| (a * a + a * b + b * b) / 3.0;
         let mean = |[a, b]: [f64; 2]| (a + b) / 2.0;
+        let slope = square(along_x) + square(along_y);
         Flow {
-            watts: (square(along_x) + square(along_y)) * w * h / self.sheet,
+            watts: slope * w * h / self.sheet,
             current: [along_x, along_y].map(|slopes| -mean(slopes) / self.sheet),
+            sheet_current: slope.sqrt() / self.sheet,
+            sheet: self.sheet,
         }
     }
 }

@@ -3,7 +3,7 @@
 use super::unit::{cut, quoted};
 
 /// What stands behind each first word.
-const FORMS: [&str; 13] = [
+const FORMS: [&str; 15] = [
     "level N",
     "cap N",
     "target TICKS",
@@ -12,6 +12,8 @@ const FORMS: [&str; 13] = [
     "polygon LAYER COMPONENT OHMS",
     "split ID ID-ID ..",
     "refine X0 Y0 X1 Y1 LEVEL [LAYER]",
+    "sheet X0 Y0 X1 Y1 FACTOR [LAYER]",
+    "temperature CELSIUS [COEFFICIENT]",
     "contact POLYGON POLYGON",
     "via LAYER LAYER COMPONENT X Y HALF_WIDTH HALF_HEIGHT OHMS",
     "channels LAYER",

@@ -84,6 +84,7 @@ mod merging;
 mod packing;
 mod reading;
 mod rings;
+mod sheets;
 mod showing;
 mod snapping;
 mod splitting;
@@ -91,7 +92,7 @@ mod terminals;
 mod unit;
 
 use crate::solving::Terminal;
-use crate::{Board, OwnedLinks, Pitch, Point};
+use crate::{Board, OwnedLinks, Pitch, Point, Sheets};
 use reading::Reading;
 use std::error::Error;
 use std::fmt;
@@ -169,6 +170,10 @@ pub struct Lines {
     pub channels: Vec<usize>,
     /// Of each terminal.
     pub terminals: Vec<usize>,
+    /// Of each `sheet`.
+    pub sheets: Vec<usize>,
+    /// Of `temperature`.
+    pub temperature: Option<usize>,
 }
 
 impl Lines {
@@ -194,6 +199,8 @@ pub struct Whole {
     pub links: OwnedLinks,
     /// What it can't: where current enters and leaves.
     pub terminals: Vec<Terminal>,
+    /// What it can't: where sheet resistances differ from those of the polygons.
+    pub sheets: Sheets,
     /// Where each part stands.
     pub lines: Lines,
     /// What is taken, and hardly means what it says.

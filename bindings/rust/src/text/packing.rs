@@ -1,6 +1,6 @@
 //! The record of a board's text, read back and compared.
 
-use super::{parse_whole, Lines, Unclear, Warning, Whole};
+use super::{parse_whole, sheets, Lines, Unclear, Warning, Whole};
 use crate::{read, record_length, write, Board, Refusal};
 use std::fmt::Debug;
 use std::slice;
@@ -36,7 +36,9 @@ pub fn pack_whole(whole: &Whole) -> Result<Packed, Unclear> {
     });
     Ok(Packed {
         record: pack_board(&whole.board, &whole.lines)?,
-        warnings: whole.warnings.iter().cloned().chain(left_out).collect(),
+        warnings: (whole.warnings.iter().cloned().chain(left_out))
+            .chain(sheets::left_out(&whole.lines))
+            .collect(),
     })
 }
 

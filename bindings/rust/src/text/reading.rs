@@ -2,6 +2,7 @@
 
 use super::form::senseless;
 use super::linking::{channel_of, contact_of, via_of};
+use super::sheets;
 use super::splitting::{ids_of, region_of, Mark, Task};
 use super::terminals::terminal_of;
 use super::unit::{component, cut, finite, grouped, layer, ohms, whole, Unit};
@@ -56,6 +57,10 @@ impl Reading {
                 Ok(())
             }
             ["terminal", ref terminal @ ..] => self.take_terminal(line, terminal),
+            ["sheet" | "temperature", ..] => {
+                let Whole { sheets, lines, .. } = &mut self.whole;
+                sheets::take(sheets, lines, line, words)
+            }
             ["contact", ..] | ["via", ..] | ["channels", ..] | ["channel", ..] => {
                 self.take_link(line, words)
             }
@@ -114,7 +119,7 @@ impl Reading {
         }
         if let Some(first) = self.first_length() {
             return Err(format!(
-                "pitch stands before layers, polygons, links, terminals and refine, as on line {first}"
+                "pitch stands before layers, polygons, links, terminals, sheet and refine, as on line {first}"
             ));
         }
         let level = self.whole.board.settings().max_level;
@@ -134,6 +139,7 @@ impl Reading {
             lines.polygons.first().copied(),
             lines.first_link(),
             lines.terminals.first().copied(),
+            lines.sheets.first().copied(),
             self.marks.iter().find(is_region).map(|mark| mark.line),
         ];
         all.into_iter().flatten().min()
@@ -279,7 +285,7 @@ fn is_number(word: &str) -> bool {
 }
 
 /// Keeps the line of what a text says once.
-fn once(name: &str, place: &mut Option<usize>, line: usize) -> Result<(), String> {
+pub(super) fn once(name: &str, place: &mut Option<usize>, line: usize) -> Result<(), String> {
     match place.replace(line) {
         Some(first) => Err(format!("{name} is on line {first} already")),
         None => Ok(()),

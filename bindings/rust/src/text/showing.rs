@@ -1,5 +1,6 @@
 //! The text of a board.
 
+use super::sheets;
 use super::splitting::split_lines;
 use super::terminals::put_terminal;
 use super::Whole;
@@ -13,6 +14,7 @@ pub fn show_whole(whole: &Whole) -> String {
     for terminal in &whole.terminals {
         put_terminal(terminal, &mut text).expect("a string takes all text");
     }
+    sheets::put(&whole.sheets, &mut text).expect("a string takes all text");
     text
 }
 

@@ -4,7 +4,7 @@ use super::{board_file, say, End, Stop, Terminals, Words};
 use crate::sides::inside;
 use crate::solving::Unsolved;
 use crate::text::{self, Lines, Unclear, Whole};
-use crate::{Board, Link, Mesh, Net, OwnedLinks, Pitch, Point, Refusal, Unmeshed};
+use crate::{Board, Link, Mesh, Net, OwnedLinks, Pitch, Point, Refusal, Sheets, Unmeshed};
 use std::borrow::Cow;
 use std::fmt;
 
@@ -16,6 +16,8 @@ pub struct Given {
     pub board: Board,
     pub links: OwnedLinks,
     pub terminals: Terminals,
+    /// Where sheet resistances differ from those of the polygons.
+    pub sheets: Sheets,
     from: End,
     /// None of a record.
     text: Option<Text>,
@@ -46,6 +48,7 @@ impl Given {
                 board: text::read_record(bytes)?,
                 links: OwnedLinks::default(),
                 terminals: Terminals::default(),
+                sheets: Sheets::default(),
                 from: from.clone(),
                 text: None,
             });
@@ -72,6 +75,7 @@ impl Given {
             board: text::read_record(&record)?,
             links: whole.links,
             terminals: Terminals::of_text(whole.terminals, &lines.terminals),
+            sheets: whole.sheets,
             from: from.clone(),
             text: Some(Text { words, lines }),
         })
@@ -106,12 +110,13 @@ impl Given {
     /// In words: the net is refused.
     pub fn net(&self, mesh: &Mesh) -> Result<Net, String> {
         let past = self.past_room(mesh, LINK_EDGES);
-        match past.map_err(|why| self.blame(&why.into()))? {
-            Some(link) => Err(self.said(&self.crowded(link))),
-            None => mesh
-                .linked_net(self.links.rows())
-                .map_err(|why| self.blame(&why)),
+        if let Some(link) = past.map_err(|why| self.blame(&why.into()))? {
+            return Err(self.said(&self.crowded(link)));
         }
+        let net = mesh.linked_net(self.links.rows());
+        let mut net = net.map_err(|why| self.blame(&why))?;
+        self.put_sheets(mesh, &mut net)?;
+        Ok(net)
     }
 
     /// The link with which there are more edges of links than so many.
@@ -142,7 +147,7 @@ impl Given {
         self.text.as_ref().map(|text| text.words.as_str())
     }
 
-    fn lines(&self) -> Option<&Lines> {
+    pub(super) fn lines(&self) -> Option<&Lines> {
         self.text.as_ref().map(|text| &text.lines)
     }
 

@@ -7,6 +7,7 @@ mod digits;
 mod end;
 mod given;
 mod ground;
+mod sheets;
 mod solved;
 mod terminals;
 mod words;

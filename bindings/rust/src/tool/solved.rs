@@ -1,7 +1,7 @@
 //! A board that is solved between its terminals.
 
 use super::Given;
-use crate::solving::{place_of_most, Held, Solution, System, Unsolved};
+use crate::solving::{place_of_most, Flow, Held, Solution, System, Unsolved};
 use crate::{Leaf, Mesh, Net};
 
 /// A current or a potential below this share of the largest one at a terminal is what the iteration leaves.
@@ -55,6 +55,9 @@ impl Given {
     }
 
     fn solved_net(&self, mesh: Mesh, net: Net, by: By) -> Result<Solved, String> {
+        if by == By::Net {
+            self.judge_for_net()?;
+        }
         let held = mesh.held(&net, self.terminals.all());
         let solved = || -> Result<(Solution, Vec<f64>), Unsolved> {
             match by {
@@ -93,11 +96,21 @@ fn rest_of(net: &Net, solution: &Solution) -> f64 {
 }
 
 impl Solved {
-    /// The leaf of the largest power over area, and its power, as [`Solution::hottest`].
-    pub fn hottest(&self) -> Option<(Leaf, f64)> {
-        let leaves: Vec<(Leaf, f64)> = self.mesh.leaves().zip(self.watts.iter().copied()).collect();
-        let density = |(leaf, watts): &(Leaf, f64)| watts / leaf.area();
-        place_of_most(leaves.iter().map(density)).map(|at| leaves[at])
+    /// The leaf of the largest power over area, and what flows in it, as [`Solution::hottest`].
+    pub fn hottest(&self) -> Option<(Leaf, Flow)> {
+        let leaves: Vec<Leaf> = self.mesh.leaves().collect();
+        let density = |(leaf, watts): (&Leaf, &f64)| watts / leaf.area();
+        let at = place_of_most(leaves.iter().zip(&self.watts).map(density))?;
+        let (leaf, watts, sheet) = (leaves[at], self.watts[at], self.net.cells[at].sheet);
+        // The net's conductances give no current of a cell.
+        let by_power = || Flow {
+            watts,
+            sheet_current: leaf.sheet_current(watts, sheet),
+            sheet,
+            ..Flow::default()
+        };
+        let flow = self.solution.cells.get(at).copied();
+        Some((leaf, flow.unwrap_or_else(by_power)))
     }
 
     /// The currents of the links' edges.

@@ -87,8 +87,16 @@ fn table(words: &Words) -> Result<Vec<u8>, Stop> {
     let (given, solved) = read(words)?;
     let pitch = given.pitch();
     let text = match solved {
-        Some(Solved { mesh, solution, .. }) => csv::of_mesh(&mesh, pitch, &solution.cells),
-        None => csv::of_mesh(&given.mesh()?.0, pitch, &[]),
+        Some(Solved {
+            mesh,
+            net,
+            solution,
+            ..
+        }) => csv::of_mesh(&mesh, net.rows(), pitch, &solution.cells),
+        None => {
+            let (mesh, net) = given.mesh()?;
+            csv::of_mesh(&mesh, net.rows(), pitch, &[])
+        }
     };
     Ok(text.map_err(|why| given.said(&why))?.into_bytes())
 }

@@ -1,6 +1,7 @@
 //! What flows between a board's terminals, as tables to be read.
 
 use crate::{given, TERMINAL};
+use leafmesh::solving::Flow;
 use leafmesh::tool::{digits, By, Command, Given, Solved, Stop, Switch, Takes, Words, SNAP};
 use leafmesh::{Leaf, Link, Refusal};
 use std::fmt::{self, Write};
@@ -65,18 +66,18 @@ fn put_power(given: &Given, solved: &Solved, text: &mut String) -> fmt::Result {
         writeln!(text, "V / A     {} ohm", digits(ohms))?;
     }
     match solved.hottest() {
-        Some((leaf, watts)) => writeln!(text, "hottest   {}", hot(given, solved, &leaf, watts)),
+        Some((leaf, flow)) => writeln!(text, "hottest   {}", hot(given, solved, &leaf, &flow)),
         None => Ok(()),
     }
 }
 
 /// A leaf by its names and its place, with its power.
-fn hot(given: &Given, solved: &Solved, leaf: &Leaf, watts: f64) -> String {
+fn hot(given: &Given, solved: &Solved, leaf: &Leaf, flow: &Flow) -> String {
     let [x0, y0, x1, y1] = leaf.rect;
     let place = given.place([x0 + (x1 - x0) / 2, y0 + (y1 - y0) / 2]);
     let name = solved.mesh.name(leaf.id).map(|name| name.to_string());
-    let density = digits(watts / leaf.area() * 1e-6);
-    let current = digits(leaf.sheet_current(watts) * 1e-3);
+    let density = digits(flow.watts / leaf.area() * 1e-6);
+    let current = digits(flow.sheet_current * 1e-3);
     format!(
         "leaf {} ({}), layer {}, component {}, at {place}: {density} W/mm2, {current} A/mm",
         leaf.id,
