@@ -124,6 +124,7 @@ mod first_pages {
 
 mod astray;
 mod borders;
+mod covering;
 pub mod csv;
 pub mod drawing;
 pub mod ffi;
@@ -136,6 +137,7 @@ pub mod merging;
 mod mesh;
 pub mod msh;
 mod name;
+pub mod necks;
 mod net;
 mod pitch;
 mod polygons;

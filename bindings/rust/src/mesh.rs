@@ -165,8 +165,8 @@ impl Mesh {
     }
 
     /// Splits the hottest leaves and balances: one round of refining where a current crowds. `watts` has the power of
-    /// each cell of the mesh's net, and `share` says how many of the leaves are split, from 0 to 1. Those that are at
-    /// the finest level are passed over. Answers how many splits the round made, balance's among them.
+    /// each cell of the mesh's net, and `share` says how many are split of the leaves that can be, from 0 to 1: those
+    /// that aren't at the finest level. Answers how many splits the round made, balance's among them.
     ///
     /// # Errors
     ///
@@ -178,9 +178,9 @@ impl Mesh {
             return Err(Refusal { reason, place: 0 });
         }
         let mut by_heat: Vec<(f64, Leaf)> = watts.iter().copied().zip(self.leaves()).collect();
+        by_heat.retain(|(_, leaf)| leaf.level < self.head.max_level);
         by_heat.sort_by(|a, b| b.0.total_cmp(&a.0));
         by_heat.truncate((by_heat.len() as f64 * share) as usize);
-        by_heat.retain(|(_, leaf)| leaf.level < self.head.max_level);
         self.all_or_nothing(|mesh| {
             by_heat
                 .iter()

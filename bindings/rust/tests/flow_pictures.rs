@@ -662,6 +662,7 @@ fn time_of(mesh: &Mesh) -> Duration {
     };
     let solution = Solution {
         volts: vec![0.0; net.nodes.len()],
+        above: vec![0.0; net.nodes.len()],
         terminals: Vec::new(),
         cells: vec![flow; net.cells.len()],
         edges: Vec::new(),

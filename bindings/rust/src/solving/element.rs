@@ -64,6 +64,18 @@ impl Element {
         all
     }
 
+    /// What flows into it from each of its corners, in amperes, at these potentials of all nodes.
+    pub fn taken(&self, volts: &[f64]) -> [f64; 4] {
+        let own = self.corners.map(|corner| volts[corner]);
+        let from = |row: [f64; 4]| {
+            row.iter()
+                .zip(own)
+                .map(|(siemens, volts)| siemens * volts)
+                .sum()
+        };
+        self.matrix().map(from)
+    }
+
     /// What flows at these potentials of all nodes.
     pub fn flow(&self, volts: &[f64]) -> Flow {
         let [sw, se, ne, nw] = self.corners.map(|corner| volts[corner]);

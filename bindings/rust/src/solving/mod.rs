@@ -27,6 +27,7 @@
 //! # Ok::<(), Box<dyn std::error::Error>>(())
 //! ```
 
+mod across;
 mod element;
 mod judging;
 mod matrix;
@@ -41,6 +42,7 @@ use judging::off_by;
 use matrix::{conjugate_gradients, Entry, Matrix};
 use unknowns::Unknowns;
 
+pub use across::{Across, Crossing, Cuts, Line};
 pub use element::Flow;
 pub use terminal::{Drive, Held, Spot, Terminal};
 pub use unsolved::Unsolved;
@@ -65,6 +67,9 @@ pub struct System {
 pub struct Solution {
     /// The potential of each node. Those that nothing joins to a terminal are at 0 V.
     pub volts: Vec<f64>,
+    /// The same above a level of the node's copper, one for all that is joined: what is small against a potential far
+    /// from 0 V isn't lost in it.
+    pub above: Vec<f64>,
     /// Of each terminal, in their order.
     pub terminals: Vec<Applied>,
     /// Of each cell; none in a system of a net's conductances.
@@ -291,6 +296,7 @@ impl System {
                 .map(|edge| edge.conductance * drop(edge))
                 .collect(),
             edge_watts: self.edges.iter().map(watts).collect(),
+            above,
         }
     }
 

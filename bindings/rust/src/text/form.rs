@@ -3,7 +3,7 @@
 use super::unit::{cut, quoted};
 
 /// What stands behind each first word.
-const FORMS: [&str; 15] = [
+const FORMS: [&str; 16] = [
     "level N",
     "cap N",
     "target TICKS",
@@ -20,6 +20,7 @@ const FORMS: [&str; 15] = [
     "channel COMPONENT X Y COMPONENT X Y OHMS",
     "terminal NAME VALUE V|A (end LAYER COMPONENT west|east|south|north | edge LAYER COMPONENT X0 Y0 X1 Y1 | \
      rect LAYER COMPONENT X0 Y0 X1 Y1 | pad POLYGON)",
+    "across NAME LAYER COMPONENT X0 Y0 X1 Y1",
 ];
 
 /// What a form begins with.

@@ -64,8 +64,24 @@
 //! # Ok::<(), leafmesh::text::Unclear>(())
 //! ```
 //!
+//! Lines across copper are told what flows through them (see [`Cuts`](crate::solving::Cuts)); no record has them:
+//!
+//! ```
+//! let whole = leafmesh::text::parse_whole("
+//! target 8
+//! polygon 1 0 0.5
+//! 0 0
+//! 24 0
+//! 24 8
+//! 0 8
+//! across middle 1 0 12 0 12 8    # a name, layer, component and both ends
+//! ")?;
+//! assert_eq!(whole.across[0].line.rect, [12, 0, 12, 8]);
+//! # Ok::<(), leafmesh::text::Unclear>(())
+//! ```
+//!
 //! With a `pitch` in millimetres all lengths behind it are in millimetres and must be multiples of it, and it is the
-//! target (see [`Pitch`]); only links, terminals and what is refined may stand anywhere, at the nearest tick:
+//! target (see [`Pitch`]); only links, terminals, lines across copper and what is refined may stand anywhere, at the nearest tick:
 //!
 //! ```
 //! let board = leafmesh::text::parse("level 3\npitch 0.25\npolygon 1 0 0.0005\n0 0\n1.5 0\n1.5 2\n0 2\n")?;
@@ -73,6 +89,7 @@
 //! # Ok::<(), leafmesh::text::Unclear>(())
 //! ```
 
+mod across;
 mod blaming;
 mod bytes;
 mod drive;
@@ -91,7 +108,7 @@ mod splitting;
 mod terminals;
 mod unit;
 
-use crate::solving::Terminal;
+use crate::solving::{Across, Terminal};
 use crate::{Board, OwnedLinks, Pitch, Point, Sheets};
 use reading::Reading;
 use std::error::Error;
@@ -104,7 +121,7 @@ pub use merging::{merge, Merged};
 pub use packing::{pack, pack_board, pack_whole, Packed};
 pub use showing::{show, show_linked, show_whole};
 pub use snapping::{snap, Move, Snapped};
-pub use splitting::with_splits;
+pub use splitting::{with_regions, with_splits};
 
 /// A line that is no part of a board, or says what a board can't have.
 #[derive(Clone, Debug, PartialEq, Eq)]
@@ -174,6 +191,8 @@ pub struct Lines {
     pub sheets: Vec<usize>,
     /// Of `temperature`.
     pub temperature: Option<usize>,
+    /// Of each line across copper.
+    pub across: Vec<usize>,
 }
 
 impl Lines {
@@ -201,6 +220,8 @@ pub struct Whole {
     pub terminals: Vec<Terminal>,
     /// What it can't: where sheet resistances differ from those of the polygons.
     pub sheets: Sheets,
+    /// What it can't: lines across copper, to be told what flows through.
+    pub across: Vec<Across>,
     /// Where each part stands.
     pub lines: Lines,
     /// What is taken, and hardly means what it says.

@@ -14,7 +14,7 @@ pub struct Packed {
     pub warnings: Vec<Warning>,
 }
 
-/// The record of a board's text, without its terminals. It is read back, and what it says is compared with the text.
+/// The record of a board's text, without its terminals and its lines across copper. It is read back, and what it says is compared with the text.
 ///
 /// # Errors
 ///
@@ -30,9 +30,16 @@ pub fn pack(text: &str) -> Result<Vec<u8>, Unclear> {
 /// The first line with a link, and those of [`pack_board`].
 pub fn pack_whole(whole: &Whole) -> Result<Packed, Unclear> {
     whole.judge_links_for_record()?;
-    let left_out = whole.lines.terminals.first().map(|&line| Warning {
-        line,
-        words: "a record has no terminals".to_string(),
+    let lines = &whole.lines;
+    let parts = [
+        (&lines.terminals, "a record has no terminals"),
+        (&lines.across, "a record has no lines across copper"),
+    ];
+    let left_out = parts.into_iter().filter_map(|(lines, words)| {
+        Some(Warning {
+            line: *lines.first()?,
+            words: words.to_string(),
+        })
     });
     Ok(Packed {
         record: pack_board(&whole.board, &whole.lines)?,

@@ -1,5 +1,6 @@
 //! A text, line by line.
 
+use super::across::across_of;
 use super::form::senseless;
 use super::linking::{channel_of, contact_of, via_of};
 use super::sheets;
@@ -61,6 +62,7 @@ impl Reading {
                 let Whole { sheets, lines, .. } = &mut self.whole;
                 sheets::take(sheets, lines, line, words)
             }
+            ["across", ref across @ ..] => self.take_across(line, across),
             ["contact", ..] | ["via", ..] | ["channels", ..] | ["channel", ..] => {
                 self.take_link(line, words)
             }
@@ -119,7 +121,7 @@ impl Reading {
         }
         if let Some(first) = self.first_length() {
             return Err(format!(
-                "pitch stands before layers, polygons, links, terminals, sheet and refine, as on line {first}"
+                "pitch stands before layers, polygons, links, terminals, sheet, refine and across, as on line {first}"
             ));
         }
         let level = self.whole.board.settings().max_level;
@@ -140,6 +142,7 @@ impl Reading {
             lines.first_link(),
             lines.terminals.first().copied(),
             lines.sheets.first().copied(),
+            lines.across.first().copied(),
             self.marks.iter().find(is_region).map(|mark| mark.line),
         ];
         all.into_iter().flatten().min()
@@ -214,6 +217,18 @@ impl Reading {
         }
         terminals.push(terminal);
         lines.terminals.push(line);
+        Ok(())
+    }
+
+    fn take_across(&mut self, line: usize, words: &[&str]) -> Result<(), String> {
+        let own = across_of(words, self.unit())?;
+        let Whole { across, lines, .. } = &mut self.whole;
+        if let Some(at) = across.iter().position(|other| other.name == own.name) {
+            let (name, first) = (cut(&own.name), lines.across[at]);
+            return Err(format!("a line across {name} is on line {first} already"));
+        }
+        across.push(own);
+        lines.across.push(line);
         Ok(())
     }
 

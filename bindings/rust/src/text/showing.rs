@@ -1,5 +1,6 @@
 //! The text of a board.
 
+use super::across::put_across;
 use super::sheets;
 use super::splitting::split_lines;
 use super::terminals::put_terminal;
@@ -15,6 +16,9 @@ pub fn show_whole(whole: &Whole) -> String {
         put_terminal(terminal, &mut text).expect("a string takes all text");
     }
     sheets::put(&whole.sheets, &mut text).expect("a string takes all text");
+    for across in &whole.across {
+        put_across(across, &mut text).expect("a string takes all text");
+    }
     text
 }
 

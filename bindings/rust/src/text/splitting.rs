@@ -3,7 +3,7 @@
 use super::form::senseless;
 use super::unit::{grouped, layer, quoted, whole, Unit};
 use super::{Unclear, Whole};
-use crate::{Board, Mesh, Reason, Refusal, Region, Unmeshed, MAX_LEVEL, SLOTS};
+use crate::{Board, Mesh, Pitch, Reason, Refusal, Region, Unmeshed, MAX_LEVEL, SLOTS};
 use std::iter::repeat;
 use std::ops::RangeInclusive;
 
@@ -222,14 +222,45 @@ fn id_words(ids: &[u64]) -> Vec<String> {
 /// # Ok::<(), leafmesh::text::Unclear>(())
 /// ```
 pub fn with_splits(text: &str, ids: &[usize]) -> String {
-    let end = if text.contains("\r\n") { "\r\n" } else { "\n" };
     let ids: Vec<u64> = ids.iter().map(|&id| id as u64).collect();
+    with_lines(text, &split_lines(&ids))
+}
+
+/// A text as it stands, with lines behind it that refine these regions, too, in this order. Lengths are in millimetres
+/// where the text has a pitch, and otherwise in ticks.
+///
+/// ```
+/// let text = "target 8\npolygon 1 0 1\n0 0\n8 0\n8 8\n0 8 # the last corner";
+/// let region = leafmesh::Region { rect: [0, 0, 8, 4], level: 2, layer: None };
+/// let refined = leafmesh::text::with_regions(text, &[region], None);
+/// assert_eq!(refined, format!("{text}\nrefine 0 0 8 4 2\n"));
+/// assert_eq!(leafmesh::text::parse(&refined)?.splits, [0, 1, 2]);
+/// # Ok::<(), leafmesh::text::Unclear>(())
+/// ```
+pub fn with_regions(text: &str, regions: &[Region], pitch: Option<Pitch>) -> String {
+    let length = |ticks: i64| match pitch {
+        Some(pitch) => pitch.short(ticks).to_string(),
+        None => ticks.to_string(),
+    };
+    let line = |region: &Region| {
+        let [x0, y0, x1, y1] = region.rect.map(length);
+        let on = region
+            .layer
+            .map_or(String::new(), |layer| format!(" {layer}"));
+        format!("refine {x0} {y0} {x1} {y1} {}{on}", region.level)
+    };
+    let lines: Vec<String> = regions.iter().map(line).collect();
+    with_lines(text, &lines)
+}
+
+fn with_lines(text: &str, lines: &[String]) -> String {
+    let end = if text.contains("\r\n") { "\r\n" } else { "\n" };
     let mut all = text.to_string();
-    if !ids.is_empty() && !all.is_empty() && !all.ends_with('\n') {
+    if !lines.is_empty() && !all.is_empty() && !all.ends_with('\n') {
         all.push_str(end);
     }
-    for line in split_lines(&ids) {
-        all.push_str(&line);
+    for line in lines {
+        all.push_str(line);
         all.push_str(end);
     }
     all

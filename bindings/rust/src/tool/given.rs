@@ -2,7 +2,7 @@
 
 use super::{board_file, say, End, Stop, Terminals, Words};
 use crate::sides::inside;
-use crate::solving::Unsolved;
+use crate::solving::{Across, Unsolved};
 use crate::text::{self, Lines, Unclear, Whole};
 use crate::{Board, Link, Mesh, Net, OwnedLinks, Pitch, Point, Refusal, Sheets, Unmeshed};
 use std::borrow::Cow;
@@ -18,6 +18,8 @@ pub struct Given {
     pub terminals: Terminals,
     /// Where sheet resistances differ from those of the polygons.
     pub sheets: Sheets,
+    /// Lines across copper, which a record has none of.
+    pub across: Vec<Across>,
     from: End,
     /// None of a record.
     text: Option<Text>,
@@ -49,6 +51,7 @@ impl Given {
                 links: OwnedLinks::default(),
                 terminals: Terminals::default(),
                 sheets: Sheets::default(),
+                across: Vec::new(),
                 from: from.clone(),
                 text: None,
             });
@@ -76,6 +79,7 @@ impl Given {
             links: whole.links,
             terminals: Terminals::of_text(whole.terminals, &lines.terminals),
             sheets: whole.sheets,
+            across: whole.across,
             from: from.clone(),
             text: Some(Text { words, lines }),
         })
@@ -161,6 +165,33 @@ impl Given {
         match self.pitch() {
             Some(pitch) => format!("({} mm, {} mm)", pitch.short(x), pitch.short(y)),
             None => format!("({x}, {y})"),
+        }
+    }
+
+    /// A length in the text's unit, without it.
+    pub fn length(&self, ticks: i64) -> String {
+        match self.pitch() {
+            Some(pitch) => pitch.short(ticks).to_string(),
+            None => ticks.to_string(),
+        }
+    }
+
+    /// Why one of its lines across copper is refused, behind the line of its text.
+    pub fn refused_across(&self, at: usize, why: &str) -> String {
+        self.from.said(&self.of_across(at, why))
+    }
+
+    /// What is odd about one.
+    pub fn warned_of_across(&self, at: usize, what: &str) -> String {
+        self.from
+            .said(&format!("warning: {}", self.of_across(at, what)))
+    }
+
+    fn of_across(&self, at: usize, what: &str) -> String {
+        let words = format!("across {}: {what}", self.across[at].name);
+        match self.lines().and_then(|lines| lines.across.get(at)) {
+            Some(line) => format!("line {line}: {words}"),
+            None => words,
         }
     }
 

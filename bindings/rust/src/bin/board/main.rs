@@ -11,6 +11,7 @@ macro_rules! terminal_help {
     };
 }
 
+mod cuts;
 mod files;
 mod merge;
 mod refine;

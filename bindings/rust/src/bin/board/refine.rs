@@ -2,10 +2,11 @@
 
 use crate::{given, TERMINAL};
 use leafmesh::tool::{digits, say, By, Command, Given, Solved, Stop, Switch, Takes, Words, SNAP};
-use leafmesh::{record_length, text, write, Board, Mesh, Reason, SLOTS};
+use leafmesh::{record_length, text, write, Board, Mesh, Reason, Region, SLOTS};
 use std::str::FromStr;
 
 const ROUNDS: Switch = ("--rounds", Takes::Word);
+const UNTIL: Switch = ("--until", Takes::Word);
 const SHARE: Switch = ("--share", Takes::Word);
 const LEAVES: Switch = ("--leaves", Takes::Word);
 
@@ -13,30 +14,35 @@ pub const REFINE: Command = Command {
     name: "refine",
     help: concat!(
         "\
-usage: board refine [FILE] --rounds N [--share S] [--leaves M]
-                    [--terminal WORDS] .. [--snap PITCH] [-o FILE]
+usage: board refine [FILE] (--rounds N | --until S | both) [--share S]
+                    [--leaves M] [--terminal WORDS] .. [--snap PITCH] [-o FILE]
 
 The board with its hottest leaves split: of a text the text as it stands and
-splits behind it, of a record a record. A round solves on the cells, splits the
-leaves of the largest power, and balances; a line on standard error tells what
-came of it. Where no more can be split, or there is no more room, what was
-reached by then is written.
+lines `refine` behind it, of a record a record. A round solves on the cells,
+splits the leaves of the largest power, and balances; a line on standard error
+tells what came of it. Where no more can be split, or there is no more room,
+what was reached by then is written.
 
-  --rounds N        so many rounds
-  --share S         a round splits this share of the leaves, as 0.25 or 1/4;
-                    1/6 without it
+  --rounds N        so many rounds at most
+  --until S         a round that moves the resistance by less than this share, as
+                    0.1% or 0.001, is the last; of more than two terminals the
+                    power
+  --share S         a round splits this share of the leaves that can be split, as
+                    0.25 or 1/4; 1/6 without it
   --leaves M        the mesh before the round that would pass so many leaves is
                     the last
 ",
         terminal_help!()
     ),
-    switches: &[ROUNDS, SHARE, LEAVES, TERMINAL, SNAP],
+    switches: &[ROUNDS, UNTIL, SHARE, LEAVES, TERMINAL, SNAP],
     make: refine,
 };
 
 /// What was asked for.
 struct Plan {
     rounds: usize,
+    /// A round that moves what is measured by less is the last.
+    until: Option<f64>,
     share: f64,
     leaves: usize,
 }
@@ -50,13 +56,19 @@ fn refine(words: &Words) -> Result<Vec<u8>, Stop> {
 
 impl Plan {
     fn of(words: &Words) -> Result<Self, Stop> {
-        let rounds = words.one(ROUNDS.0);
-        let rounds = rounds.ok_or_else(|| senseless(ROUNDS, "is missing"))?;
+        let until = words.one(UNTIL.0).map(|word| share(UNTIL, &word));
+        let until = until.transpose()?;
+        let rounds = match words.one(ROUNDS.0) {
+            Some(word) => whole(ROUNDS, &word)?,
+            None if until.is_some() => usize::MAX,
+            None => return Err(senseless(ROUNDS, "or --until is missing")),
+        };
         Ok(Plan {
-            rounds: whole(ROUNDS, &rounds)?,
+            rounds,
+            until,
             share: words
                 .one(SHARE.0)
-                .map_or(Ok(1.0 / 6.0), |word| share(&word))?,
+                .map_or(Ok(1.0 / 6.0), |word| share(SHARE, &word))?,
             leaves: words
                 .one(LEAVES.0)
                 .map_or(Ok(SLOTS), |word| whole(LEAVES, &word))?,
@@ -77,24 +89,37 @@ impl Plan {
             };
             let next = given.solved_mesh(mesh, By::Cells)?;
             say(&round_in_words(round, &next, Some(&solved)));
+            let moved = change(&next, &solved);
             solved = next;
+            if let Some(until) = self.until.filter(|until| moved.abs() < *until) {
+                let in_100 = digits(100.0 * until);
+                say(&format!(
+                    "no round {}: the last one moved it by less than {in_100} in 100",
+                    round + 1
+                ));
+                break;
+            }
         }
         Ok(solved.mesh)
     }
 
     /// The mesh behind one more round, or why there is none.
     fn next(&self, solved: &Solved) -> Result<Mesh, String> {
-        let before = solved.net.cells.len();
-        if before as f64 * self.share < 1.0 {
-            return Err(format!("the share of {before} leaves is less than one"));
+        let finest = solved.mesh.head().max_level;
+        let open = solved.mesh.leaves().filter(|leaf| leaf.level < finest);
+        match open.count() {
+            0 => return Err("all leaves are at the finest level".to_string()),
+            open if (open as f64 * self.share) < 1.0 => {
+                let words =
+                    format!("the share of {open} leaves that can be split is less than one");
+                return Err(words);
+            }
+            _ => {}
         }
         let mut mesh = solved.mesh.clone();
         let splits = mesh.refine_hottest(&solved.watts, self.share);
         let leaves = mesh.head().leaves;
         match splits {
-            Ok(0) => Err(format!(
-                "the hottest of {before} leaves are at the finest level"
-            )),
             Ok(_) if leaves > self.leaves => Err(format!(
                 "it would have {leaves} leaves, more than {}",
                 self.leaves
@@ -118,18 +143,21 @@ fn whole(switch: Switch, word: &str) -> Result<usize, Stop> {
     }
 }
 
-/// As a fraction or with a point.
-fn share(word: &str) -> Result<f64, Stop> {
-    let (above, below) = word.split_once('/').unwrap_or((word, "1"));
+/// As a fraction, with a point, or in 100.
+fn share(switch: Switch, word: &str) -> Result<f64, Stop> {
+    let (number, whole) = word
+        .strip_suffix('%')
+        .map_or((word, 1.0), |in_100| (in_100, 100.0));
+    let (above, below) = number.split_once('/').unwrap_or((number, "1"));
     let share = above
         .parse()
         .ok()
         .zip(below.parse().ok())
-        .map(|(a, b): (f64, f64)| a / b);
+        .map(|(a, b): (f64, f64)| a / b / whole);
     match share {
         Some(share) if share > 0.0 && share <= 1.0 => Ok(share),
         _ => Err(senseless(
-            SHARE,
+            switch,
             &format!("takes a share above 0, 1 at most, not {word}"),
         )),
     }
@@ -142,7 +170,6 @@ fn senseless(switch: Switch, why: &str) -> Stop {
 /// What a round has come to: ohms between two terminals, otherwise what stands at each; and how that differs from the
 /// round before.
 fn round_in_words(round: usize, solved: &Solved, before: Option<&Solved>) -> String {
-    let measure = |solved: &Solved| solved.ohms().unwrap_or_else(|| solved.solution.watts());
     let words = match solved.ohms() {
         Some(ohms) => format!("{} ohm", digits(ohms)),
         None => {
@@ -153,26 +180,57 @@ fn round_in_words(round: usize, solved: &Solved, before: Option<&Solved>) -> Str
             format!("{}{} W", each.collect::<String>(), digits(measure(solved)))
         }
     };
-    let change = before.map(|before| 100.0 * (measure(solved) / measure(before) - 1.0));
-    let change = match change {
-        Some(change) if change.is_finite() => format!(", {change:+.3} in 100"),
+    let moved = before.map(|before| 100.0 * change(solved, before));
+    let moved = match moved {
+        Some(moved) if moved.is_finite() => format!(", {moved:+.3} in 100"),
         _ => String::new(),
     };
     format!(
-        "round {round}: {} leaves, {words}{change}",
+        "round {round}: {} leaves, {words}{moved}",
         solved.net.cells.len()
     )
+}
+
+/// The resistance between two terminals, otherwise the power.
+fn measure(solved: &Solved) -> f64 {
+    solved.ohms().unwrap_or_else(|| solved.solution.watts())
+}
+
+/// By which share that differs; no number where there was none.
+fn change(solved: &Solved, before: &Solved) -> f64 {
+    measure(solved) / measure(before) - 1.0
 }
 
 /// The board with what was split, in the form in which it was given.
 fn kept(given: &Given, mesh: &Mesh) -> Result<Vec<u8>, String> {
     match given.text() {
-        Some(own) => {
-            let more: Vec<usize> = mesh.splits().skip(given.board.splits.len()).collect();
-            Ok(text::with_splits(own, &more).into_bytes())
-        }
+        Some(own) => text_of(given, own, mesh),
         None => record_of(&mesh.board()).map_err(|why| given.said(&why)),
     }
+}
+
+/// The text as it stands, with regions behind it; with ids where no regions give the same mesh.
+fn text_of(given: &Given, own: &str, mesh: &Mesh) -> Result<Vec<u8>, String> {
+    let first = Mesh::unjudged(&given.board).map_err(|why| given.blame(&why))?;
+    let text = match first.regions_to(mesh) {
+        Some(mut regions) => {
+            if has_one_layer(mesh) {
+                let everywhere = |region: &mut Region| region.layer = None;
+                regions.iter_mut().for_each(everywhere);
+            }
+            text::with_regions(own, &regions, given.pitch())
+        }
+        None => {
+            let more: Vec<usize> = mesh.splits().skip(given.board.splits.len()).collect();
+            text::with_splits(own, &more)
+        }
+    };
+    Ok(text.into_bytes())
+}
+
+fn has_one_layer(mesh: &Mesh) -> bool {
+    let layers = &mesh.polygons().layers;
+    layers.iter().all(|layer| *layer == layers[0])
 }
 
 fn record_of(board: &Board) -> Result<Vec<u8>, leafmesh::Refusal> {

@@ -1,5 +1,6 @@
 //! What flows between a board's terminals, as tables to be read.
 
+use crate::cuts::{Shown, Tables};
 use crate::{given, TERMINAL};
 use leafmesh::solving::Flow;
 use leafmesh::tool::{digits, By, Command, Given, Solved, Stop, Switch, Takes, Words, SNAP};
@@ -8,39 +9,73 @@ use std::fmt::{self, Write};
 
 /// By conductances.
 const NET: Switch = ("--net", Takes::Nothing);
+/// How many necks are shown.
+const NECKS: Switch = ("--necks", Takes::Word);
 
 pub const SOLVE: Command = Command {
     name: "solve",
     help: concat!(
         "\
-usage: board solve [FILE] [--net] [--terminal WORDS] .. [--snap PITCH] [-o FILE]
+usage: board solve [FILE] [--net] [--necks N|all] [--terminal WORDS] ..
+                   [--snap PITCH] [-o FILE]
 
 What flows between a board's terminals: their volts and amperes, the power in
-all, the hottest leaf, and of each link the current from its first end to its
-second.
+all, the hottest leaf, what flows through the lines that the text names
+(`across`) and through the necks of its copper, and of each link the current
+from its first end to its second.
 
+  --necks N|all     so many necks, those of the largest mean sheet current, or
+                    all; 10 without it
   --net             by the net's conductances (docs/CONDUCTANCES.md) and not by
-                    elements on its cells
+                    elements on its cells; without lines and necks
 ",
         terminal_help!()
     ),
-    switches: &[NET, TERMINAL, SNAP],
+    switches: &[NET, NECKS, TERMINAL, SNAP],
     make: solve,
 };
 
 fn solve(words: &Words) -> Result<Vec<u8>, Stop> {
+    let shown = shown(words)?;
     let given = given(words)?;
     let by = if words.has(NET.0) { By::Net } else { By::Cells };
     let solved = given.solved(by, "board solve")?;
+    let tables = match by {
+        By::Cells => Some(Tables::of(&given, &solved)?),
+        By::Net => None,
+    };
     let currents = currents_of(&given, &solved).map_err(|why| given.said(&why))?;
     let mut text = String::new();
     put_terminals(&solved, &mut text).expect(TAKES_ALL);
     put_power(&given, &solved, &mut text).expect(TAKES_ALL);
+    if let Some(tables) = tables {
+        let put = tables.put(&given, &solved, shown, &mut text);
+        put.expect(TAKES_ALL);
+    }
     put_currents(&currents, &mut text).expect(TAKES_ALL);
     Ok(text.into_bytes())
 }
 
 const TAKES_ALL: &str = "a string takes all text";
+
+/// How many necks are asked for.
+fn shown(words: &Words) -> Result<Shown, Stop> {
+    let Some(word) = words.one(NECKS.0) else {
+        return Ok(Shown::First(10));
+    };
+    if words.has(NET.0) {
+        return Err(Stop::Senseless(
+            "--necks says nothing beside --net".to_string(),
+        ));
+    }
+    match word.parse() {
+        Ok(count) => Ok(Shown::First(count)),
+        Err(_) if word == "all" => Ok(Shown::All),
+        Err(_) => Err(Stop::Senseless(format!(
+            "--necks takes a whole number or all, not {word}"
+        ))),
+    }
+}
 
 fn put_terminals(solved: &Solved, text: &mut String) -> fmt::Result {
     let all = &solved.solution.terminals;
