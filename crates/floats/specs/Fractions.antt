@@ -1,8 +1,9 @@
 -- Fractions in binary64: the operations, each rounded once, and the rules' ranges of a resistance and a potential.
-use Rattle.std.specs.Prelude.{ℕ, ◌^◌, Bool, false, not, ◌&&◌, pos, Float}
+use Rattle.std.specs.Prelude.{ℕ, Bool, false, not, ◌&&◌, pos, Float}
 use Rattle.std.specs.Float.Ieee as Ieee
 use Rattle.std.specs.Float.{nan, inf, fin, binary64}
 use Rattle.std.specs.Float.Ieee.{is_nan}
+pub use Rattle.refusals.specs.Limits.{sheet_low, sheet_high, peak}
 
 -- product, quotient, sum and difference, each rounded once
 abbrev pub ◌·◌ : Float → Float → Float
@@ -25,25 +26,11 @@ infixl 6 ◌⊖◌
 abbrev pub float : ℕ → Float
 float n = Ieee.of_int binary64 (pos n)
 
--- the fraction a / b
-abbrev pub ratio : ℕ → ℕ → Float
-ratio a b = Ieee.round binary64 false a b
-
--- the rules: r_sheet from 2^-40 to 2^40
-abbrev pub sheet_low : Float
-sheet_low = ratio 1 (2 ^ 40)
-
-abbrev pub sheet_high : Float
-sheet_high = ratio (2 ^ 40) 1
-
--- a NaN compares with nothing, so it is out of range
+-- r_sheet in the rules' range. A NaN compares with nothing, so it is out of range
 unfoldable pub in_sheet : Float → Bool
 in_sheet r = Ieee.le sheet_low r && Ieee.le r sheet_high
 
--- the rules: a potential is finite, and of a magnitude of at most 2^20
-abbrev pub peak : Float
-peak = ratio (2 ^ 20) 1
-
+-- a potential in the rules' range: finite, and of a magnitude of at most `peak`
 unfoldable pub in_potential : Float → Bool
 in_potential u = Ieee.le (Ieee.neg peak) u && Ieee.le u peak
 
