@@ -50,22 +50,20 @@ def changes(text):
     return pairs
 
 
-def put(crate, text):
-    """Makes an edit in a crate's folder. Returns what its files held."""
-    held = {}
+def edited(crate, text):
+    """What an edit makes of the files that it changes in a crate's folder, by their paths."""
+    files = {}
     for file, old, new in changes(text):
         path = os.path.join(crate, file)
-        now = read(path)
-        held.setdefault(path, now)
+        now = files.get(path) or read(path)
         if now.count(old.encode()) != 1:
             raise ValueError(f"no such text, or more than once: {old!r}")
-        write(path, now.replace(old.encode(), new.encode()))
-    return held
+        files[path] = now.replace(old.encode(), new.encode())
+    return files
 
 
 def lay_tests(folder, module=None):
-    """The crate of all calls in the copy: all of it, or one file of tests with the crates that it names, which is sooner
-    compiled."""
+    """The crate of all calls in the copy: all of it, or one file of tests with the crates that it names, for speed."""
     crate = os.path.join(folder, "crates", CALLS)
     shutil.rmtree(crate)
     shutil.copytree(os.path.join(ROOT, "crates", CALLS), crate, ignore=shutil.ignore_patterns("out"))
@@ -104,7 +102,8 @@ def seen_by(folder, program, wanted=None):
     if differs is None:
         return None
     byte, said = differs
-    return case_at(folder, program, byte).replace(f"{program}, ", f"{program}: ", 1) if byte >= 0 else f"{program}: {said}"
+    where = case_at(folder, program, byte).removeprefix(f"{program}, ") if byte >= 0 else said
+    return f"{program}: {where}"
 
 
 def result_of(folder, name):
@@ -113,7 +112,9 @@ def result_of(folder, name):
     said = SEEN.search(text)
     held = {}
     try:
-        held = put(os.path.join(folder, "crates", name.split("/")[0]), text)
+        for path, data in edited(os.path.join(folder, "crates", name.split("/")[0]), text).items():
+            held[path] = read(path)
+            write(path, data)
         if said:
             seen = seen_by(folder, said.group(1), said.group(2))
             return seen or "NOT SEEN there", bool(seen) and seen.startswith(f"{said.group(1)}: {said.group(2)}")
