@@ -2,6 +2,7 @@
 use Rattle.std.proofs.Common.{◌≡◌, subst, true, false, None, ◌⊎◌, inl, inr, List, ℕ, ◌+◌, ◌<◌, ◌≤◌, arith, length}
 use mathlib.Core.Logic.{by_cases}
 use native.Mathlib.Decide.{dec_lt, ℕ_discrete}
+use Rattle.refusals.specs.Limits.{max_slots}
 use Rattle.table.specs.Mesh.{Cell, at}
 use Rattle.table.specs.Formed.{Formed}
 use Rattle.table.proofs.Meshes.{root_in}
@@ -62,5 +63,5 @@ roots_less M t formed i below o j e =
 pub root-inside : (s : Around) (i : ℕ) → i < s.roots.now.end → i < s.table.head.count
 root-inside s i h = omega (arith, s.indexed.inside, length-table s.table.row.now s.table.head.count)
 
-pub root-few : (s : Around) (i : ℕ) → i < s.roots.now.end → i < 16384
+pub root-few : (s : Around) (i : ℕ) → i < s.roots.now.end → i < max_slots
 root-few s i h = omega (arith, root-inside s i h, s.table.within, s.table.slots)
