@@ -1,4 +1,5 @@
 use Rattle.std.proofs.Common.{ℕ, ◌+◌, ◌<◌, ◌≤◌, ◌≡◌, arith, subst, List, length}
+use Rattle.refusals.specs.Limits.{widest_level}
 use Rattle.table.specs.Mesh.{Cell, at}
 use Rattle.table.specs.Tables.{cells}
 use Rattle.table.specs.declared.view.Table.{Table}
@@ -24,7 +25,7 @@ near g t p levels old new e f h x =
     (subst (λ (y : ℕ). Marked (λ (a : ℕ). a < y) (Wanted (cells g.table) g.cell levels) old new) h x))
 
 -- no cell is finer than the widest level
-low : (t : Table) (p : ℕ) → p < t.head.count → (at (cells t) p).level ≤ 12
+low : (t : Table) (p : ℕ) → p < t.head.count → (at (cells t) p).level ≤ widest_level
 low t p h =
     let l = length-table t.row.now t.head.count in
     omega (
