@@ -265,6 +265,26 @@ static void skyline(size_t n, int64_t unit, size_t heights)
     one_polygon(n);
 }
 
+/* The same number whenever the program runs, and no order to be seen in them. */
+static uint64_t drawn(uint64_t below)
+{
+    static uint64_t state = 1;
+    state = state * 6364136223846793005u + 1442695040888963407u;
+    return (state >> 33) % below;
+}
+
+/* A ring of n points, an even number, that goes to and fro: its edges stand in no order, and cross. */
+static void tangle(size_t n, int64_t unit, size_t heights)
+{
+    for (size_t i = 0; i < n; i += 2) {
+        points[i].x = points[i + 1].x = unit * (int64_t)drawn(n);
+        points[i + 1].y = unit * (int64_t)drawn(heights);
+        points[i + 2].y = points[i + 1].y;
+    }
+    points[0].y = points[n - 1].y;
+    one_polygon(n);
+}
+
 /* Sixteen by sixteen squares with gaps between them. */
 static void many_squares(int64_t side)
 {
@@ -349,6 +369,8 @@ static void measure_contact(void)
 
 static void measure_strips(size_t n, const char *name)
 {
+    tangle(n - n % 2, 1, 64);
+    MEASURE(leafmesh_strips, strips);
     skyline(n, 1, 64);
     MEASURE(leafmesh_strips, strips);
     rect_room = 0;
@@ -386,6 +408,11 @@ static void measure_build(void)
     measure_boards();
     many_squares(16);
     measure_boards();
+    /* Edges in no order take the sort deepest. */
+    for (int i = 0; i < 64; i++) {
+        tangle(LEAFMESH_RING_POINTS, 8, 4);
+        measure_boards();
+    }
     print_row("build, a ring of 1,024 points or 256 rings of 4");
 }
 

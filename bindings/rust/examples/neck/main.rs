@@ -1,6 +1,6 @@
 //! A neck between two pads, from an outline in millimetres on: refined where the most power is, round by round, each
-//! round solved twice on the same cells, by bilinear elements and by the net's conductances, and both held
-//! against a fine uniform grid.
+//! round solved twice on the same cells, by bilinear elements and by the net's conductances, and both held against the
+//! middle of two bounds that a fine uniform grid gives.
 //!
 //! `cargo run --release --example neck FOLDER` leaves pictures of the last but one round there, neck.svg (its mesh),
 //! neck-power.svg (power density at 10 A) and neck-borders.svg (the same with the borders of its cells), and neck.vtk
@@ -31,10 +31,10 @@ const ROUNDS: usize = 8;
 const PICTURED: usize = 7;
 /// A round splits so many of the leaves, those of the largest power.
 const SHARE: f64 = 1.0 / 6.0;
-/// Squares of the uniform grid along one pitch.
-const FINE: usize = 32;
+/// Squares of the uniform grids along one pitch.
+const FINE: [usize; 2] = [16, 32];
 
-/// Pads of 12 by 6 mm and a neck of 2 by 6 mm between them.
+/// Pads of 12 by 6 mm and a neck of 2 by 6 mm between them. The first edge is the lower end.
 const OUTLINE: [[f64; 2]; 12] = [
     [0.0, 0.0],
     [12.0, 0.0],
@@ -50,17 +50,24 @@ const OUTLINE: [[f64; 2]; 12] = [
     [0.0, 6.0],
 ];
 
+/// The edge of the outline that is its upper end.
+const UPPER: usize = 6;
+
 fn main() -> ExitCode {
     output::end("neck", run())
 }
 
 fn run() -> Result<(), Box<dyn Error>> {
     let mut out = Output;
-    let squares = uniform::squares(&OUTLINE, PITCH / FINE as f64)?;
-    writeln!(
-        out,
-        "uniform grid of {FINE} by {FINE} cells a pitch: {squares:.4} squares"
-    )?;
+    let mut squares = 0.0;
+    for fine in FINE {
+        let [low, high] = uniform::bounds(&OUTLINE, UPPER, PITCH / fine as f64)?;
+        squares = (low + high) / 2.0;
+        writeln!(
+            out,
+            "uniform grid of {fine} by {fine} cells a pitch: {low:.4} to {high:.4} squares, middle {squares:.4}"
+        )?;
+    }
     writeln!(out, "round leaves   elements, in 100 off   net, in 100 off")?;
     let mut mesh = base_cells()?;
     for round in 0..=ROUNDS {

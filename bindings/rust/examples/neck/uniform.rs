@@ -4,9 +4,16 @@ use leafmesh::solving::{Drive, Held, System};
 use leafmesh::{Cell, Net, Node};
 use std::collections::BTreeMap;
 use std::error::Error;
+use std::ops::Range;
 
-/// The resistance from the bottom to the top of an outline at one ohm a square, in cells of `side` millimetres.
-pub fn squares(outline: &[[f64; 2]], side: f64) -> Result<f64, Box<dyn Error>> {
+/// Between what the resistance of an outline lies, at one ohm a square, in cells of `side` millimetres, from the edge of
+/// the ring that begins at its first point to the one that begins at the point numbered `out`.
+///
+/// At 1 V between two ends elements never take less power than the copper does, so between the two edges they say a
+/// resistance that is too low. What stands between them on the ring are the two sides along which the current flows, and
+/// 1 V between those makes potential of current and current of potential: the copper then takes as many watts as its
+/// resistance from edge to edge has ohms, and elements say no less.
+pub fn bounds(outline: &[[f64; 2]], out: usize, side: f64) -> Result<[f64; 2], Box<dyn Error>> {
     let whole = |length: f64| (length / side).round() as i64;
     let ring: Vec<[i64; 2]> = outline.iter().map(|point| point.map(whole)).collect();
     let most = |axis: usize| ring.iter().map(|point| point[axis]).max().unwrap_or(0);
@@ -32,21 +39,36 @@ pub fn squares(outline: &[[f64; 2]], side: f64) -> Result<f64, Box<dyn Error>> {
             });
         }
     }
-    let row = |y: i64, volts: f64| {
-        let own = nodes.iter().enumerate().filter(|(_, node)| node.y == y);
-        Held {
-            terminal: format!("row {y}"),
-            nodes: own.map(|(number, _)| number).collect(),
-            drive: Drive::Volts(volts),
-        }
-    };
-    let held = [row(0, 0.0), row(most(1), 1.0)];
     let net = Net {
         nodes,
         cells,
         ..Net::default()
     };
-    Ok(1.0 / System::of_cells(&net)?.solve(&held)?.watts())
+    let system = System::of_cells(&net)?;
+    let watts = |low: Range<usize>, high: Range<usize>| -> Result<f64, Box<dyn Error>> {
+        let held = [(low, 0.0), (high, 1.0)].map(|(edges, volts)| Held {
+            terminal: format!("edges {edges:?}"),
+            nodes: nodes_on(&ring, edges, &net.nodes),
+            drive: Drive::Volts(volts),
+        });
+        Ok(system.solve(&held)?.watts())
+    };
+    let along = watts(0..1, out..out + 1)?;
+    let across = watts(1..out, out + 1..ring.len())?;
+    Ok([1.0 / along, across])
+}
+
+/// The nodes on some edges of the ring, by the numbers of the points at which they begin.
+fn nodes_on(ring: &[[i64; 2]], edges: Range<usize>, nodes: &[Node]) -> Vec<usize> {
+    let is_on = |node: &Node, edge: usize| {
+        let (a, b) = (ring[edge], ring[(edge + 1) % ring.len()]);
+        [node.x, node.y]
+            .into_iter()
+            .enumerate()
+            .all(|(axis, at)| (a[axis].min(b[axis])..=a[axis].max(b[axis])).contains(&at))
+    };
+    let on = |&number: &usize| edges.clone().any(|edge| is_on(&nodes[number], edge));
+    (0..nodes.len()).filter(on).collect()
 }
 
 /// Whether the square from (x, y) to (x + 1, y + 1) is copper: an odd number of edges stand to its right.
