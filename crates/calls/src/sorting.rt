@@ -1,5 +1,5 @@
 //! Entries in order, whatever is said of their columns, and however wide these are.
-ghost use Rattle.std.specs.Prelude.{length, slice_index};
+ghost use Rattle.std.specs.Prelude.{[], length, slice_index_or};
 
 use sorted::{Entries, Span, sort_entries, sort_entries_within};
 
@@ -11,7 +11,7 @@ struct Rows<'a> {
 impl Entries<3> for Rows<'_> {
     ghost count = { λ s. length s.rows.now };
 
-    ghost entry = { λ s i. slice_index s.rows.now i };
+    ghost entry = { λ s i. slice_index_or s.rows.now i [] };
 
     fn entry(&self, i: usize) -> [u64; 3] {
         self.rows[i]
