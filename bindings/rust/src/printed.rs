@@ -2,10 +2,11 @@
 
 mod corners;
 
-use crate::sides::has_side;
+use crate::merging::{first_overlap, Overlap};
+use crate::sides::{corners_of, has_side};
 use crate::{
     borders, Board, Cell, Edge, Hanging, Head, LeafBorder, Mesh, Net, NetRows, Node, Outlines,
-    Rect, Refusal, Table, Unmeshed, COORDINATE, MAX_LEVEL, NO_CELL,
+    Point, Polygons, Rect, Refusal, Table, Unmeshed, COORDINATE, MAX_LEVEL, NO_CELL,
 };
 use std::fmt::Write;
 
@@ -320,13 +321,40 @@ fn named(
     Ok(leaf.map(|leaf| (leaf.id, hanging)))
 }
 
+/// Two leaves of one layer and component that have an area in common, by their ids, the earlier one first, and the place
+/// as [`Overlap`] has it. A polygon whose copper may be of several layers or components is passed over.
+///
+/// # Errors
+///
+/// In words: the text isn't leafnet's.
+pub fn overlapping(printed: &Printed) -> Result<Option<([usize; 2], Point)>, String> {
+    let mut ids = Vec::new();
+    let mut squares = Polygons::default();
+    for polygon in corners::polygons(printed)? {
+        if let [Copper { layer, component }] = polygon.coppers[..] {
+            for leaf in polygon.leaves {
+                ids.push(leaf.id);
+                squares.push(layer, component, 1.0, &corners_of(leaf.rect));
+            }
+        }
+    }
+    let overlap = first_overlap(squares.outlines());
+    Ok(overlap.map(|Overlap { polygons, place }| (polygons.map(|at| ids[at]), place)))
+}
+
 /// The text of a net that can be used.
 ///
 /// # Errors
 ///
-/// In words: those of [`read`] and [`loose`], and the first node that [`loose`] finds.
+/// In words: those of [`read`], [`loose`] and [`overlapping`], and the first leaves or node that these find.
 pub fn read_sound(text: &str) -> Result<Printed, String> {
     let printed = read(text)?;
+    if let Some(([first, second], [x, y])) = overlapping(&printed)? {
+        return Err(format!(
+            "leaf {second} overlaps leaf {first} from ({x}, {y}) on: copper of one layer and component is drawn once \
+             (`board merge` unites the polygons of a text)"
+        ));
+    }
     match loose(&printed)? {
         None => Ok(printed),
         Some((leaf, Hanging { node, from, to })) => Err(format!(

@@ -241,7 +241,8 @@ fn sample_boards() {
         let mesh = Mesh::unjudged(&board).expect("a mesh");
         let all = mesh.borders();
         assert!(all.len() >= least, "{name}: {}", all.len());
-        let printed = printed::show(&board).expect("a net");
+        let net = mesh.unjudged_net().expect("a net");
+        let printed = printed::show_mesh(&board, &mesh, &net);
         let printed = printed::read(&printed).expect("leafnet's text");
         assert_eq!(printed.borders(), Ok(all.clone()), "{name}");
         let mut row = mesh.row().to_vec();

@@ -12,8 +12,8 @@ use std::io::Write;
 use std::os::unix::ffi::OsStrExt;
 use std::process::{Command, Stdio};
 
-const COMMANDS: [&str; 8] = [
-    "pack", "unpack", "net", "vtk", "msh", "csv", "solve", "refine",
+const COMMANDS: [&str; 9] = [
+    "pack", "unpack", "net", "vtk", "msh", "csv", "solve", "refine", "merge",
 ];
 
 /// A text whose record has no byte that is a newline, at which a buffer would be written out.
@@ -34,6 +34,7 @@ fn works() -> Vec<(&'static str, Vec<&'static str>, Vec<u8>)> {
     let mut works = vec![
         (BOARD, vec!["pack"], SQUARE.to_vec()),
         (BOARD, vec!["unpack"], record.clone()),
+        (BOARD, vec!["merge"], SQUARE.to_vec()),
         (DRAW, vec![], net.clone()),
         (DRAW, vec!["-"], record.clone()),
         (DRAW, with_terminals(&["-", "--power"]), record.clone()),

@@ -55,7 +55,7 @@ fn every_command_and_option_is_on_the_page() {
     let page = page();
     let help = text_made(BOARD, &["--help"], b"");
     let commands = listed(&help);
-    assert_eq!(commands.len(), 8);
+    assert_eq!(commands.len(), 9);
     let mut options = vec![
         "-o".to_string(),
         "--help".to_string(),

@@ -329,7 +329,7 @@ fn borders_are_lines_with_their_lengths() {
         let board = text::parse_whole(&words.expect("a sample"))
             .expect("a board")
             .board;
-        let mesh = Mesh::of_board(&board).expect("a mesh");
+        let mesh = Mesh::unjudged(&board).expect("a mesh");
         let borders = mesh.borders();
         let svg = picture_with_borders(&mesh);
         let lines = lines_of(&svg);

@@ -57,7 +57,7 @@ fn another_boards_record_or_potentials_are_told() {
     for other in [
         "comb.record",
         "two_layers.record",
-        "overlap.txt",
+        "across.txt",
         "deep.record",
     ] {
         let file = sample(other);

@@ -177,7 +177,7 @@ impl Fault {
             return Some(Fault {
                 part: Some(cut.part(polygon)),
                 words: format!(
-                    "{cell} is no multiple of {step} ({level}): the nearest is {nearest}"
+                    "{cell}, is no multiple of {step} ({level}): the nearest is {nearest}"
                 ),
             });
         }
@@ -191,8 +191,11 @@ impl Fault {
         };
         let what = match long as u64 > cut.cell {
             true => cell,
-            false => format!("{step} ({level}):"),
+            false => format!("{step} ({level})"),
         };
+        let fitting = cut.fitting(ring).map_or(String::new(), |fitting| {
+            format!(", and {} fit all sides of the ring", unit.show(fitting))
+        });
         let nearest = unit.show(nearest(long, of as i64));
         let (size, long) = (unit.show_size(size), unit.show(long));
         Some(Fault {
@@ -201,7 +204,7 @@ impl Fault {
                 point: west_of(ring, strip),
             }),
             words: format!(
-                "a strip of {size} is {long} {way}, no multiple of {what} the nearest is {nearest}"
+                "a strip of {size} is {long} {way}, no multiple of {what}: the nearest is {nearest}{fitting}"
             ),
         })
     }
@@ -331,16 +334,28 @@ impl Cut {
         }
     }
 
+    /// "the cell of layer 1, 0.5 mm".
     fn in_words(&self, unit: Unit) -> String {
         let cell = unit.show(self.cell as i64);
         match (self.entry, unit.0) {
-            (Some(_), _) => format!("the cell of layer {}, {cell},", self.layer),
-            (None, Some(_)) => format!("the pitch, {cell},"),
+            (Some(_), _) => format!("the cell of layer {}, {cell}", self.layer),
+            (None, Some(_)) => format!("the pitch, {cell}"),
             (None, None) if self.cell == 1 => {
-                "the target, 1 tick where no line says it,".to_string()
+                "the target, 1 tick where no line says it".to_string()
             }
-            (None, None) => format!("the target, {cell},"),
+            (None, None) => format!("the target, {cell}"),
         }
+    }
+
+    /// The largest cell of which all sides of a ring are multiples, if it can be split often enough.
+    fn fitting(&self, ring: &[Point]) -> Option<i64> {
+        let next = ring.iter().cycle().skip(1);
+        let sides = ring.iter().zip(next);
+        let long = |([ax, ay], [bx, by]): (&Point, &Point)| (ax - bx).abs() + (ay - by).abs();
+        let common = sides
+            .map(long)
+            .fold(0, |common, side| divisor(common, side));
+        (common > 0 && common % self.step as i64 == 0).then_some(common)
     }
 
     /// The first side of a ring that is longer than a cell and no multiple of it, with the nearest length that is.
@@ -353,7 +368,7 @@ impl Cut {
             sides.find(|(from, to)| long(from, to) > cell && long(from, to) % cell != 0)?;
         let own = long(from, to);
         Some(format!(
-            "; its side from {} to {} is {} long, no multiple of {} the nearest is {}",
+            "; its side from {} to {} is {} long, no multiple of {}: the nearest is {}",
             unit.show_point(*from),
             unit.show_point(*to),
             unit.show(own),
@@ -372,6 +387,14 @@ fn nearest(long: i64, of: i64) -> i64 {
         below
     };
     whole.max(1) * of
+}
+
+/// The largest common divisor.
+fn divisor(a: i64, b: i64) -> i64 {
+    match b {
+        0 => a,
+        _ => divisor(b, a % b),
+    }
 }
 
 /// "level 3", or that it is the default.

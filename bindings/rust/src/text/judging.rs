@@ -13,7 +13,8 @@ impl Whole {
         if self.board.polygons.is_empty() {
             return Err(Unclear {
                 line: None,
-                words: "there is no polygon".to_string(),
+                words: "there is no polygon: a line `polygon LAYER COMPONENT OHMS`, and behind it a line for each point"
+                    .to_string(),
             });
         }
         self.judge_rings()?;

@@ -199,7 +199,6 @@ pub(super) fn way_out(
     let Some(off) = lengths.iter().find(is_off) else {
         return String::new();
     };
-    let own = pitch.millimetres(pitch.target() as i64);
     let mut ways = Vec::new();
     if let (Some((layer, cell)), true) = (cell, head.is_empty()) {
         let cell = pitch.short(cell);
@@ -209,7 +208,7 @@ pub(super) fn way_out(
             "by the cell of layer {layer}, {cell} mm, it is {nearest} mm"
         ));
     }
-    let largest = largest_pitch(text, level).filter(|&largest| largest < own);
+    let largest = largest_pitch(text, level);
     ways.extend(
         largest.map(|largest| format!("the largest pitch that fits all points is {largest} mm")),
     );

@@ -77,7 +77,7 @@ fn assert_comes_back(mesh: &Mesh) {
 fn the_meshes_of_all_sample_boards_come_back() {
     for (name, text) in sample_texts() {
         let board = text::parse_whole(&text).expect(&name).board;
-        assert_comes_back(&Mesh::of_board(&board).expect(&name));
+        assert_comes_back(&Mesh::unjudged(&board).expect(&name));
     }
 }
 
@@ -219,7 +219,7 @@ fn a_refined_mesh_comes_back_from_its_text_with_splits_behind_it() {
     let texts = texts.iter().map(|(_, text)| text.as_str()).chain([LINKED]);
     for text in texts {
         let whole = text::parse_whole(text).expect("a board");
-        let mut mesh = Mesh::of_board(&whole.board).expect("a mesh");
+        let mut mesh = Mesh::unjudged(&whole.board).expect("a mesh");
         let coarse: Vec<usize> = mesh
             .leaves()
             .filter(|leaf| leaf.level < mesh.head().max_level)
@@ -248,7 +248,7 @@ fn a_refined_mesh_comes_back_from_its_text_with_splits_behind_it() {
                     ..whole.board.clone()
                 }
             );
-            assert_eq!(Mesh::of_board(&again.board).as_ref(), Ok(&mesh));
+            assert_eq!(Mesh::unjudged(&again.board).as_ref(), Ok(&mesh));
         }
     }
 }

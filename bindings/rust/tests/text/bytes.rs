@@ -88,9 +88,12 @@ fn records_of_other_versions_are_told() {
         assert_eq!(refused(&other), words);
     }
     let why = text::read_record(&record()[..9]).expect_err("a part");
-    assert!(why.words.starts_with("refused 2 1: "), "{why}");
+    assert!(
+        why.words.starts_with("byte 1, length of what follows: "),
+        "{why}"
+    );
     let why = text::read_record(b"").expect_err("nothing");
-    assert!(why.words.starts_with("refused 2 0: "), "{why}");
+    assert_eq!(why.words, "the record is empty");
 }
 
 #[test]

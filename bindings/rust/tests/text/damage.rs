@@ -106,7 +106,7 @@ fn assert_names_a_line(why: &Unclear, bytes: &[u8]) {
         None => {
             let words = why.words.as_str();
             assert!(
-                words == "there is no polygon"
+                words.starts_with("there is no polygon: ")
                     || words.starts_with("this is a record")
                     || words.starts_with("a record of version"),
                 "{why}"

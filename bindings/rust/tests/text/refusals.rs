@@ -237,7 +237,11 @@ fn the_first_part_too_many_is_told() {
 #[test]
 fn a_board_has_polygons_and_a_polygon_four_points() {
     for text in ["", "\n", "# nothing\n", "level 2\ntarget 8\nlayer 1 8\n"] {
-        assert_eq!(unclear(text), "there is no polygon");
+        let said = unclear(text);
+        assert!(
+            said.starts_with("there is no polygon: a line `polygon "),
+            "{said}"
+        );
     }
     for count in 0..4 {
         let points = &["0 0\n", "8 0\n", "8 8\n"].concat()[..4 * count];
@@ -285,7 +289,11 @@ fn terminals_that_cannot_be_are_told_by_their_line() {
         ("", senseless),
         ("in", senseless),
         ("in 10 A", senseless),
-        ("in 10 mA end 1 0 west", senseless),
+        (
+            "in 10 mA end 1 0 west",
+            "\"10 mA\": a value and its unit are two words",
+        ),
+        ("in 10 W end 1 0 west", senseless),
         ("in 10 A end 1 0 up", senseless),
         ("in 10 A end 1 0", senseless),
         ("in 10 A pad", senseless),
@@ -425,19 +433,25 @@ fn an_uneven_base_cell_is_told_with_its_strip() {
     let square = |level: &str, target: u32| {
         format!("{level}target {target}\npolygon 1 0 1\n0 0\n40 0\n40 8\n0 8\n")
     };
-    let strip = |cells: &str, rest: &str| {
-        format!("a strip of 40 by 8 ticks has {cells} base cells, whose sides must be multiples of {rest}")
-    };
-    for (level, target, words) in [
-        ("level 3\n", 8, strip("5 by 1", "16 ticks (level 3)")),
-        ("level 2\n", 12, strip("4 by 1", "8 ticks (level 2)")),
-        ("", 8, strip("5 by 1", "32 ticks (level 4, the default)")),
+    for (level, target, line, words) in [
+        ("level 3\n", 8, 2, "the target, 8 ticks, is no multiple of 16 ticks (level 3): the nearest is 16 ticks"),
+        ("level 2\n", 12, 2, "the target, 12 ticks, is no multiple of 8 ticks (level 2): the nearest is 16 ticks"),
+        ("", 8, 1, "the target, 8 ticks, is no multiple of 32 ticks (level 4, the default): the nearest is 32 ticks"),
     ] {
         let text = square(level, target);
-        let line = 2 + level.lines().count();
         assert_eq!(refused(text.as_bytes()), format!("line {line}: {words}"));
         let record = text::pack(&text).expect("a record");
-        assert_eq!(refused(&record), format!("polygon 0: {words}"));
+        assert_eq!(refused(&record), format!("target: {words}"));
+    }
+    // A strip that is smaller than a cell, and one that is larger and no multiple.
+    for (target, words) in [
+        (64, "a strip of 40 by 8 ticks is 40 ticks wide, no multiple of 16 ticks (level 3): the nearest is 48 ticks"),
+        (32, "a strip of 40 by 8 ticks is 40 ticks wide, no multiple of the target, 32 ticks: the nearest is 32 ticks"),
+    ] {
+        let text = square("level 3\n", target);
+        assert_eq!(refused(text.as_bytes()), format!("line 4: {words}"));
+        let record = text::pack(&text).expect("a record");
+        assert_eq!(refused(&record), format!("polygon 0, point 0: {words}"));
     }
     // In millimetres: cells of 0.75 mm are wanted of a strip of 0.75 mm, and of one of 1.25 mm, which gets two.
     let text =
@@ -445,8 +459,8 @@ fn an_uneven_base_cell_is_told_with_its_strip() {
     let said = refused(text.as_bytes());
     assert_eq!(
         said,
-        "line 4: a strip of 1.25 by 0.75 mm has 2 by 1 base cells, whose sides must be multiples of 0.0000298 mm, \
-         8192 ticks (level 12)"
+        "line 5: a strip of 1.25 by 0.75 mm is 1.25 mm wide, no multiple of the cell of layer 1, 0.75 mm: the nearest is \
+         1.5 mm, and 0.25 mm fit all sides of the ring"
     );
 }
 
@@ -459,7 +473,7 @@ fn a_board_without_a_level_is_of_the_default_level() {
     for side in [16, 48] {
         let said = refused(square(side).as_bytes());
         assert!(
-            said.starts_with("line 2: ") && said.contains("32 ticks (level 4, the default)"),
+            said.starts_with("line 1: ") && said.contains("32 ticks (level 4, the default)"),
             "{said}"
         );
         // As it was taken before the default was 4.
@@ -580,11 +594,15 @@ fn boards_whose_net_would_be_wrong_are_told_by_their_line() {
     let long = "level 1\npitch 0.1\npolygon 1 0 1\n0 0.1\n0 0\n30 0\n30 0.1\n1 0.1\n1 0.2\n0 0.2\n";
     assert_eq!(
         refused(long.as_bytes()),
-        "line 4: 300 pitches long; at most 256 base cells"
+        "line 4: 300 pitches long; at most 256 base cells: give layer 1 a larger cell (layer 1 0.2), take a larger pitch \
+         (0.2 mm), or draw two polygons that touch"
     );
     let record = text::pack(long).expect("a record");
-    assert_eq!(
-        refused(&record),
-        "polygon 0, point 0: 300 base cells long; at most 256 base cells"
+    let said = refused(&record);
+    assert!(
+        said.starts_with(
+            "polygon 0, point 0: 300 base cells long; at most 256 base cells: give layer 1"
+        ),
+        "{said}"
     );
 }

@@ -12,7 +12,8 @@ pub const VTK: Command = Command {
     name: "vtk",
     help: concat!(
         "\
-usage: board vtk [FILE] [--power] [--terminal WORDS] .. [--snap PITCH] [-o FILE]
+usage: board vtk [FILE] [--power] [--terminal WORDS] ..
+                    [--snap PITCH] [-o FILE]
 
 The mesh as a file for ParaView (VTK's legacy form): leaves as quads, links as
 lines.
@@ -20,7 +21,8 @@ lines.
   --power           with what flows between the terminals: watts, W_per_mm2,
                     A_per_mm, current_A_per_mm, volts, link_amperes
 ",
-        terminal_help!()
+        terminal_help!(),
+        snap_help!()
     ),
     switches: &[POWER, TERMINAL, SNAP],
     make: |words| of_mesh(words, vtk::of_linked_mesh),
@@ -30,7 +32,8 @@ pub const MSH: Command = Command {
     name: "msh",
     help: concat!(
         "\
-usage: board msh [FILE] [--power] [--terminal WORDS] .. [--snap PITCH] [-o FILE]
+usage: board msh [FILE] [--power] [--terminal WORDS] ..
+                    [--snap PITCH] [-o FILE]
 
 The mesh as a file for Gmsh (form 4.1): leaves as quads, links as lines, a
 physical group for each component of a layer and one for the links.
@@ -38,7 +41,8 @@ physical group for each component of a layer and one for the links.
   --power           with what flows between the terminals, as in the file for
                     ParaView
 ",
-        terminal_help!()
+        terminal_help!(),
+        snap_help!()
     ),
     switches: &[POWER, TERMINAL, SNAP],
     make: |words| of_mesh(words, msh::of_mesh),
@@ -48,7 +52,8 @@ pub const CSV: Command = Command {
     name: "csv",
     help: concat!(
         "\
-usage: board csv [FILE] [--power] [--terminal WORDS] .. [--snap PITCH] [-o FILE]
+usage: board csv [FILE] [--power] [--terminal WORDS] ..
+                    [--snap PITCH] [-o FILE]
 
 A line a leaf, behind a heading: its names, its sides in millimetres or ticks,
 its sheet resistance.
@@ -56,7 +61,8 @@ its sheet resistance.
   --power           with its power, W/mm2, A/mm, and the current along x and
                     along y at its centre
 ",
-        terminal_help!()
+        terminal_help!(),
+        snap_help!()
     ),
     switches: &[POWER, TERMINAL, SNAP],
     make: table,

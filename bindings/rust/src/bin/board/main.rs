@@ -11,6 +11,15 @@ macro_rules! terminal_help {
     };
 }
 
+/// What `--help` says of `--snap`.
+macro_rules! snap_help {
+    () => {
+        "  --snap PITCH      with a text's points moved to multiples of this pitch, in
+                    millimetres; each move is told on standard error
+"
+    };
+}
+
 mod cuts;
 mod files;
 mod merge;
@@ -54,21 +63,21 @@ Reads a board's text or record from a file or from standard input (no file, or
   solve    what flows between its terminals, as tables to be read
   refine   the board with its hottest leaves split, round by round
   merge    the text with its copper drawn once
-
-Beside any of them but unpack:
-  --snap PITCH  a text's points are moved to multiples of this pitch, in
-                millimetres, which becomes the text's; each move is told
 ",
 };
 
 const PACK: Command = Command {
     name: "pack",
-    help: "\
+    help: concat!(
+        "\
 usage: board pack [FILE] [--snap PITCH] [-o FILE]
 
 The record of a board's text. A text with links is refused, since a record has
 none; terminals are left out with a warning.
+
 ",
+        snap_help!()
+    ),
     switches: &[SNAP],
     make: pack,
 };
@@ -86,12 +95,16 @@ The text of a board's record, in ticks.
 
 const NET: Command = Command {
     name: "net",
-    help: "\
+    help: concat!(
+        "\
 usage: board net [FILE] [--snap PITCH] [-o FILE]
 
 Leaves, nodes and edges of a board's text or record, as leafnet prints them, of
 a board of any size and with links.
+
 ",
+        snap_help!()
+    ),
     switches: &[SNAP],
     make: net,
 };

@@ -5,15 +5,17 @@ use leafmesh::tool::{board_file, say, Command, Stop, Words, SNAP};
 
 pub const MERGE: Command = Command {
     name: "merge",
-    help: "\
+    help: concat!(
+        "\
 usage: board merge [FILE] [--snap PITCH] [-o FILE]
 
 The text with its copper drawn once: polygons of one layer, component and sheet
 resistance that overlap or border on each other are united, which is told on
 standard error. What can't mean the same any more is left out with a warning.
 
-  --snap PITCH      with its points on another pitch in millimetres first
 ",
+        snap_help!()
+    ),
     switches: &[SNAP],
     make: merge,
 };

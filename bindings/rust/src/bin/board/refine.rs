@@ -32,7 +32,8 @@ what was reached by then is written.
   --leaves M        the mesh before the round that would pass so many leaves is
                     the last
 ",
-        terminal_help!()
+        terminal_help!(),
+        snap_help!()
     ),
     switches: &[ROUNDS, UNTIL, SHARE, LEAVES, TERMINAL, SNAP],
     make: refine,

@@ -29,7 +29,8 @@ from its first end to its second.
   --net             by the net's conductances (docs/CONDUCTANCES.md) and not by
                     elements on its cells; without lines and necks
 ",
-        terminal_help!()
+        terminal_help!(),
+        snap_help!()
     ),
     switches: &[NET, NECKS, TERMINAL, SNAP],
     make: solve,
