@@ -222,10 +222,11 @@ polygon 1 0 0.0005
 0 7.5
 BOARD
 told="line 5: 300 pitches long; at most 256 base cells"
+text=$folder/long.txt
 # Of a file the tools say its name first.
 tell() {
     status=0
-    "$@" <"$folder/long.txt" >"$folder/made" 2>"$folder/said" || status=$?
+    "$@" <"$text" >"$folder/made" 2>"$folder/said" || status=$?
     [ "$status" = 1 ] || fail "$* ended with $status"
     [ ! -s "$folder/made" ] || fail "$* wrote"
     grep -qF "$told" "$folder/said" || fail "$* said: $(cat "$folder/said")"
@@ -240,5 +241,15 @@ tell rust/draw.sh "$folder/long.txt" "$folder/long"
 # A record is a record, and leafnet takes any: so pack warns.
 "$bin/board" pack <"$folder/long.txt" 2>"$folder/said" >"$folder/long.record"
 grep -qF "warning: $told" "$folder/said" || fail "board pack said: $(cat "$folder/said")"
+
+say "copper that is drawn twice is told by every tool that makes a net or a picture"
+told="line 11: overlaps the polygon of line 6 from (12, 4) on"
+text=../boards/overlap.txt
+for command in net vtk msh csv; do
+    tell "$bin/board" "$command"
+done
+tell "$bin/draw" --board "$text"
+tell rust/draw.sh "$text" "$folder/twice"
+[ ! -e "$folder/twice.svg" ] || fail "draw.sh left a picture"
 
 echo "test.sh: all as expected"
