@@ -171,7 +171,7 @@ impl Astray {
 impl fmt::Display for Astray {
     fn fmt(&self, f: &mut fmt::Formatter<'_>) -> fmt::Result {
         let ([x, y], [u, v]) = (self.place, self.nearest);
-        let link = self.link.in_words();
+        let link = self.link;
         write!(
             f,
             "{link}: {}, ({x}, {y}); the nearest is at ({u}, {v})",

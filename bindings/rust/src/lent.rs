@@ -174,6 +174,7 @@ impl<'a> Lent<'a> {
         net.cells.truncate(counts.cells);
         net.links = counts.links;
         net.joints = self.joints(outlines, links)?;
+        net.pads = links.pads()?;
         Ok(net)
     }
 

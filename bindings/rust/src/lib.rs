@@ -122,6 +122,7 @@ mod first_pages {
     struct Crate;
 }
 
+mod areas;
 mod astray;
 mod borders;
 mod covering;
@@ -153,6 +154,7 @@ pub mod tool;
 mod unmeshed;
 pub mod vtk;
 
+pub use areas::{Area, LinkEnd, Lone, Pad};
 pub use astray::{Astray, SameLayer};
 pub use borders::{borders, Border, LeafBorder, Side};
 pub use leaf::{Leaf, Region};

@@ -1,7 +1,8 @@
 //! The links of a net as the library has them in memory: contacts, vias and channels.
 
 use crate::limits::{HALF, RESISTANCE_HIGH, RESISTANCE_LOW};
-use crate::{Rect, COORDINATE};
+use crate::{Area, Rect, COORDINATE};
+use std::fmt;
 use std::mem::size_of;
 
 /// Two polygons that touch, by number: one edge of 1 S from the first node of one to the nearest node of the other.
@@ -17,7 +18,7 @@ pub struct Contact {
 
 /// A rectangle by its centre and its half sizes, in ticks; a point where one of these is 0.
 #[repr(C)]
-#[derive(Clone, Copy, Debug, Default, PartialEq, Eq)]
+#[derive(Clone, Copy, Debug, Default, PartialEq, Eq, PartialOrd, Ord)]
 pub struct Footprint {
     /// Of the centre.
     pub x: i64,
@@ -86,6 +87,8 @@ pub struct Links<'a> {
     pub channel_layer: u16,
     /// The last.
     pub channels: &'a [Channel],
+    /// Which of their ends have an area. The library knows nothing of them.
+    pub areas: &'a [Area],
 }
 
 impl Links<'_> {
@@ -106,6 +109,8 @@ pub struct OwnedLinks {
     pub channel_layer: u16,
     /// As in [`Links`].
     pub channels: Vec<Channel>,
+    /// As in [`Links`].
+    pub areas: Vec<Area>,
 }
 
 impl OwnedLinks {
@@ -116,12 +121,13 @@ impl OwnedLinks {
             vias: &self.vias,
             channel_layer: self.channel_layer,
             channels: &self.channels,
+            areas: &self.areas,
         }
     }
 }
 
 /// A link of one of the rows, by its index there.
-#[derive(Clone, Copy, Debug, PartialEq, Eq)]
+#[derive(Clone, Copy, Debug, PartialEq, Eq, PartialOrd, Ord, Hash)]
 pub enum Link {
     /// Of the contacts.
     Contact(usize),
@@ -131,19 +137,8 @@ pub enum Link {
     Channel(usize),
 }
 
-impl Link {
-    /// As texts and refusals call it: "via 3".
-    pub(crate) fn in_words(self) -> String {
-        match self {
-            Link::Contact(at) => format!("contact {at}"),
-            Link::Via(at) => format!("via {at}"),
-            Link::Channel(at) => format!("channel {at}"),
-        }
-    }
-}
-
 impl<'a> Links<'a> {
-    /// Each by itself, in their order.
+    /// Each by itself, in their order, without areas.
     pub fn each(self) -> impl Iterator<Item = (Link, Links<'a>)> {
         let none = Links {
             channel_layer: self.channel_layer,
@@ -158,6 +153,17 @@ impl<'a> Links<'a> {
         let channels =
             channels.map(move |(at, channels)| (Link::Channel(at), Links { channels, ..none }));
         contacts.chain(vias).chain(channels)
+    }
+}
+
+/// As texts and refusals call it: "via 3".
+impl fmt::Display for Link {
+    fn fmt(&self, f: &mut fmt::Formatter<'_>) -> fmt::Result {
+        match self {
+            Link::Contact(at) => write!(f, "contact {at}"),
+            Link::Via(at) => write!(f, "via {at}"),
+            Link::Channel(at) => write!(f, "channel {at}"),
+        }
     }
 }
 
@@ -185,7 +191,7 @@ impl Footprint {
         self.half_width > 0 && self.half_height > 0
     }
 
-    fn in_range(&self) -> bool {
+    pub(crate) fn in_range(&self) -> bool {
         let half = 0..=HALF;
         is_place(self.x, self.y)
             && half.contains(&self.half_width)

@@ -7,10 +7,11 @@ use crate::merging::first_overlap;
 use crate::sides::has_side;
 use crate::unmeshed::{refused, Idle, Loose, TooLong, Unmeshed};
 use crate::{
-    contact, power, Board, Border, CellName, Hanging, Head, Leaf, LeafBorder, Links, Net, NetRows,
-    Point, Polygons, Reason, Rect, Refusal, Region, Settings, Table, MAX_LEVEL, NO_CELL, SLOT,
-    SLOTS,
+    contact, power, Board, Border, CellName, Hanging, Head, Leaf, LeafBorder, Link, Links, Net,
+    NetRows, Point, Polygons, Reason, Rect, Refusal, Region, Settings, Table, MAX_LEVEL, NO_CELL,
+    SLOT, SLOTS,
 };
+use std::collections::BTreeSet;
 
 /// A table in the largest room, and the board that it was made of. Only the library writes the table, so it is always
 /// well formed.
@@ -356,7 +357,8 @@ impl Mesh {
     /// # Errors
     ///
     /// Those of [`Table::linked_network`] and of [`Mesh::net`]; for the first link that joins nothing [`Unmeshed::Idle`],
-    /// that ends on no copper [`Unmeshed::Astray`], or that is a via from a layer to itself [`Unmeshed::SameLayer`].
+    /// that has an area without its copper [`Unmeshed::BareArea`], that ends on no copper [`Unmeshed::Astray`], or that is
+    /// a via from a layer to itself [`Unmeshed::SameLayer`].
     pub fn linked_net(&self, links: Links) -> Result<Net, Unmeshed> {
         if let Some(overlap) = first_overlap(self.polygons.outlines()) {
             return Err(Unmeshed::Overlap(overlap));
@@ -365,10 +367,19 @@ impl Mesh {
         if let Some(hanging) = self.check_by_layer(net.rows())? {
             return Err(self.why_loose(&net, hanging));
         }
+        let made: BTreeSet<Link> = net.joints.iter().map(|joint| joint.link).collect();
+        let bare = net
+            .pads
+            .iter()
+            .filter(|pad| !self.leaves().any(|leaf| pad.covers(&leaf)));
+        let bare: BTreeSet<Link> = bare.map(|pad| pad.end.0).collect();
         let coppers = self.coppers();
-        for ((link, one), edges) in links.each().zip(self.edges_of_links(links)?) {
-            if edges == 0 {
+        for (link, one) in links.each() {
+            if !made.contains(&link) {
                 return Err(Unmeshed::Idle(Idle { link }));
+            }
+            if bare.contains(&link) {
+                return Err(Unmeshed::BareArea(link));
             }
             coppers.judge(link, one)?;
         }

@@ -1,6 +1,6 @@
 //! The rows of a net, as the library has them in memory.
 
-use crate::{limits, power, Link, Refusal};
+use crate::{limits, power, Link, Pad, Refusal};
 use std::mem::size_of;
 
 /// A node: layer, component, and where it stands, in ticks.
@@ -69,6 +69,8 @@ pub struct Net {
     /// Of each edge that is a link, in their order. A net of other hands may have none: then nobody knows what its
     /// links conduct, and [`System::of_cells`](crate::solving::System::of_cells) refuses it.
     pub joints: Vec<Joint>,
+    /// The ends of its links that have an area. The edges know nothing of them.
+    pub pads: Vec<Pad>,
 }
 
 impl Net {

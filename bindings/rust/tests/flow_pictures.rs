@@ -667,6 +667,7 @@ fn time_of(mesh: &Mesh) -> Duration {
         cells: vec![flow; net.cells.len()],
         edges: Vec::new(),
         edge_watts: Vec::new(),
+        lone: Vec::new(),
     };
     let held = mesh.held(&net, &across());
     let start = Instant::now();

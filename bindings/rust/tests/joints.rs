@@ -124,6 +124,7 @@ fn joints_name_their_links() {
         vias: &vias,
         channel_layer: 1,
         channels: &channels,
+        ..Links::default()
     };
     let net = mesh().unjudged_linked_net(links).expect("a net");
     let joint = |link: Link, siemens: f64| Joint { link, siemens };

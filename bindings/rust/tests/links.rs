@@ -147,6 +147,7 @@ fn a_row_short_changes_nothing_and_a_row_more_stays() {
         vias: &[via()],
         channel_layer: 1,
         channels: &[channel()],
+        ..Links::default()
     };
     let need = table
         .edge_rows(squares.outlines(), links)
@@ -223,7 +224,7 @@ fn values_at_their_limits_and_past_them() {
                 vias,
                 channels,
                 channel_layer,
-                contacts: &[],
+                ..Links::default()
             })
         };
         let both = of(&[via], &[channel], 1);

@@ -117,6 +117,8 @@ pub fn densities(mesh: &Mesh, watts: &[f64]) -> Vec<f64> {
 pub struct Flows {
     pub quantity: Quantity,
     pub cells: Vec<Flowing>,
+    /// Which cells stand at a link of one node ([`Solution::left_out`]).
+    pub left_out: Vec<bool>,
     /// Ohms a square, where all cells have as many.
     sheet: Option<f64>,
 }
@@ -129,6 +131,7 @@ impl Flows {
         Flows {
             quantity,
             cells: cells.map(|(leaf, flow)| Flowing::of(leaf, flow)).collect(),
+            left_out: solution.left_out(mesh),
             sheet: sheet.filter(|&sheet| solution.cells.iter().all(|cell| cell.sheet == sheet)),
         }
     }
@@ -156,7 +159,12 @@ impl Flows {
 
     /// The cell with the most of a quantity, as [`Solution::hottest`]. None where there is none of it.
     pub fn most(&self, quantity: Quantity) -> Option<usize> {
-        place_of_most(self.cells.iter().map(|cell| cell.value(quantity)))
+        let value = |(cell, &is_out): (&Flowing, &bool)| match is_out {
+            true => 0.0,
+            false => cell.value(quantity),
+        };
+        let values: Vec<f64> = self.cells.iter().zip(&self.left_out).map(value).collect();
+        place_of_most(values.into_iter())
     }
 }
 

@@ -166,9 +166,10 @@ fn put_most(flows: &Flows, picture: &Picture, pen: &mut Pen, text: &mut String) 
         format!("leaf {} (layer {}), {flowing}", cell.id, cell.layer)
     };
     let Some(hottest) = picture.hottest() else {
-        let words = match flows.cells.is_empty() {
-            true => "hottest: not known, since the solution has no power of a leaf",
-            false => "hottest: none, since no leaf takes power",
+        let words = match (flows.cells.is_empty(), flows.left_out.contains(&true)) {
+            (true, _) => "hottest: not known, since the solution has no power of a leaf",
+            (_, true) => "hottest: none but leaves at links of one node",
+            (false, false) => "hottest: none, since no leaf takes power",
         };
         return pen.put_line(words, text);
     };
@@ -181,6 +182,13 @@ fn put_most(flows: &Flows, picture: &Picture, pen: &mut Pen, text: &mut String) 
         text,
     )?;
     pen.break_line();
+    match flows.left_out.iter().filter(|&&is_out| is_out).count() {
+        0 => {}
+        count => {
+            let words = format!("left out: {count} leaves in base cells at links of one node");
+            pen.put_line(&words, text)?;
+        }
+    }
     let most = flows.most(Quantity::SheetCurrent);
     let is_other = |at: &usize| *at != hottest && *at < picture.cells.len();
     match most.filter(is_other) {
@@ -219,7 +227,7 @@ type Sign = (bool, &'static str, fn([f64; 2], &mut String) -> fmt::Result);
 
 fn put_signs(picture: &Picture, pen: &mut Pen, text: &mut String) -> fmt::Result {
     let marks = &picture.marks;
-    let signs: [Sign; 4] = [
+    let signs: [Sign; 5] = [
         (
             !picture.hanging.is_empty(),
             "node at the middle of a leaf's side",
@@ -227,7 +235,7 @@ fn put_signs(picture: &Picture, pen: &mut Pen, text: &mut String) -> fmt::Result
         ),
         (
             !marks.footprints.is_empty(),
-            marks::FOOTPRINT,
+            marks.footprint_words(),
             |[x, y], text| marks::put_footprint([x, y - 11.0, x + 14.0, y + 3.0], text),
         ),
         (!marks.pairs.is_empty(), marks::PAIR, |[x, y], text| {
@@ -235,6 +243,9 @@ fn put_signs(picture: &Picture, pen: &mut Pen, text: &mut String) -> fmt::Result
         }),
         (!marks.ends.is_empty(), marks::END, |[x, y], text| {
             marks::put_end([x + 7.0, y - 4.0], marks::LARGEST_END, text)
+        }),
+        (!picture.lone().is_empty(), marks::LONE, |[x, y], text| {
+            marks::put_lone([x + 7.0, y - 4.0], text)
         }),
     ];
     for (_, words, put) in signs.into_iter().filter(|sign| sign.0) {

@@ -3,7 +3,7 @@
 use super::cells::Sides;
 use super::layout::Layout;
 use super::Place;
-use crate::{Edge, Links, Rect};
+use crate::{Edge, Link, Links, Rect};
 use std::collections::BTreeSet;
 use std::fmt::{self, Write};
 
@@ -18,6 +18,10 @@ pub struct Marks {
     pub pairs: BTreeSet<[Place; 2]>,
     /// Layer and rectangle.
     pub footprints: BTreeSet<(i64, Rect)>,
+    /// Whether some of them are of channels.
+    has_feet: bool,
+    /// Ends of one node.
+    pub lone: BTreeSet<Place>,
 }
 
 /// A colour that neither the levels nor the scale of values have.
@@ -28,7 +32,12 @@ const HALO: &str = "#ffffff";
 /// What the legend says of marks.
 pub const END: &str = "link across layers, or at one place";
 pub const PAIR: &str = "link within a layer";
-pub const FOOTPRINT: &str = "footprint of a via";
+const FOOTPRINT: &str = "footprint of a via";
+const FEET: &str = "footprint of a via or of a channel's end";
+pub const LONE: &str = "link of one node: no value as the mesh gets finer";
+
+/// Of ends that are one node: that of a warning.
+const WARNING: &str = "#d9480f";
 
 impl Marks {
     /// `place` answers where a node is; links whose nodes have none are passed over.
@@ -56,8 +65,26 @@ impl Marks {
         self.footprints.iter().any(covers)
     }
 
-    /// With the footprints of vias that have an area.
+    /// With ends of one node.
+    pub fn with_lone(mut self, lone: impl Iterator<Item = Place>) -> Self {
+        self.lone.extend(lone);
+        self
+    }
+
+    /// What footprints are of.
+    pub fn footprint_words(&self) -> &'static str {
+        match self.has_feet {
+            true => FEET,
+            false => FOOTPRINT,
+        }
+    }
+
+    /// With the footprints of vias and of channels' ends that have an area.
     pub fn with_footprints(mut self, links: Links) -> Self {
+        for pad in links.pads().unwrap_or_default() {
+            self.has_feet |= matches!(pad.end.0, Link::Channel(_));
+            self.footprints.insert((i64::from(pad.layer), pad.rect));
+        }
         for via in links.vias.iter().filter(|via| via.footprint.has_area()) {
             let rect = via.footprint.rect();
             let on = |layer: u16| (i64::from(layer), rect);
@@ -74,7 +101,13 @@ const SMALLEST_END: f64 = 1.0;
 pub const LARGEST_END: f64 = 4.5;
 
 /// Footprints below, then what is joined within a layer, then ends.
-pub fn put(marks: &Marks, layout: &Layout, sides: &Sides, text: &mut String) -> fmt::Result {
+pub fn put(
+    marks: &Marks,
+    lone: &BTreeSet<Place>,
+    layout: &Layout,
+    sides: &Sides,
+    text: &mut String,
+) -> fmt::Result {
     for &(layer, rect) in &marks.footprints {
         if let Some(shown) = layout.clipped(layer, rect) {
             put_footprint(shown, text)?;
@@ -91,7 +124,16 @@ pub fn put(marks: &Marks, layout: &Layout, sides: &Sides, text: &mut String) -> 
         let half = (0.2 * sides.at(place)).clamp(least, LARGEST_END);
         put_end(layout.place(place), half, text)?;
     }
-    Ok(())
+    lone.iter()
+        .try_for_each(|&place| put_lone(layout.place(place), text))
+}
+
+/// A ring.
+pub fn put_lone([x, y]: [f64; 2], text: &mut String) -> fmt::Result {
+    let ring = |colour: &str, width: f64| {
+        format!("<circle cx=\"{x:.2}\" cy=\"{y:.2}\" r=\"6\" fill=\"none\" stroke=\"{colour}\" stroke-width=\"{width}\"/>")
+    };
+    writeln!(text, "{}{}", ring(HALO, 3.4), ring(WARNING, 1.8))
 }
 
 /// A rectangle of the picture, dashed.

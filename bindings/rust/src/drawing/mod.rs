@@ -96,6 +96,8 @@ pub struct Picture {
     /// By the cells' places, if they are to be shown.
     borders: Option<Vec<LeafBorder>>,
     terminals: Terminals,
+    /// The nodes of terminals that have several.
+    held: BTreeSet<Place>,
 }
 
 impl Picture {
@@ -157,14 +159,18 @@ impl Picture {
             marks: Marks::default(),
             borders: None,
             terminals: Terminals::default(),
+            held: BTreeSet::new(),
         })
     }
 
-    /// Marks the links of a net where they end, and the footprints of the vias that made them. A link to a node that
-    /// the picture doesn't have is passed over.
+    /// Marks the links of a net where they end, the footprints of vias and of channels' ends, and ends of one node. A
+    /// link to a node that the picture doesn't have is passed over.
     pub fn with_links(mut self, net: &Net, links: Links) -> Self {
         let place = |node: usize| self.place(&net.nodes, node);
-        self.marks = Marks::of(net.links(), place).with_footprints(links);
+        let lone = net.lone().into_iter().filter_map(|one| place(one.node));
+        self.marks = Marks::of(net.links(), place)
+            .with_footprints(links)
+            .with_lone(lone);
         self
     }
 
@@ -211,8 +217,17 @@ impl Picture {
     /// passed over, and a terminal that nothing is applied to says what it is held at.
     pub fn with_terminals(mut self, nodes: &[Node], held: &[Held], applied: &[Applied]) -> Self {
         let place = |node: usize| self.place(nodes, node);
+        let wide = held.iter().filter(|one| one.nodes.len() > 1);
+        let wide = wide.flat_map(|one| one.nodes.iter().filter_map(|&node| place(node)));
+        let wide = wide.collect();
         self.terminals = Terminals::of(&self.cells, held, applied, place);
+        self.held = wide;
         self
+    }
+
+    /// Links' ends of one node, but for those that a terminal takes with others.
+    fn lone(&self) -> BTreeSet<Place> {
+        &self.marks.lone - &self.held
     }
 
     /// The cell with the largest power over area, by its place.
@@ -268,7 +283,7 @@ impl Picture {
         cells::put_cells(self, layout, text)?;
         borders::put(self, layout, text)?;
         cells::put_nodes(self, layout, &sides, text)?;
-        marks::put(&self.marks, layout, &sides, text)?;
+        marks::put(&self.marks, &self.lone(), layout, &sides, text)?;
         self.terminals.put(layout, text)?;
         cells::put_hottest(self, layout, text)
     }

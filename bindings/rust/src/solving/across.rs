@@ -6,12 +6,15 @@
 //! crosses, what the side's end on this side gives to it or takes from it; and where the copper of one side ends at an
 //! inner corner and that of the other goes on, what the corner's node gives to the cells beyond. So the current through
 //! a cut from edge to edge is what the terminals behind it drive, as exactly as the solution is, whatever the cells are.
+//! What lies in the area of a link's end is at one potential, and what flows there has no place: a line that meets a cell
+//! of such an area isn't cut.
 
-use super::element::Element;
+use super::element::{rect_of, Element};
+use super::pads::Pads;
 use super::{Solution, Unsolved};
 use crate::sides::inside;
 use crate::{Net, Point, Rect, TICK};
-use std::collections::{BTreeMap, HashMap};
+use std::collections::{BTreeMap, BTreeSet, HashMap};
 use std::iter::once;
 
 /// A straight line across the copper of a component on one layer.
@@ -70,6 +73,8 @@ impl Crossing {
 pub struct Cuts {
     /// By layer and component: as upright lines cut it, and as level ones do.
     coppers: HashMap<(u16, u32), [Copper; 2]>,
+    /// By layer and component: the cells that an area of a link's end meets, and the sides that hang on them.
+    areas: HashMap<(u16, u32), Vec<Rect>>,
 }
 
 impl Cuts {
@@ -82,9 +87,17 @@ impl Cuts {
         let all = inside(net.rows())?;
         let mut given = vec![0.0; net.nodes.len()];
         let mut coppers: HashMap<(u16, u32), [Copper; 2]> = HashMap::new();
+        let mut areas: HashMap<(u16, u32), Vec<Rect>> = HashMap::new();
         let key = |node: usize| (net.nodes[node].layer, net.nodes[node].component);
-        for cell in &net.cells {
-            let taken = Element::of(cell, &net.nodes).taken(&solution.above);
+        let pads = Pads::of(net);
+        let mut met = BTreeSet::new();
+        for (at, cell) in net.cells.iter().enumerate() {
+            let whole = rect_of(cell, &net.nodes);
+            if pads.touch_cell(at) {
+                met.extend(cell.corners);
+                areas.entry(key(cell.corners[0])).or_default().push(whole);
+            }
+            let taken = Element::of(cell.corners, whole, cell.sheet).taken(&solution.above);
             for (&node, amperes) in cell.corners.iter().zip(taken) {
                 given[node] += amperes;
             }
@@ -106,6 +119,11 @@ impl Cuts {
         for (&node, ends) in &hanging {
             let ([x, y], given) = ([net.nodes[node].x, net.nodes[node].y], given[node]);
             let [a, b] = ends.map(|end| net.nodes[end]);
+            if met.contains(&node) {
+                let (low, high) = ([a.x.min(b.x), a.y.min(b.y)], [a.x.max(b.x), a.y.max(b.y)]);
+                let side = [low[0], low[1], high[0], high[1]];
+                areas.entry(key(node)).or_default().push(side);
+            }
             let [upright, level] = coppers.entry(key(node)).or_default();
             if a.y == b.y {
                 let side = Span::of(a.x, b.x);
@@ -118,11 +136,26 @@ impl Cuts {
             }
         }
         coppers.values_mut().flatten().for_each(Copper::sort);
-        Ok(Cuts { coppers })
+        Ok(Cuts { coppers, areas })
     }
 
-    /// What flows through a line. None where it has no copper of its component on both sides anywhere.
+    /// Whether a line meets a cell in which an end of a link has an area, so that no current through it is known.
+    pub fn meets_area(&self, line: &Line) -> bool {
+        let [x0, y0, x1, y1] = line.rect;
+        let all = self.areas.get(&(line.layer, line.component));
+        all.into_iter()
+            .flatten()
+            .any(|&[low_x, low_y, high_x, high_y]| {
+                low_x <= x1 && x0 <= high_x && low_y <= y1 && y0 <= high_y
+            })
+    }
+
+    /// What flows through a line. None where it has no copper of its component on both sides anywhere, or meets the area
+    /// of a link's end ([`Cuts::meets_area`]).
     pub fn through(&self, line: &Line) -> Option<Crossing> {
+        if self.meets_area(line) {
+            return None;
+        }
         let [upright, level] = self.coppers.get(&(line.layer, line.component))?;
         let [x0, y0, x1, y1] = line.rect;
         if line.is_upright() {

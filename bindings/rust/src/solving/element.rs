@@ -1,7 +1,8 @@
-//! A cell as a bilinear element.
+//! A cell as a bilinear element, or as several where the border of a pad cuts it.
 
 use crate::columns::{NE, SW};
-use crate::{Cell, Node, TICK};
+use crate::{Cell, Node, Rect, TICK};
+use std::ops::Range;
 
 /// What a current does in one cell.
 #[derive(Clone, Copy, Debug, Default, PartialEq)]
@@ -19,7 +20,7 @@ pub struct Flow {
     pub sheet: f64,
 }
 
-/// A cell with its sides in metres.
+/// A rectangle of copper with its sides in metres.
 #[derive(Clone, Copy, Debug)]
 pub(super) struct Element {
     /// SW, SE, NE, NW.
@@ -29,14 +30,12 @@ pub(super) struct Element {
 }
 
 impl Element {
-    /// The nodes are those that the cell's corners name.
-    pub fn of(cell: &Cell, nodes: &[Node]) -> Self {
-        let [low, high] = [SW, NE].map(|corner| nodes[cell.corners[corner]]);
-        let metres = |from: i64, to: i64| (to - from) as f64 * TICK;
+    pub fn of(corners: [usize; 4], [x0, y0, x1, y1]: Rect, sheet: f64) -> Self {
+        let metres = |ticks: i64| ticks as f64 * TICK;
         Element {
-            corners: cell.corners,
-            sheet: cell.sheet,
-            sides: [metres(low.x, high.x), metres(low.y, high.y)],
+            corners,
+            sheet,
+            sides: [metres(x1 - x0), metres(y1 - y0)],
         }
     }
 
@@ -76,21 +75,86 @@ impl Element {
         self.matrix().map(from)
     }
 
-    /// What flows at these potentials of all nodes.
-    pub fn flow(&self, volts: &[f64]) -> Flow {
+    /// The slopes along x at the south and the north side, and along y at the west and the east side.
+    fn slopes(&self, volts: &[f64]) -> [[f64; 2]; 2] {
         let [sw, se, ne, nw] = self.corners.map(|corner| volts[corner]);
         let [w, h] = self.sides;
-        // The slopes along x at the south and the north side, along y at the west and the east side.
-        let along_x = [(se - sw) / w, (ne - nw) / w];
-        let along_y = [(nw - sw) / h, (ne - se) / h];
+        [
+            [(se - sw) / w, (ne - nw) / w],
+            [(nw - sw) / h, (ne - se) / h],
+        ]
+    }
+
+    /// The power that it takes.
+    fn watts(&self, volts: &[f64]) -> f64 {
+        let [w, h] = self.sides;
         // The mean of the square of what runs straight from a to b.
         let square = |[a, b]: [f64; 2]| (a * a + a * b + b * b) / 3.0;
-        let mean = |[a, b]: [f64; 2]| (a + b) / 2.0;
-        let slope = square(along_x) + square(along_y);
+        let slopes = self.slopes(volts).map(square);
+        (slopes[0] + slopes[1]) * w * h / self.sheet
+    }
+
+    /// The sheet current at a place, by its shares of the way to the east and to the north.
+    fn current(&self, volts: &[f64], [east, north]: [f64; 2]) -> [f64; 2] {
+        let between = |[a, b]: [f64; 2], share: f64| a + (b - a) * share;
+        let [along_x, along_y] = self.slopes(volts);
+        [between(along_x, north), between(along_y, east)].map(|slope| -slope / self.sheet)
+    }
+}
+
+/// The corners of a cell, by its nodes.
+pub(super) fn rect_of(cell: &Cell, nodes: &[Node]) -> Rect {
+    let [low, high] = [SW, NE].map(|corner| nodes[cell.corners[corner]]);
+    [low.x, low.y, high.x, high.y]
+}
+
+/// A cell as its elements.
+#[derive(Clone, Debug)]
+pub(super) struct Patch {
+    /// Of the system's; those of a cell that a pad covers are none.
+    pub elements: Range<usize>,
+    sheet: f64,
+    /// In square metres.
+    area: f64,
+    /// The element that has the cell's centre, and where it lies there; none under a pad.
+    centre: Option<(usize, [f64; 2])>,
+}
+
+impl Patch {
+    /// Of so many rectangles, whose elements begin at `first`.
+    pub fn of(whole: Rect, sheet: f64, rects: &[Rect], first: usize) -> Self {
+        let metres = |ticks: i64| ticks as f64 * TICK;
+        // Twice the centre is a whole number of ticks.
+        let centre = [whole[0] + whole[2], whole[1] + whole[3]];
+        let is_in = |rect: &Rect, axis: usize| {
+            (2 * rect[axis]..=2 * rect[axis + 2]).contains(&centre[axis])
+        };
+        let at = rects
+            .iter()
+            .position(|rect| is_in(rect, 0) && is_in(rect, 1));
+        let share = |rect: &Rect, axis: usize| {
+            let long = rect[axis + 2] - rect[axis];
+            (centre[axis] - 2 * rect[axis]) as f64 / (2 * long) as f64
+        };
+        Patch {
+            elements: first..first + rects.len(),
+            sheet,
+            area: metres(whole[2] - whole[0]) * metres(whole[3] - whole[1]),
+            centre: at.map(|at| (first + at, [0, 1].map(|axis| share(&rects[at], axis)))),
+        }
+    }
+
+    /// What flows at these potentials of all nodes.
+    pub fn flow(&self, elements: &[Element], volts: &[f64]) -> Flow {
+        let own = elements[self.elements.clone()].iter();
+        let watts: f64 = own.map(|element| element.watts(volts)).sum();
+        let current = self
+            .centre
+            .map(|(at, place)| elements[at].current(volts, place));
         Flow {
-            watts: slope * w * h / self.sheet,
-            current: [along_x, along_y].map(|slopes| -mean(slopes) / self.sheet),
-            sheet_current: slope.sqrt() / self.sheet,
+            watts,
+            current: current.unwrap_or_default(),
+            sheet_current: (watts / (self.area * self.sheet)).sqrt(),
             sheet: self.sheet,
         }
     }

@@ -31,15 +31,18 @@ mod across;
 mod element;
 mod judging;
 mod matrix;
+mod pads;
 mod terminal;
 mod unknowns;
 mod unsolved;
 
-use crate::sides::{inside, Inside};
-use crate::{Edge, Leaf, Mesh, Net, NetRows};
-use element::Element;
+use crate::sides::{corners_of, inside, Inside};
+use crate::{Edge, Leaf, Mesh, Net, NetRows, Node, Point, Rect};
+use element::{rect_of, Element, Patch};
 use judging::off_by;
 use matrix::{conjugate_gradients, Entry, Matrix};
+use pads::{Corner, Pads};
+use std::collections::{BTreeMap, BTreeSet};
 use unknowns::Unknowns;
 
 pub use across::{Across, Crossing, Cuts, Line};
@@ -53,13 +56,20 @@ type Parts = Vec<(usize, f64)>;
 /// The currents between the nodes of a net, as a sum of their potentials.
 #[derive(Clone, Debug)]
 pub struct System {
-    /// The nodes that make up each node, with their shares: itself, or what it is tied to.
+    /// How many nodes the net has.
+    nodes: usize,
+    /// The nodes that make up each node, with their shares: itself, or what it is tied to. Behind the net's own stand
+    /// those of pads and of the pieces of cells that pads cut.
     parts: Vec<Parts>,
     /// Siemens between the nodes that aren't tied.
     matrix: Matrix,
     elements: Vec<Element>,
+    /// Of each cell; none in a system of a net's conductances.
+    cells: Vec<Patch>,
     /// What is a conductance: links, or all of a net's edges.
     edges: Vec<Edge>,
+    /// The nodes that are all of a link's end.
+    lone: Vec<(usize, Node)>,
 }
 
 /// What the terminals of a system bring about.
@@ -78,6 +88,9 @@ pub struct Solution {
     pub edges: Vec<f64>,
     /// The power of these edges, in watts.
     pub edge_watts: Vec<f64>,
+    /// Nodes that are all of a link's end ([`Net::lone`]) and of no terminal that has others, too: what flows round them
+    /// has no value as the mesh gets finer. None in a system of a net's conductances.
+    pub lone: Vec<Node>,
 }
 
 /// What stands at a terminal.
@@ -100,11 +113,41 @@ impl Solution {
     }
 
     /// The leaf of the most power for its area, and what flows in it: cell i is leaf i of the mesh that the net is of.
-    /// Of several the first; none where no leaf takes power.
+    /// Of several the first; none where no leaf takes power. Leaves at a link of one node ([`Solution::left_out`])
+    /// are left out, since they get hotter with each level.
     pub fn hottest(&self, mesh: &Mesh) -> Option<(Leaf, Flow)> {
+        let left_out = self.left_out(mesh);
+        self.hottest_of(mesh, |at| !left_out[at])
+    }
+
+    /// The same of all leaves.
+    pub fn hottest_of_all(&self, mesh: &Mesh) -> Option<(Leaf, Flow)> {
+        self.hottest_of(mesh, |_| true)
+    }
+
+    fn hottest_of(&self, mesh: &Mesh, is_in: impl Fn(usize) -> bool) -> Option<(Leaf, Flow)> {
         let leaves: Vec<(Leaf, Flow)> = mesh.leaves().zip(self.cells.iter().copied()).collect();
-        let density = |(leaf, flow): &(Leaf, Flow)| flow.watts / leaf.area();
-        place_of_most(leaves.iter().map(density)).map(|at| leaves[at])
+        let density = |(at, (leaf, flow)): (usize, &(Leaf, Flow))| match is_in(at) {
+            true => flow.watts / leaf.area(),
+            false => 0.0,
+        };
+        let densities: Vec<f64> = leaves.iter().enumerate().map(density).collect();
+        place_of_most(densities.into_iter()).map(|at| leaves[at])
+    }
+
+    /// Which leaves stand at a link of one node, in their order: those whose base cell has the node inside or on its
+    /// sides. Base cells don't get smaller as the mesh gets finer, and so what is left out stays the same copper.
+    pub fn left_out(&self, mesh: &Mesh) -> Vec<bool> {
+        let is_out = |leaf: Leaf| {
+            let root = mesh.name(leaf.id).map_or(leaf.id, |name| name.root);
+            let [x0, y0, x1, y1] = mesh.rect(root);
+            self.lone.iter().any(|node| {
+                (node.layer, node.component) == (leaf.layer, leaf.component)
+                    && (x0..=x1).contains(&node.x)
+                    && (y0..=y1).contains(&node.y)
+            })
+        };
+        mesh.leaves().map(is_out).collect()
     }
 
     /// The power that the terminals give.
@@ -133,19 +176,29 @@ pub(crate) fn place_of_most(mut values: impl Iterator<Item = f64> + Clone) -> Op
     values.position(|value| value > 0.0 && value >= (1.0 - ALIKE) * most)
 }
 
-/// The nodes that make up each node. In a balanced table of aligned bands the ends of a side with a node at its
-/// middle never hang themselves: the finer cells beside it would lie two levels below the next.
-fn parts_of(net: NetRows) -> Result<Vec<Parts>, Unsolved> {
-    let mut parts: Vec<Parts> = (0..net.nodes.len()).map(free).collect();
-    let all = inside(net)?;
+/// The nodes that make up each node, and what stands inside the sides. In a balanced table of aligned bands the ends of a
+/// side with a node at its middle never hang themselves: the finer cells beside it would lie two levels below the next.
+fn parts_of(net: &Net, pads: &Pads) -> Result<Vec<Parts>, Unsolved> {
+    let all = inside(net.rows())?;
+    let hangs: BTreeSet<usize> = all.iter().map(|one| one.node).collect();
+    let held = |one: &Inside| one.middle && one.ends.iter().all(|end| !hangs.contains(end));
+    if let Some(one) = all.iter().find(|one| !held(one)) {
+        return Err(Unsolved::NoFit { node: one.node });
+    }
+    let place = |node: usize| [net.nodes[node].x, net.nodes[node].y];
+    let mut parts: Vec<Parts> = (0..net.nodes.len() + pads.count()).map(free).collect();
+    for (at, cell) in net.cells.iter().enumerate() {
+        for corner in cell.corners {
+            if let Some(pad) = pads.at(at, place(corner)) {
+                parts[corner] = free(pad);
+            }
+        }
+    }
     for one in &all {
-        parts[one.node] = one.ends.iter().map(|&end| (end, 0.5)).collect();
+        let ends = one.ends.map(|end| (place(end), &parts[end]));
+        parts[one.node] = pads.on_side(one.cell, ends, place(one.node));
     }
-    let held = |one: &Inside| one.middle && one.ends.iter().all(|&end| parts[end].len() == 1);
-    match all.iter().find(|one| !held(one)) {
-        Some(one) => Err(Unsolved::NoFit { node: one.node }),
-        None => Ok(parts),
-    }
+    Ok(parts)
 }
 
 /// A node that is tied to nothing.
@@ -162,6 +215,39 @@ fn entries_of(edges: &[Edge]) -> Vec<Entry> {
     edges.iter().flat_map(entries).collect()
 }
 
+/// The pieces of a cell that pads cut, each with the nodes at its corners; those that the net doesn't have stand behind
+/// the others from now on.
+fn pieces_of(
+    pads: &Pads,
+    cell: usize,
+    corners: [usize; 4],
+    whole: Rect,
+    parts: &mut Vec<Parts>,
+) -> Vec<(Rect, [usize; 4])> {
+    let places = corners_of(whole);
+    let own = [0, 1, 2, 3].map(|at| (places[at], &parts[corners[at]]));
+    let pieces = pads.pieces(cell, own);
+    let mut inner: BTreeMap<Point, usize> = BTreeMap::new();
+    let mut node = |corner: Corner| {
+        let next = parts.len();
+        match corner {
+            Corner::Made(own) => parts.push(own),
+            Corner::Inner(place) => {
+                let number = *inner.entry(place).or_insert(next);
+                if number < next {
+                    return number;
+                }
+                parts.push(free(next));
+            }
+        }
+        next
+    };
+    let pieces = pieces.into_iter();
+    pieces
+        .map(|piece| (piece.rect, piece.corners.map(&mut node)))
+        .collect()
+}
+
 impl System {
     /// The net's own conductances; no node is tied.
     ///
@@ -175,7 +261,8 @@ impl System {
     }
 
     /// The cells as bilinear elements, hanging nodes tied, and the links by what they conduct as they were given
-    /// ([`Net::joints`]). Of edges that aren't links nothing is read.
+    /// ([`Net::joints`]). An end of a link with an area ([`Net::pads`]) is one potential over it, wherever its border
+    /// lies between the cells. Of edges that aren't links nothing is read.
     ///
     /// # Errors
     ///
@@ -183,15 +270,39 @@ impl System {
     /// [`Unsolved::NoFit`] where a node stands inside a cell's side and not at its middle:
     /// the table that the net was made of isn't balanced, or its coordinates are no multiples of the base cell.
     pub fn of_cells(net: &Net) -> Result<Self, Unsolved> {
-        let parts = parts_of(net.rows())?;
-        let elements = net.cells.iter().map(|cell| Element::of(cell, &net.nodes));
+        net.rows().judge()?;
         let (links, joints) = (net.links, net.joints.len());
         if joints != links || links > net.edges.len() {
             return Err(Unsolved::NoJoints { links, joints });
         }
-        let links = net.links_as_given();
-        let first = net.edges.len() - links.len();
-        System::of_parts(parts, elements.collect(), &links, first)
+        let pads = Pads::of(net);
+        let mut parts = parts_of(net, &pads)?;
+        let mut elements = Vec::with_capacity(net.cells.len());
+        let mut cells = Vec::with_capacity(net.cells.len());
+        for (at, cell) in net.cells.iter().enumerate() {
+            let whole = rect_of(cell, &net.nodes);
+            let pieces = match pads.touch_cell(at) {
+                true => pieces_of(&pads, at, cell.corners, whole, &mut parts),
+                false => vec![(whole, cell.corners)],
+            };
+            let rects: Vec<Rect> = pieces.iter().map(|(rect, _)| *rect).collect();
+            cells.push(Patch::of(whole, cell.sheet, &rects, elements.len()));
+            let element = |(rect, corners)| Element::of(corners, rect, cell.sheet);
+            elements.extend(pieces.into_iter().map(element));
+        }
+        let mut edges = net.links_as_given();
+        for (edge, joint) in edges.iter_mut().zip(&net.joints) {
+            edge.from = pads.of_end((joint.link, 0)).unwrap_or(edge.from);
+            edge.to = pads.of_end((joint.link, 1)).unwrap_or(edge.to);
+        }
+        let first = net.edges.len() - edges.len();
+        let lone = net.lone().into_iter();
+        Ok(System {
+            nodes: net.nodes.len(),
+            cells,
+            lone: lone.map(|one| (one.node, net.nodes[one.node])).collect(),
+            ..System::of_parts(parts, elements, &edges, first)?
+        })
     }
 
     /// `first` is the place of the first of the edges, in the net.
@@ -225,21 +336,38 @@ impl System {
         let matrix = Matrix::of_entries(parts.len(), tied);
         let edges = edges.to_vec();
         Ok(System {
+            nodes: parts.len(),
             parts,
             matrix,
             elements,
+            cells: Vec::new(),
             edges,
+            lone: Vec::new(),
         })
     }
 
-    /// How many nodes there are.
+    /// How many nodes the net has.
     pub fn node_count(&self) -> usize {
+        self.nodes
+    }
+
+    /// The same with those of pads and of the pieces of cells.
+    fn count(&self) -> usize {
         self.parts.len()
     }
 
-    /// Whether a node's potential follows from the ends of the side that it hangs on.
+    /// Whether a node's potential follows from others: from the ends of the side that it hangs on, or from the pad that
+    /// it lies in.
     pub fn is_tied(&self, node: usize) -> bool {
-        self.parts[node][0] != (node, 1.0)
+        self.own(node) != Some(node)
+    }
+
+    /// The node whose potential one has: itself, or that of its pad. None where it follows from several.
+    fn own(&self, node: usize) -> Option<usize> {
+        match self.parts[node][..] {
+            [(own, _)] => Some(own),
+            _ => None,
+        }
     }
 
     /// The potentials where terminals are held, by conjugate gradients, and what flows.
@@ -268,8 +396,8 @@ impl System {
     fn solution(&self, held: &[Held], above: &[f64], levels: &[f64]) -> Solution {
         let out = self.matrix.times(above);
         let applied = |one: &Held| {
-            let mut own: Vec<usize> = one.nodes.clone();
-            own.retain(|&node| !self.is_tied(node));
+            let own = one.nodes.iter().filter_map(|&node| self.own(node));
+            let mut own: Vec<usize> = own.collect();
             own.sort_unstable();
             own.dedup();
             Applied {
@@ -281,15 +409,12 @@ impl System {
         let (above, levels) = (self.with_ties(above), self.with_ties(levels));
         let drop = |edge: &Edge| above[edge.from] - above[edge.to];
         let watts = |edge: &Edge| edge.conductance * drop(edge) * drop(edge);
-        let flow = |element: &Element| element.flow(&above);
+        let flow = |cell: &Patch| cell.flow(&self.elements, &above);
+        let volts = levels.iter().zip(&above).take(self.nodes);
         Solution {
-            volts: levels
-                .iter()
-                .zip(&above)
-                .map(|(level, above)| level + above)
-                .collect(),
+            volts: volts.map(|(level, above)| level + above).collect(),
             terminals: held.iter().map(applied).collect(),
-            cells: self.elements.iter().map(flow).collect(),
+            cells: self.cells.iter().map(flow).collect(),
             edges: self
                 .edges
                 .iter()
@@ -297,7 +422,16 @@ impl System {
                 .collect(),
             edge_watts: self.edges.iter().map(watts).collect(),
             above,
+            lone: self.lone_beside(held),
         }
+    }
+
+    /// A terminal of several nodes takes what comes in at one of them, so that nothing crowds there.
+    fn lone_beside(&self, held: &[Held]) -> Vec<Node> {
+        let wide = held.iter().filter(|one| one.nodes.len() > 1);
+        let held: BTreeSet<usize> = wide.flat_map(|one| one.nodes.iter().copied()).collect();
+        let lone = self.lone.iter().filter(|(node, _)| !held.contains(node));
+        lone.map(|&(_, node)| node).collect()
     }
 
     fn with_ties(&self, volts: &[f64]) -> Vec<f64> {

@@ -126,7 +126,7 @@ fn owners_of(system: &System, held: &[Held]) -> Result<Vec<Option<usize>>, Unsol
     if held.is_empty() {
         return Err(Unsolved::NoTerminal);
     }
-    let mut owners: Vec<Option<usize>> = vec![None; system.node_count()];
+    let mut owners: Vec<Option<usize>> = vec![None; system.count()];
     for (number, one) in held.iter().enumerate() {
         let terminal = || one.terminal.clone();
         if !one.drive.is_in_range() {
@@ -136,14 +136,17 @@ fn owners_of(system: &System, held: &[Held]) -> Result<Vec<Option<usize>>, Unsol
         }
         let mut count = 0;
         for &node in &one.nodes {
-            let Some(owner) = owners.get_mut(node) else {
+            if node >= system.node_count() {
                 return Err(Unsolved::NoSuchNode {
                     terminal: terminal(),
                     node,
                 });
+            }
+            let Some(own) = system.own(node) else {
+                continue;
             };
+            let owner = &mut owners[own];
             match *owner {
-                _ if system.is_tied(node) => continue,
                 Some(other) if other != number => {
                     let terminals = [held[other].terminal.clone(), terminal()];
                     return Err(Unsolved::Shared { node, terminals });
@@ -171,14 +174,14 @@ fn levels_of(
     held: &[Held],
     owners: &[Option<usize>],
 ) -> Result<Vec<f64>, Unsolved> {
-    let mut pieces = Pieces::of(&system.matrix, system.node_count());
+    let mut pieces = Pieces::of(&system.matrix, system.count());
     let mut firsts: Vec<Option<usize>> = vec![None; held.len()];
     for (node, owner) in owners.iter().enumerate() {
         if let Some(terminal) = *owner {
             pieces.join(*firsts[terminal].get_or_insert(node), node);
         }
     }
-    let mut levels: Vec<Option<f64>> = vec![None; system.node_count()];
+    let mut levels: Vec<Option<f64>> = vec![None; system.count()];
     for (one, first) in held.iter().zip(&firsts) {
         if let (Drive::Volts(volts), Some(node)) = (one.drive, first) {
             levels[pieces.root(*node)].get_or_insert(volts);
@@ -192,7 +195,7 @@ fn levels_of(
         }
     }
     let level = |node: usize| levels[pieces.root(node)].unwrap_or(0.0);
-    Ok((0..system.node_count()).map(level).collect())
+    Ok((0..system.count()).map(level).collect())
 }
 
 /// Which nodes are joined, by one that stands for all of a piece.

@@ -6,7 +6,7 @@ use super::unit::Unit;
 use super::{Lines, Unclear};
 use crate::limits::MEANS_DEFAULT;
 use crate::merging::Overlap;
-use crate::unmeshed::{strips_of, west_of, Loose, TooLong, Unmeshed};
+use crate::unmeshed::{strips_of, west_of, Loose, TooLong, Unmeshed, BARE_AREA};
 use crate::{Astray, Board, Link, Point, Reason, Rect, Refusal, Settings, MAX_LEVEL};
 use std::fmt;
 
@@ -39,7 +39,7 @@ impl fmt::Display for Part {
             Part::Polygon(polygon) => write!(f, "polygon {polygon}"),
             Part::Point { polygon, point } => write!(f, "polygon {polygon}, point {point}"),
             Part::Split(at) => write!(f, "split {at}"),
-            Part::Link(link) => f.write_str(&link.in_words()),
+            Part::Link(link) => link.fmt(f),
         }
     }
 }
@@ -110,6 +110,10 @@ impl Fault {
             Unmeshed::Idle(idle) => Fault {
                 part: Some(Part::Link(idle.link)),
                 words: idle.words().to_string(),
+            },
+            Unmeshed::BareArea(link) => Fault {
+                part: Some(Part::Link(link)),
+                words: BARE_AREA.to_string(),
             },
             Unmeshed::Astray(astray) => Fault::of_astray(astray, unit),
             Unmeshed::SameLayer(same) => Fault {

@@ -15,9 +15,9 @@ const FORMS: [&str; 16] = [
     "sheet X0 Y0 X1 Y1 FACTOR [LAYER]",
     "temperature CELSIUS [COEFFICIENT]",
     "contact POLYGON POLYGON",
-    "via LAYER LAYER COMPONENT X Y HALF_WIDTH HALF_HEIGHT OHMS",
+    "via LAYER LAYER COMPONENT X Y HALF_WIDTH HALF_HEIGHT OHMS [barrel]",
     "channels LAYER",
-    "channel COMPONENT X Y COMPONENT X Y OHMS",
+    "channel COMPONENT [at] X Y [HALF_WIDTH HALF_HEIGHT] COMPONENT [at] X Y [HALF_WIDTH HALF_HEIGHT] OHMS",
     "terminal NAME VALUE V|A (end LAYER COMPONENT west|east|south|north | edge LAYER COMPONENT X0 Y0 X1 Y1 | \
      rect LAYER COMPONENT X0 Y0 X1 Y1 | pad POLYGON)",
     "across NAME LAYER COMPONENT X0 Y0 X1 Y1",

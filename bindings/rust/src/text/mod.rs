@@ -90,6 +90,7 @@
 //! ```
 
 mod across;
+mod areas;
 mod blaming;
 mod bytes;
 mod drive;

@@ -1,8 +1,9 @@
 //! A text, line by line.
 
 use super::across::across_of;
+use super::areas;
 use super::form::senseless;
-use super::linking::{channel_of, contact_of, via_of};
+use super::linking::contact_of;
 use super::sheets;
 use super::splitting::{ids_of, region_of, Mark, Task};
 use super::terminals::terminal_of;
@@ -233,25 +234,18 @@ impl Reading {
     }
 
     fn take_link(&mut self, line: usize, words: &[&str]) -> Result<(), String> {
-        let unit = self.unit();
         let Whole { links, lines, .. } = &mut self.whole;
         match *words {
             ["contact", from, to] => {
                 links.contacts.push(contact_of(from, to)?);
                 lines.contacts.push(line);
             }
-            ["via", ref via @ ..] => {
-                links.vias.push(via_of(via, unit)?);
-                lines.vias.push(line);
-            }
+            ["via", ref via @ ..] => areas::take_via(links, lines, line, via)?,
             ["channels", own] => {
                 once("channels", &mut lines.channel_layer, line)?;
                 links.channel_layer = layer(own)?;
             }
-            ["channel", ref channel @ ..] => {
-                links.channels.push(channel_of(channel, unit)?);
-                lines.channels.push(line);
-            }
+            ["channel", ref channel @ ..] => areas::take_channel(links, lines, line, channel)?,
             _ => return Err(senseless(words)),
         }
         Ok(())
@@ -286,6 +280,8 @@ impl Reading {
         let Reading {
             mut whole, marks, ..
         } = self;
+        // In an order that doesn't hang on that of the lines.
+        whole.links.areas.sort_unstable();
         whole.judge()?;
         whole.carry_out(&marks)?;
         whole.warn();

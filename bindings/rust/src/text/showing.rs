@@ -1,6 +1,7 @@
 //! The text of a board.
 
 use super::across::put_across;
+use super::areas::Areas;
 use super::sheets;
 use super::splitting::split_lines;
 use super::terminals::put_terminal;
@@ -39,7 +40,8 @@ fn put_links(links: Links, text: &mut String) -> fmt::Result {
     for Contact { from, to } in links.contacts {
         writeln!(text, "contact {from} {to}")?;
     }
-    for via in links.vias {
+    let areas = Areas::of(links.areas);
+    for (at, via) in links.vias.iter().enumerate() {
         let Footprint {
             x,
             y,
@@ -48,16 +50,22 @@ fn put_links(links: Links, text: &mut String) -> fmt::Result {
         } = via.footprint;
         writeln!(
             text,
-            "via {} {} {} {x} {y} {half_width} {half_height} {:?}",
-            via.bottom, via.top, via.component, via.resistance
+            "via {} {} {} {x} {y} {half_width} {half_height} {:?}{}",
+            via.bottom,
+            via.top,
+            via.component,
+            via.resistance,
+            areas.behind_via(at)
         )?;
     }
     if !links.channels.is_empty() || links.channel_layer > 0 {
         writeln!(text, "channels {}", links.channel_layer)?;
     }
-    for channel in links.channels {
-        let [drain, source] = [channel.drain, channel.source]
-            .map(|end| format!("{} {} {}", end.component, end.x, end.y));
+    for (at, channel) in links.channels.iter().enumerate() {
+        let [drain, source] = [(channel.drain, 0), (channel.source, 1)].map(|(end, number)| {
+            let place = areas.place(at, number, [end.x, end.y]);
+            format!("{} {place}", end.component)
+        });
         writeln!(text, "channel {drain} {source} {:?}", channel.resistance)?;
     }
     Ok(())

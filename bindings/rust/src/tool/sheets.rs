@@ -1,7 +1,7 @@
 //! Sheet resistances by place and temperature, of a text.
 
 use super::Given;
-use crate::{Mesh, Net};
+use crate::{Area, Mesh, Net};
 
 impl Given {
     /// Gives the cells of a net their sheet resistances.
@@ -33,21 +33,30 @@ impl Given {
         })
     }
 
-    /// The net's conductances come from the polygons' sheet resistances alone.
+    /// The net's conductances come from the polygons' sheet resistances alone, and its links are edges between nodes.
     ///
     /// # Errors
     ///
     /// In words: the first line that they know nothing of.
     pub(super) fn judge_for_net(&self) -> Result<(), String> {
-        let lines = self.lines();
-        let first = lines.and_then(|lines| lines.sheets.first().or(lines.temperature.as_ref()));
-        match first {
-            Some(_) => Err(self.said_of(
-                first,
-                "the net's conductances know no sheet and no temperature: solve on the cells",
-            )),
-            None => Ok(()),
-        }
+        let Some(lines) = self.lines() else {
+            return Ok(());
+        };
+        let line_of = |area: &Area| match *area {
+            Area::Barrel { via } => lines.vias.get(via),
+            Area::Drain { channel, .. } | Area::Source { channel, .. } => {
+                lines.channels.get(channel)
+            }
+        };
+        let sheet = lines.sheets.first().or(lines.temperature.as_ref());
+        let area = self.links.areas.first().and_then(line_of);
+        let (line, what) = match (sheet, area) {
+            (Some(line), _) => (line, "sheet and no temperature"),
+            (None, Some(line)) => (line, "area of a link's end"),
+            (None, None) => return Ok(()),
+        };
+        let words = format!("the net's conductances know no {what}: solve on the cells");
+        Err(self.said_of(Some(line), &words))
     }
 
     /// Behind the file's name and the line.

@@ -2,7 +2,8 @@
 
 use super::Given;
 use crate::solving::{place_of_most, Flow, Held, Solution, System, Unsolved};
-use crate::{Leaf, Mesh, Net};
+use crate::{Leaf, Lone, Mesh, Net};
+use std::collections::BTreeSet;
 
 /// A current or a potential below this share of the largest one at a terminal is what the iteration leaves.
 const LEFT: f64 = 1e-9;
@@ -26,6 +27,8 @@ pub struct Solved {
     pub solution: Solution,
     /// Of each cell: the element's own, or by the slope at its centre where the net's conductances are taken.
     pub watts: Vec<f64>,
+    /// The links' ends of one node: what comes out there has no value as the mesh gets finer.
+    pub lone: Vec<Lone>,
     /// Currents up to this are none.
     rest: f64,
 }
@@ -41,7 +44,9 @@ impl Given {
         let judged = self.terminals.judge(asker);
         let judged = judged.and_then(|()| self.terminals.judge_ground(&self.board));
         judged.map_err(|why| self.said(&why))?;
-        self.solved_net(mesh, net, by)
+        let solved = self.solved_net(mesh, net, by)?;
+        self.say_of_lone(&solved);
+        Ok(solved)
     }
 
     /// The same of its mesh when that was split further.
@@ -76,6 +81,7 @@ impl Given {
         let (solution, watts) = solved().map_err(|why| self.blame_unsolved(&mesh, &net, &why))?;
         Ok(Solved {
             rest: rest_of(&net, &solution),
+            lone: lone_of(&net, &held),
             mesh,
             net,
             held,
@@ -83,6 +89,15 @@ impl Given {
             watts,
         })
     }
+}
+
+/// A terminal of several nodes takes what comes in at one of them.
+fn lone_of(net: &Net, held: &[Held]) -> Vec<Lone> {
+    let wide = held.iter().filter(|one| one.nodes.len() > 1);
+    let held: BTreeSet<usize> = wide.flat_map(|one| one.nodes.iter().copied()).collect();
+    let mut lone = net.lone();
+    lone.retain(|one| !held.contains(&one.node));
+    lone
 }
 
 fn rest_of(net: &Net, solution: &Solution) -> f64 {
@@ -98,9 +113,23 @@ fn rest_of(net: &Net, solution: &Solution) -> f64 {
 impl Solved {
     /// The leaf of the largest power over area, and what flows in it, as [`Solution::hottest`].
     pub fn hottest(&self) -> Option<(Leaf, Flow)> {
+        let left_out = self.solution.left_out(&self.mesh);
+        self.hottest_of(|at| !left_out[at])
+    }
+
+    /// The same of all leaves, as [`Solution::hottest_of_all`].
+    pub fn hottest_of_all(&self) -> Option<(Leaf, Flow)> {
+        self.hottest_of(|_| true)
+    }
+
+    fn hottest_of(&self, is_in: impl Fn(usize) -> bool) -> Option<(Leaf, Flow)> {
         let leaves: Vec<Leaf> = self.mesh.leaves().collect();
-        let density = |(leaf, watts): (&Leaf, &f64)| watts / leaf.area();
-        let at = place_of_most(leaves.iter().zip(&self.watts).map(density))?;
+        let density = |(at, leaf): (usize, &Leaf)| match is_in(at) {
+            true => self.watts[at] / leaf.area(),
+            false => 0.0,
+        };
+        let densities: Vec<f64> = leaves.iter().enumerate().map(density).collect();
+        let at = place_of_most(densities.into_iter())?;
         let (leaf, watts, sheet) = (leaves[at], self.watts[at], self.net.cells[at].sheet);
         // The net's conductances give no current of a cell.
         let by_power = || Flow {

@@ -5,6 +5,10 @@ use leafmesh::solving::{Crossing, Cuts};
 use leafmesh::tool::{digits, say, Given, Solved};
 use std::fmt::{self, Write};
 
+/// Why a line has no current.
+const UNDER_LINK: &str =
+    "meets cells in which a link's end has an area: it is at one potential, and no current is known there";
+
 /// How many necks are shown.
 #[derive(Clone, Copy, Debug, PartialEq, Eq)]
 pub enum Shown {
@@ -18,6 +22,8 @@ pub struct Tables {
     across: Vec<Crossing>,
     /// The one with the largest mean first.
     necks: Vec<(Neck, Crossing)>,
+    /// How many necks run through the area of a link's end.
+    under_links: usize,
 }
 
 impl Tables {
@@ -25,12 +31,15 @@ impl Tables {
     ///
     /// # Errors
     ///
-    /// In words: a line that crosses no copper, behind its own.
+    /// In words: a line that crosses no copper, or the area of a link's end, behind its own.
     pub fn of(given: &Given, solved: &Solved) -> Result<Self, String> {
         let cuts = Cuts::of(&solved.net, &solved.solution);
         let cuts = cuts.map_err(|why| given.said(&why))?;
         let mut across = Vec::new();
         for (at, own) in given.across.iter().enumerate() {
+            if cuts.meets_area(&own.line) {
+                return Err(given.refused_across(at, UNDER_LINK));
+            }
             let Some(crossing) = cuts.through(&own.line) else {
                 let (layer, component) = (own.line.layer, own.line.component);
                 let why = format!("crosses no copper of layer {layer}, component {component}");
@@ -44,12 +53,19 @@ impl Tables {
             }
             across.push(crossing);
         }
-        let all = necks::of(solved.mesh.polygons().outlines()).into_iter();
+        let all = necks::of(solved.mesh.polygons().outlines());
+        let under_links = |neck: &&Neck| cuts.meets_area(&neck.cut());
+        let under_links = all.iter().filter(under_links).count();
         let mut necks: Vec<(Neck, Crossing)> = all
+            .into_iter()
             .filter_map(|neck| Some((neck, cuts.through(&neck.cut())?)))
             .collect();
         necks.sort_by(|(_, a), (_, b)| b.mean().total_cmp(&a.mean()));
-        Ok(Tables { across, necks })
+        Ok(Tables {
+            across,
+            necks,
+            under_links,
+        })
     }
 
     pub fn put(
@@ -62,7 +78,14 @@ impl Tables {
         if !self.across.is_empty() {
             self.put_across(given, solved, text)?;
         }
-        self.put_necks(given, solved, shown, text)
+        self.put_necks(given, solved, shown, text)?;
+        match self.under_links {
+            0 => Ok(()),
+            count => writeln!(
+                text,
+                "{count} under areas of links: no current is known there"
+            ),
+        }
     }
 
     fn put_across(&self, given: &Given, solved: &Solved, text: &mut String) -> fmt::Result {

@@ -3,7 +3,9 @@
 use crate::cuts::{Shown, Tables};
 use crate::{given, TERMINAL};
 use leafmesh::solving::Flow;
-use leafmesh::tool::{digits, By, Command, Given, Solved, Stop, Switch, Takes, Words, SNAP};
+use leafmesh::tool::{
+    digits, By, Command, Given, Solved, Stop, Switch, Takes, Words, ONE_NODE, SNAP,
+};
 use leafmesh::{Leaf, Link, Refusal};
 use std::fmt::{self, Write};
 
@@ -11,12 +13,14 @@ use std::fmt::{self, Write};
 const NET: Switch = ("--net", Takes::Nothing);
 /// How many necks are shown.
 const NECKS: Switch = ("--necks", Takes::Word);
+/// With the leaves at links of one node.
+const ALL: Switch = ("--all", Takes::Nothing);
 
 pub const SOLVE: Command = Command {
     name: "solve",
     help: concat!(
         "\
-usage: board solve [FILE] [--net] [--necks N|all] [--terminal WORDS] ..
+usage: board solve [FILE] [--net] [--all] [--necks N|all] [--terminal WORDS] ..
                    [--snap PITCH] [-o FILE]
 
 What flows between a board's terminals: their volts and amperes, the power in
@@ -28,11 +32,13 @@ from its first end to its second.
                     all; 10 without it
   --net             by the net's conductances (docs/CONDUCTANCES.md) and not by
                     elements on its cells; without lines and necks
+  --all             the hottest of all leaves; without it those at a link of one
+                    node are left out, since they get hotter with each level
 ",
         terminal_help!(),
         snap_help!()
     ),
-    switches: &[NET, NECKS, TERMINAL, SNAP],
+    switches: &[NET, ALL, NECKS, TERMINAL, SNAP],
     make: solve,
 };
 
@@ -48,12 +54,12 @@ fn solve(words: &Words) -> Result<Vec<u8>, Stop> {
     let currents = currents_of(&given, &solved).map_err(|why| given.said(&why))?;
     let mut text = String::new();
     put_terminals(&solved, &mut text).expect(TAKES_ALL);
-    put_power(&given, &solved, &mut text).expect(TAKES_ALL);
+    put_power(&given, &solved, words.has(ALL.0), &mut text).expect(TAKES_ALL);
     if let Some(tables) = tables {
         let put = tables.put(&given, &solved, shown, &mut text);
         put.expect(TAKES_ALL);
     }
-    put_currents(&currents, &mut text).expect(TAKES_ALL);
+    put_currents(&currents, &solved, &mut text).expect(TAKES_ALL);
     Ok(text.into_bytes())
 }
 
@@ -90,7 +96,7 @@ fn put_terminals(solved: &Solved, text: &mut String) -> fmt::Result {
     Ok(())
 }
 
-fn put_power(given: &Given, solved: &Solved, text: &mut String) -> fmt::Result {
+fn put_power(given: &Given, solved: &Solved, of_all: bool, text: &mut String) -> fmt::Result {
     let links: f64 = solved.link_watts().iter().sum();
     let solution = &solved.solution;
     write!(text, "\npower     {} W", digits(solution.watts()))?;
@@ -101,10 +107,19 @@ fn put_power(given: &Given, solved: &Solved, text: &mut String) -> fmt::Result {
     if let Some(ohms) = solved.ohms() {
         writeln!(text, "V / A     {} ohm", digits(ohms))?;
     }
-    match solved.hottest() {
-        Some((leaf, flow)) => writeln!(text, "hottest   {}", hot(given, solved, &leaf, &flow)),
-        None => Ok(()),
+    let hottest = match of_all {
+        true => solved.hottest_of_all(),
+        false => solved.hottest(),
+    };
+    if let Some((leaf, flow)) = hottest {
+        writeln!(text, "hottest   {}", hot(given, solved, &leaf, &flow))?;
     }
+    let left_out = solved.left_out();
+    if left_out > 0 && !of_all {
+        let words = "leaves in base cells at links of one node; --all takes them, too";
+        writeln!(text, "left out  {left_out} {words}")?;
+    }
+    Ok(())
 }
 
 /// A leaf by its names and its place, with its power.
@@ -147,22 +162,19 @@ fn currents_of(given: &Given, solved: &Solved) -> Result<Vec<Current>, Refusal> 
     Ok(all)
 }
 
-fn put_currents(all: &[Current], text: &mut String) -> fmt::Result {
+fn put_currents(all: &[Current], solved: &Solved, text: &mut String) -> fmt::Result {
     if all.is_empty() {
         return Ok(());
     }
     writeln!(text, "\n{:<12} {:>12} {:>12}", "link", "edges", "A")?;
     for one in all {
         let (edges, amperes) = (one.edges, digits(one.amperes));
-        writeln!(text, "{:<12} {edges:>12} {amperes:>12}", words_of(one.link))?;
+        let note = match solved.is_lone(one.link) {
+            true => format!("  {ONE_NODE}"),
+            false => String::new(),
+        };
+        let link = one.link.to_string();
+        writeln!(text, "{link:<12} {edges:>12} {amperes:>12}{note}")?;
     }
     Ok(())
-}
-
-fn words_of(link: Link) -> String {
-    match link {
-        Link::Contact(at) => format!("contact {at}"),
-        Link::Via(at) => format!("via {at}"),
-        Link::Channel(at) => format!("channel {at}"),
-    }
 }
