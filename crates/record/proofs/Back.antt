@@ -4,11 +4,11 @@ use Rattle.std.proofs.lemmas.List.{length-map, map-append}
 use Rattle.std.proofs.lemmas.List.Edits.{sets, sets-eq}
 use lib.Ieee.{binary64, is_nan, of_bits}
 use lib.Ieee.Bits.{to_bits-of_bits, nan_bits_is}
-use Rattle.refusals.specs.Limits.{max_layers, max_polygons, max_points}
+use Rattle.refusals.specs.Limits.{max_layers, max_polygons, max_points, sheet_high_bits}
 use Rattle.fields.specs.Codec.{all_fit}
 use Rattle.fields.proofs.Laws.{each}
 use Rattle.record.specs.declared.board.Version.TheVariants.{One}
-use Rattle.record.specs.Board.{Entry, Point, Polygon, Board, limits_of, sheet_high, polygon, board, record_of, is_in_range}
+use Rattle.record.specs.Board.{Entry, Point, Polygon, Board, limits_of, polygon, board, record_of, is_in_range}
 use Rattle.record.specs.Rows.{Rows, entry_row, polygon_row, sheet_of, point_row, rings, filled, rows_for}
 use Rattle.record.specs.Reading.{counts_of, has_room, reading, read_leaves}
 use Rattle.record.specs.Writing.{entries_of, ring_of, sheet_bits, polygons_of, add_up, board_of, is_shaped, is_countable, size_of, write_leaves}
@@ -31,7 +31,7 @@ ring-back : (ps : List Point) → ring_of (map point_row ps) ≡ ps
 ring-back [] = refl
 ring-back (p ∷ ps) = ap (λ (l : List Point). p ∷ l) (ring-back ps)
 
-sheet-back : (n : ℕ) → n ≤ sheet_high → sheet_bits (of_bits binary64 n) ≡ n
+sheet-back : (n : ℕ) → n ≤ sheet_high_bits → sheet_bits (of_bits binary64 n) ≡ n
 sheet-back n h =
     let k : T (not (is_nan (of_bits binary64 n))) = subst (λ t. T (not t)) (nan_bits_is binary64 n) (no_nan n h) in
     rw (eq_self (of_bits binary64 n) k) (to_bits-of_bits binary64 n (omega arith) k)

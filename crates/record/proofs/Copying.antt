@@ -7,8 +7,9 @@ use Rattle.fields.specs.Codec.{Codec, any, ranged, pair, many, chained, counted,
 use Rattle.fields.proofs.Loop.{IsAt, reads_on, among}
 use Rattle.fields.proofs.Laws.{number_room, tested_parts, signed_parts, pair_parts, named_parts, chained_parts, many_length, same_read, bind_ok, each}
 use Rattle.refusals.specs.declared.Refusal.{Refusal}
+use Rattle.refusals.specs.Limits.{sheet_low_bits, sheet_high_bits}
 use Rattle.record.specs.declared.board.Limits.{Limits}
-use Rattle.record.specs.Board.{Entry, Point, Polygon, is_above, layer, entry, coordinate, point, sheet_low, sheet_high, polygon, limits_of, polygon_list}
+use Rattle.record.specs.Board.{Entry, Point, Polygon, is_above, layer, entry, coordinate, point, polygon, limits_of, polygon_list}
 use Rattle.record.specs.declared.board.Version.TheVariants.{One}
 use Rattle.record.specs.Rows.{rings}
 use Rattle.record.specs.Walks.{HasRoom}
@@ -107,7 +108,7 @@ record PolygonParts (c : Cursor) (x : Polygon × Cursor) : Type 0 where
   layer : number w16 c ≡ Ok (x.0.layer, d1)
   component : number w32 d1 ≡ Ok (x.0.component, d2)
   sheet : number w64 d2 ≡ Ok (x.0.sheet, d3)
-  high : x.0.sheet ≤ sheet_high
+  high : x.0.sheet ≤ sheet_high_bits
   count : number w16 d3 ≡ Ok (n, d4)
   points : times point n d4 ≡ Ok (x.0.points, x.1)
 
@@ -116,12 +117,12 @@ module _ (l : Limits) (c : Cursor) {x : Polygon × Cursor} (e : (polygon l).read
   unfolding polygon
   polygon_parts =
       let points = counted w16 l.ring_points point in
-      let sheet = pair (ranged w64 sheet_low sheet_high) points in
+      let sheet = pair (ranged w64 sheet_low_bits sheet_high_bits) points in
       let component = pair (any w32) sheet in
       let p = pair_parts (any w16) component c (named_parts _ (λ (p : Polygon). (p.layer, (p.component, (p.sheet, p.points)))) (pair (any w16) component) (λ x. refl) c e) in
       let q = pair_parts (any w32) sheet p.0 p.2 in
-      let r = pair_parts (ranged w64 sheet_low sheet_high) points q.0 q.2 in
-      let s = tested_parts (λ n. leb sheet_low n && leb n sheet_high) (any w64) q.0 r.1 in
+      let r = pair_parts (ranged w64 sheet_low_bits sheet_high_bits) points q.0 q.2 in
+      let s = tested_parts (λ n. leb sheet_low_bits n && leb n sheet_high_bits) (any w64) q.0 r.1 in
       let t = chained_parts (λ (_ : Unit {0}). point) (λ (_ : Point). tt) w16 l.ring_points tt r.0 r.2 in
       record {
         d1 = p.0;
@@ -132,7 +133,7 @@ module _ (l : Limits) (c : Cursor) {x : Polygon × Cursor} (e : (polygon l).read
         layer = p.1;
         component = q.1;
         sheet = s.0;
-        high = leb-true x.0.sheet sheet_high (each (leb sheet_low x.0.sheet) (leb x.0.sheet sheet_high) s.1).1;
+        high = leb-true x.0.sheet sheet_high_bits (each (leb sheet_low_bits x.0.sheet) (leb x.0.sheet sheet_high_bits) s.1).1;
         count = t.2;
         points = t.3;
       }
@@ -164,8 +165,8 @@ module _ (l : Limits) (c : Cursor) {x : Polygon × Cursor} (e : (polygon l).read
         same_sheet : ◌≡◌ {A = ℕ × Cursor} (x.0.sheet, polygon_parts.d3) (s, e3)
         same_sheet = same_read (number w64 e2) sheet_is read_sheet
 
-        pub sheet_known : s ≤ sheet_high
-        sheet_known = subst (λ (y : ℕ × Cursor). y.0 ≤ sheet_high) same_sheet polygon_parts.high
+        pub sheet_known : s ≤ sheet_high_bits
+        sheet_known = subst (λ (y : ℕ × Cursor). y.0 ≤ sheet_high_bits) same_sheet polygon_parts.high
 
         count_is : number w16 e3 ≡ Ok (polygon_parts.n, polygon_parts.d4)
         count_is = ap (λ (y : ℕ × Cursor). number w16 y.1) (sym same_sheet) ∙ polygon_parts.count

@@ -3,7 +3,7 @@ use Rattle.std.proofs.Common.{◌≡◌, ℕ, ◌+◌, ◌*◌, ◌-◌, ◌^◌
 use Rattle.std.specs.List.{flat_map}
 use Rattle.std.specs.Int.{w8, w16, w32, w64, to_be_bytes, bytes_high_first}
 use Rattle.std.proofs.lemmas.Bool.{ltb-true}
-use Rattle.refusals.specs.Limits.{max_layers, max_polygons, max_points, coordinate as farthest, default_level}
+use Rattle.refusals.specs.Limits.{max_layers, max_polygons, max_points, coordinate as farthest, sheet_low_bits, sheet_high_bits, default_level}
 use Rattle.refusals.specs.declared.Refusal.TheVariants.{WrongLength, OutOfRange}
 use Rattle.cell.specs.Ticks.{in_range}
 use Rattle.fields.specs.Cursor.{Cursor, start, require, number}
@@ -12,7 +12,7 @@ use Rattle.fields.proofs.Laws.{bind_ok, require_ok, ok_is, each, IsBytes, IsLawf
 use Rattle.record.specs.declared.board.Version.{Version}
 use Rattle.record.specs.declared.board.Version.TheVariants.{One}
 use Rattle.record.specs.declared.board.Limits.{Limits}
-use Rattle.record.specs.Board.{Polygon, Board, version_of, limits_of, means_default, level, settings, is_above, layer, entry, layer_list, coordinate, point, sheet_low, sheet_high, polygon, polygon_list, split_list, body, board, record_of, is_in_range}
+use Rattle.record.specs.Board.{Polygon, Board, version_of, limits_of, means_default, level, settings, is_above, layer, entry, layer_list, coordinate, point, polygon, polygon_list, split_list, body, board, record_of, is_in_range}
 use Rattle.record.specs.Puts.{entry_bytes, polygon_bytes, settings_bytes}
 use Rattle.fields.proofs.Stores.{bytes-length}
 use Rattle.record.proofs.Turns.{each-length, entry-long, polygon-long, splits-long}
@@ -92,12 +92,12 @@ module _ (l : Limits) (r : IsRoomy l) where
   unfolding polygon
   polygon_lawful =
       let points = counted w16 l.ring_points point in
-      let sheet = pair (ranged w64 sheet_low sheet_high) points in
+      let sheet = pair (ranged w64 sheet_low_bits sheet_high_bits) points in
       let component = pair (any w32) sheet in
       named_lawful _ _ (pair (any w16) component) (λ x. refl) (λ y. refl)
       (pair_lawful (any w16) component (any_lawful w16 wide16)
       (pair_lawful (any w32) sheet (any_lawful w32 wide32)
-      (pair_lawful (ranged w64 sheet_low sheet_high) points (ranged_lawful w64 wide64 sheet_low sheet_high)
+      (pair_lawful (ranged w64 sheet_low_bits sheet_high_bits) points (ranged_lawful w64 wide64 sheet_low_bits sheet_high_bits)
       (counted_lawful w16 wide16 l.ring_points (omega (arith, r.points)) point point_lawful))))
 
   polygon_list_lawful : IsLawful (polygon_list l)
@@ -127,7 +127,7 @@ module _ {A S : Type 0} (item : S → Codec A) (leaves : A → S) (f : A → Lis
 pub record PolygonFits (l : Limits) (p : Polygon) : Type 0 where
   pub layer : p.layer < 2 ^ 16
   pub component : p.component < 2 ^ 32
-  pub sheet : p.sheet ≤ sheet_high
+  pub sheet : p.sheet ≤ sheet_high_bits
   pub points : length p.points ≤ l.ring_points
 
 pub polygon_fits : (l : Limits) (p : Polygon) → (polygon l).fits p ≡ true → PolygonFits l p
@@ -141,7 +141,7 @@ polygon_fits l p fits =
     record {
       layer = ltb-true p.layer (256 ^ 2) a.0;
       component = ltb-true p.component (256 ^ 4) b.0;
-      sheet = leb-true p.sheet sheet_high bits.1;
+      sheet = leb-true p.sheet sheet_high_bits bits.1;
       points = leb-true (length p.points) l.ring_points d.0;
     }
 

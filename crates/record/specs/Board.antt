@@ -5,7 +5,8 @@ use Rattle.std.specs.Option.{option_map_or}
 use Rattle.std.specs.Int.{w8, w16, w32, w64, to_be_bytes}
 use Rattle.refusals.specs.declared.Refusal.{Refusal}
 use Rattle.refusals.specs.declared.Refusal.TheVariants.{WrongVersion, WrongLength, OutOfRange}
-use Rattle.refusals.specs.Limits.{widest_level, max_cap, max_cell, max_layers, max_polygons, max_points, default_level}
+use Rattle.refusals.specs.Limits.{widest_level, max_cap, max_cell, max_layers, max_polygons, max_points}
+use Rattle.refusals.specs.Limits.{sheet_low_bits, sheet_high_bits, default_level}
 use Rattle.cell.specs.Ticks.{in_range}
 use Rattle.fields.specs.Cursor.{start, ◌>>=◌, require, number}
 use Rattle.fields.specs.Codec.{Codec, any, tested, ranged, signed, pair, named, chained, counted}
@@ -88,24 +89,19 @@ layer_list l = chained w16 l.layers (entry l) (λ e. Some e.layer) None
 -- ---- "polygon count (16), each layer (16), component (32), r_sheet as binary64 bits (64), point count (16), points as
 -- signed 64-bit x and y"
 
--- r_sheet lies from 2^-40 to 2^40. The bits of positive binary64 numbers rise with the numbers
-abbrev pub sheet_low : ℕ
-sheet_low = 0x3d70_0000_0000_0000
-
-abbrev pub sheet_high : ℕ
-sheet_high = 0x4270_0000_0000_0000
-
 abbrev pub coordinate : Codec ℤ
 coordinate = signed in_range
 
 abbrev pub point : Codec Point
 point = named (λ p. record { x = p.0; y = p.1 }) (λ p. (p.x, p.y)) (pair coordinate coordinate)
 
+-- r_sheet lies from 2^-40 to 2^40. The bits of positive binary64 numbers rise with the numbers
 unfoldable pub polygon : Limits → Codec Polygon
 polygon l =
     named (λ p. record { layer = p.0; component = p.1.0; sheet = p.1.1.0; points = p.1.1.1 })
     (λ p. (p.layer, (p.component, (p.sheet, p.points))))
-    (pair (any w16) (pair (any w32) (pair (ranged w64 sheet_low sheet_high) (counted w16 l.ring_points point))))
+    (pair (any w16) (pair (any w32)
+    (pair (ranged w64 sheet_low_bits sheet_high_bits) (counted w16 l.ring_points point))))
 
 abbrev pub polygon_list : Limits → Codec (List Polygon)
 polygon_list l = counted w16 l.polygons (polygon l)
