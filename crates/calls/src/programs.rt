@@ -1,13 +1,13 @@
 //! leafnet, between a reader and a writer, and by the words of a command line.
-use leafnet_command::ending::Ending;
+use leafnet_command::files::FileSystem;
 use leafnet_command::request::USAGE;
 use leafnet_command::run::run;
 use leafnet_text::failure::Failure;
-use leafnet_text::{answer_to, leafnet, text_of};
+use leafnet_text::lines::Text;
+use leafnet_text::{answer_to, leafnet};
 use refusals::Refusal;
 use std::io::{self, Error, ErrorKind, Read, Write};
 use std::process::Abort;
-use std::rt::Files;
 use std::test::Fail;
 
 // A square of 4 by 4 ticks on layer 1, in one cell.
@@ -71,34 +71,32 @@ impl Write for BrokenWriter {
 #[test]
 fn a_square(rt: HostRuntime) -> Result<(), Fail> {
     let mut text = Vec::new(rt.alloc());
-    let refusal = leafnet(rt.alloc(), &mut &SQUARE[..], &mut text)?;
-    assert_eq!(rt; refusal, None);
+    let printed = matches!(leafnet(&mut &SQUARE[..], &mut text), Ok(None));
+    assert!(rt; printed);
     assert_eq!(rt; text.as_slice(), TEXT.as_bytes());
     Ok(())
 }
 
+// Each in place of the text before it.
 #[test]
-fn refusals(rt: HostRuntime) -> Result<(), Fail> {
-    let text = text_of(rt.alloc(), &[])?;
+fn refusals(rt: HostRuntime) {
+    let mut text = Text::new();
+    assert_eq!(rt; answer_to(&[], &mut text), Some(Refusal::WrongLength(0)));
     assert_eq!(rt; text.as_str(), "refused 2 0\n");
-    let text = text_of(rt.alloc(), &[2])?;
+    assert_eq!(rt; answer_to(&[2], &mut text), Some(Refusal::WrongVersion));
     assert_eq!(rt; text.as_str(), "refused 1 0\n");
-    let text = text_of(rt.alloc(), &SQUARE[..SQUARE.len() - 1])?;
+    let cut = &SQUARE[..SQUARE.len() - 1];
+    assert_eq!(rt; answer_to(cut, &mut text), Some(Refusal::WrongLength(1)));
     assert_eq!(rt; text.as_str(), "refused 2 1\n");
-    let answer = answer_to(rt.alloc(), &[0; 16_385])?;
-    assert_eq!(rt; answer.text.as_str(), "refused 6 0\n");
-    assert_eq!(rt; answer.refusal, Some(Refusal::NoRoom));
-    Ok(())
+    assert_eq!(rt; answer_to(&[0; 16_385], &mut text), Some(Refusal::NoRoom));
+    assert_eq!(rt; text.as_str(), "refused 6 0\n");
 }
 
 #[test]
 fn a_read_fails_in_mid_stream(rt: HostRuntime) -> Result<(), Fail> {
     let mut text = Vec::new(rt.alloc());
     let mut reader = BrokenReader(&SQUARE[..20]);
-    let failed = matches!(
-        leafnet(rt.alloc(), &mut reader, &mut text),
-        Err(Failure::Reading(_))
-    );
+    let failed = matches!(leafnet(&mut reader, &mut text), Err(Failure::Reading(_)));
     assert!(rt; failed);
     assert!(rt; text.is_empty());
     Ok(())
@@ -108,7 +106,7 @@ fn a_read_fails_in_mid_stream(rt: HostRuntime) -> Result<(), Fail> {
 fn a_write_fails_in_mid_stream(rt: HostRuntime) {
     let mut writer = BrokenWriter { room: 10, taken: 0 };
     let failed = matches!(
-        leafnet(rt.alloc(), &mut &SQUARE[..], &mut writer),
+        leafnet(&mut &SQUARE[..], &mut writer),
         Err(Failure::Writing(_))
     );
     assert!(rt; failed);
@@ -123,9 +121,34 @@ struct Wanted<'a> {
     status: u8,
 }
 
-// Runs a command line of one word, or of none, with this record on standard input.
-fn assert_run<R: Abort + Files + AllocGlobal>(
+// A folder with one file, which opens as these bytes.
+#[derive(Clone, Copy)]
+struct Folder<'a> {
+    name: &'a str,
+    record: &'a [u8],
+}
+
+impl<'a> FileSystem for Folder<'a> {
+    ghost use Rattle.std.specs.Prelude.{⊤};
+
+    type File = &'a [u8];
+
+    ghost opens = { λ _ _. ⊤ };
+
+    ghost fails = { λ _ _. ⊤ };
+
+    fn open_named(&self, name: &str) -> io::Result<&'a [u8]> {
+        if name == self.name {
+            return Ok(self.record);
+        }
+        Err(Error::from(ErrorKind::NotFound))
+    }
+}
+
+// Runs a command line of one word, or of none, with this record on standard input, beside this folder.
+fn assert_run<R: Abort + AllocGlobal, F: FileSystem>(
     rt: &R,
+    files: &F,
     word: &str,
     record: &[u8],
     wanted: Wanted<'_>,
@@ -135,10 +158,11 @@ fn assert_run<R: Abort + Files + AllocGlobal>(
         words.push(String::from_str(rt.alloc(), word)?)?;
     }
     let mut printed = Vec::new(rt.alloc());
-    let ending = run(rt, rt.alloc(), &words, &mut &record[..], &mut printed);
-    let said = format!(in rt.alloc(); "{ending}")?;
+    let ending = run(files, &words, &mut &record[..], &mut printed);
+    let mut said = Vec::new(rt.alloc());
+    ending.say(&mut said)?;
     assert_eq!(rt; printed.as_slice(), wanted.printed.as_bytes());
-    assert_eq!(rt; said.as_str(), wanted.said);
+    assert_eq!(rt; said.as_slice(), wanted.said.as_bytes());
     assert_eq!(rt; ending.status(), wanted.status);
     Ok(())
 }
@@ -156,14 +180,39 @@ fn records_on_standard_input(rt: HostRuntime) -> Result<(), Fail> {
         status: 1,
     };
     for word in ["", "-"] {
-        assert_run(&rt, word, SQUARE, printed)?;
-        assert_run(&rt, word, b"level 3", refused)?;
+        assert_run(&rt, &rt, word, SQUARE, printed)?;
+        assert_run(&rt, &rt, word, b"level 3", refused)?;
     }
     Ok(())
 }
 
 #[test]
+fn records_in_files(rt: HostRuntime) -> Result<(), Fail> {
+    let printed = Wanted {
+        printed: TEXT,
+        said: "",
+        status: 0,
+    };
+    let missing = Wanted {
+        printed: "",
+        said: "leafnet: other.record: entity not found\n",
+        status: 1,
+    };
+    let folder = Folder {
+        name: "square.record",
+        record: SQUARE,
+    };
+    assert_run(&rt, &folder, "square.record", b"level 3", printed)?;
+    assert_run(&rt, &folder, "other.record", SQUARE, missing)
+}
+
+#[test]
 fn other_command_lines(rt: HostRuntime) -> Result<(), Fail> {
+    let help = Wanted {
+        printed: USAGE,
+        said: "",
+        status: 0,
+    };
     let version = Wanted {
         printed: "leafnet 0.11.0\n",
         said: "",
@@ -179,36 +228,32 @@ fn other_command_lines(rt: HostRuntime) -> Result<(), Fail> {
         said: USAGE,
         status: 2,
     };
-    assert_run(&rt, "--version", SQUARE, version)?;
-    assert_run(&rt, "no such file", SQUARE, missing)?;
-    assert_run(&rt, "-h", SQUARE, misused)
+    assert_run(&rt, &rt, "--help", SQUARE, help)?;
+    assert_run(&rt, &rt, "--version", SQUARE, version)?;
+    assert_run(&rt, &rt, "no such file", SQUARE, missing)?;
+    assert_run(&rt, &rt, "-h", SQUARE, misused)
 }
 
 #[test]
 fn failures_name_their_end(rt: HostRuntime) -> Result<(), Fail> {
     let mut printed = Vec::new(rt.alloc());
-    let ending = run(
-        &rt,
-        rt.alloc(),
-        &[],
-        &mut BrokenReader(&SQUARE[..20]),
-        &mut printed,
-    );
+    let ending = run(&rt, &[], &mut BrokenReader(&SQUARE[..20]), &mut printed);
     assert_eq!(rt; ending.status(), 1);
-    let said = format!(in rt.alloc(); "{ending}")?;
+    let mut said = Vec::new(rt.alloc());
+    ending.say(&mut said)?;
     assert_eq!(rt;
-        said.as_str(),
-        "leafnet: cannot read standard input: other error\n"
+        said.as_slice(),
+        b"leafnet: cannot read standard input: other error\n"
     );
+    assert!(rt; printed.is_empty());
     let mut writer = BrokenWriter { room: 10, taken: 0 };
-    let ending = run(&rt, rt.alloc(), &[], &mut &SQUARE[..], &mut writer);
+    let ending = run(&rt, &[], &mut &SQUARE[..], &mut writer);
     assert_eq!(rt; ending.status(), 1);
-    let said = format!(in rt.alloc(); "{ending}")?;
+    let mut said = Vec::new(rt.alloc());
+    ending.say(&mut said)?;
     assert_eq!(rt;
-        said.as_str(),
-        "leafnet: cannot write standard output: other error\n"
+        said.as_slice(),
+        b"leafnet: cannot write standard output: other error\n"
     );
-    let said = format!(in rt.alloc(); "{}", Ending::OutOfMemory)?;
-    assert_eq!(rt; said.as_str(), "leafnet: out of memory\n");
     Ok(())
 }

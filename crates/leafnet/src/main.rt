@@ -21,23 +21,21 @@ fn words(rt: &HostRuntime) -> io::Result<Vec<String>> {
 fn conclude(rt: &HostRuntime, ending: Ending<'_>) -> ExitCode
     ensures { exit_status result ≡ status_of ending.entry }
 {
-    let _ = write!(rt.stderr(), "{ending}");
+    let _ = ending.say(&mut rt.stderr());
     ExitCode::from(ending.status())
 }
 
 fn main(rt: HostRuntime) -> ExitCode {
     match words(&rt) {
         Ok(words) => {
-            let ending = run(
-                &rt,
-                rt.alloc(),
-                &words,
-                &mut rt.reader(),
-                &mut io::writer(&rt),
-            );
+            let ending = run(&rt, &words, &mut rt.reader(), &mut io::writer(&rt));
             conclude(&rt, ending)
         }
-        Err(why) if why.kind() == ErrorKind::OutOfMemory => conclude(&rt, Ending::OutOfMemory),
+        // The words alone take memory.
+        Err(why) if why.kind() == ErrorKind::OutOfMemory => {
+            let _ = writeln!(rt.stderr(), "leafnet: out of memory");
+            ExitCode::FAILURE
+        }
         // A word is no text.
         Err(_) => conclude(&rt, Ending::Misused),
     }

@@ -1,12 +1,9 @@
--- What the words of a command line ask for, and what is due for it.
+-- What the words of a command line ask for.
 use Rattle.std.specs.Prelude.{ℕ, List, [], ◌∷◌, codes, if◌then◌else◌, Bool, false, nat_eq, Option, Some, None}
 use Rattle.std.specs.Str.{bytes_eq}
-use Rattle.refusals.specs.Said.{Said, accepted}
-use Rattle.leafnet_text.specs.Output.{leafnet_says}
 use Rattle.leafnet_command.specs.declared.request.Source.TheVariants.{StandardInput, File}
 use Rattle.leafnet_command.specs.declared.request.Request.{Request}
 use Rattle.leafnet_command.specs.declared.request.Request.TheVariants.{Help, Version, Answer}
-use Rattle.leafnet_command.specs.declared.request.TheConstants.{USAGE, VERSION}
 
 -- the usage, the version, the answer for the record on standard input or in a file of this name, or nothing that is known
 pub data Asked : Type 0 where
@@ -40,18 +37,3 @@ asked_in (Some Version) = version
 asked_in (Some (Answer StandardInput)) = answer
 asked_in (Some (Answer (File name))) = answer_for name.now
 asked_in None = unknown
-
--- what is due for it: a text or a refusal that is known; one that isn't, as a file's bytes aren't; or nothing, but the usage on standard error
-pub data Due : Type 0 where
-  known : Said → Due
-  hidden : Due
-  nothing : Due
-
--- where these bytes are on standard input, as far as they are known
-abbrev pub due : Asked → Option (List ℕ) → Due
-due usage input = known (accepted USAGE.now)
-due version input = known (accepted VERSION.now)
-due answer (Some input) = known (leafnet_says input)
-due answer None = hidden
-due (answer_for name) input = hidden
-due unknown input = nothing

@@ -1,13 +1,16 @@
 //! How a run ends.
-ghost use Rattle.std.specs.Prelude.{◌≡◌};
+ghost use Rattle.std.specs.Prelude.{◌≡◌, OnOk};
 ghost use Rattle.leafnet_command.specs.Ended.{reason};
 
 use crate::request::{Source, USAGE};
+use arrayvec::ArrayString;
 use leafnet_text::lines::Refused;
 use refusals::Refusal;
-use std::{fmt, io};
+use std::fmt::Write as _;
+use std::io;
+use std::io::Write;
 
-/// How a run of leafnet ended. By `{}` it is what is said of it on standard error.
+/// How a run of leafnet ended.
 #[derive(Debug, Drop)]
 pub enum Ending<'a> {
     /// What was asked for stands on standard output.
@@ -18,7 +21,14 @@ pub enum Ending<'a> {
     Misused,
     Unread(Source<'a>, io::Error),
     Unwritten(io::Error),
-    OutOfMemory,
+}
+
+// The system's words for a failure, up to 320 bytes of them.
+fn system_words(why: &io::Error) -> ArrayString<320> {
+    let mut words = ArrayString::new();
+    // Where there are more, those that came before are left.
+    let _ = write!(words, "{why}");
+    words
 }
 
 // Why a record is refused, in the words of the Rust crate.
@@ -42,7 +52,7 @@ fn words(why: Refusal) -> &'static str
 }
 
 impl Ending<'_> {
-    ghost use Rattle.leafnet_command.specs.Ended.{status_of};
+    ghost use Rattle.leafnet_command.specs.Ended.{Says, status_of};
 
     /// The status that the program ends with.
     pub fn status(&self) -> u8
@@ -52,31 +62,34 @@ impl Ending<'_> {
             Ending::Printed => 0,
             Ending::Misused => 2,
             Ending::Refused(_) => 1,
-            Ending::Unread(..) | Ending::Unwritten(_) | Ending::OutOfMemory => 1,
+            Ending::Unread(..) | Ending::Unwritten(_) => 1,
         }
     }
-}
 
-impl fmt::Display for Ending<'_> {
-    ghost use Rattle.leafnet_command.specs.Ended.{words_of};
-
-    ghost output = { words_of };
-
-    fn fmt<W: fmt::Write>(&self, f: &mut fmt::Formatter<W>) -> fmt::Result {
+    /// Says on standard error how the run ended.
+    pub fn say<W: Write>(&self, error: &mut W) -> io::Result<()>
+        ensures { OnOk result (Says self.now (W.contents error.old) (W.contents error.new)) }
+    {
         match self {
             Ending::Printed => Ok(()),
             Ending::Refused(why) => {
                 let refused = Refused(*why);
                 let words = words(*why);
-                writeln!(f, "leafnet: {refused}: {words}")
+                writeln!(error, "leafnet: {refused}: {words}")
             }
-            Ending::Misused => write!(f, "{USAGE}"),
+            Ending::Misused => write!(error, "{USAGE}"),
             Ending::Unread(Source::StandardInput, why) => {
-                writeln!(f, "leafnet: cannot read standard input: {why}")
+                let words = system_words(why);
+                writeln!(error, "leafnet: cannot read standard input: {words}")
             }
-            Ending::Unread(Source::File(name), why) => writeln!(f, "leafnet: {name}: {why}"),
-            Ending::Unwritten(why) => writeln!(f, "leafnet: cannot write standard output: {why}"),
-            Ending::OutOfMemory => writeln!(f, "leafnet: out of memory"),
+            Ending::Unread(Source::File(name), why) => {
+                let words = system_words(why);
+                writeln!(error, "leafnet: {name}: {words}")
+            }
+            Ending::Unwritten(why) => {
+                let words = system_words(why);
+                writeln!(error, "leafnet: cannot write standard output: {words}")
+            }
         }
     }
 }

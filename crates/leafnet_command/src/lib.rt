@@ -3,5 +3,6 @@
 #![tactic(auto)]
 
 pub mod ending;
+pub mod files;
 pub mod request;
 pub mod run;

@@ -1,27 +1,22 @@
-//! A run of leafnet, over any reader and any writer.
-ghost use Rattle.std.specs.Prelude.{Some, map, string_bytes};
-ghost use Rattle.refusals.specs.Said.{accepted};
+//! A run of leafnet, over any files, any reader and any writer.
+ghost use Rattle.std.specs.Prelude.{◌≡◌, ◌⊎◌, Some, map, string_bytes};
+ghost use Rattle.std.specs.Io.KnownBytes.{Keeps};
 ghost use Rattle.leafnet_command.specs.declared.request.Request.TheVariants.{Answer};
-ghost use Rattle.leafnet_command.specs.Asked.{Asked, answer, asked_by, asked_in, due, known};
-ghost use Rattle.leafnet_command.specs.Ended.{EndsAs, Gets, GetsFront, IsAnswered, Leaves, NamesAsked};
+ghost use Rattle.leafnet_command.specs.declared.ending.Ending.TheVariants.{Misused};
+ghost use Rattle.leafnet_command.specs.Asked.{answer, asked_by, asked_in};
+ghost use Rattle.leafnet_command.specs.Ended.{IsUnopened, Leaves, OfFile, OfInput, OfOwn, OfUnknown, PrintsAnswer, PrintsFile, PrintsOwn};
 
 use crate::ending::Ending;
+use crate::files::FileSystem;
 use crate::request::{Request, Source, USAGE, VERSION, parse};
 use leafnet_text::failure::Failure;
 use leafnet_text::leafnet;
-use leafnet_text::output::write_text;
-use std::alloc::Global;
-use std::fs;
-use std::io::{Read, Write};
-use std::rt::Files;
+use leafnet_text::output::{WriteEnd, write_text};
+use leafnet_text::source::ReadEnd;
 
 // Prints a text of the program's own.
-fn print<'a, W: Write>(output: &mut W, text: &str) -> Ending<'a>
-    ensures ending { EndsAs (known (accepted text.now)) result }
-    ensures nothing_unread { (asked : Asked) → NamesAsked asked result }
-    ensures text { IsAnswered result
-        → Gets (known (accepted text.now)) (W.contents output.old) (W.contents output.new) }
-    ensures front { GetsFront (known (accepted text.now)) (W.contents output.old) (W.contents output.new) }
+fn print<'a, W: WriteEnd>(output: &mut W, text: &str) -> Ending<'a>
+    ensures { PrintsOwn W.fails (W.contents output.old) (W.contents output.new) text.now result }
 {
     match write_text(output, text.as_bytes()) {
         Ok(()) => Ending::Printed,
@@ -30,73 +25,89 @@ fn print<'a, W: Write>(output: &mut W, text: &str) -> Ending<'a>
 }
 
 // Prints the answer for the record that the reader has.
-fn print_answer<'a, R: Read, W: Write>(
-    alloc: Global,
+fn print_answer<'a, R: ReadEnd, W: WriteEnd>(
     source: Source<'a>,
     reader: &mut R,
     output: &mut W,
 ) -> Ending<'a>
-    ensures ending { EndsAs (due answer (R.remaining reader.old)) result }
-    ensures named { NamesAsked (asked_in (Some (Answer source.entry))) result }
-    ensures text { IsAnswered result
-        → Gets (due answer (R.remaining reader.old)) (W.contents output.old) (W.contents output.new) }
-    ensures front { GetsFront (due answer (R.remaining reader.old)) (W.contents output.old) (W.contents output.new) }
+    ensures { PrintsAnswer (asked_in (Some (Answer source.entry))) R.fails W.fails
+        (R.remaining reader.old) (R.remaining reader.new) (W.contents output.old) (W.contents output.new) result }
 {
-    match leafnet(alloc, reader, output) {
+    match leafnet(reader, output) {
         Ok(None) => Ending::Printed,
         Ok(Some(why)) => Ending::Refused(why),
         Err(Failure::Reading(why)) => Ending::Unread(source, why),
         Err(Failure::Writing(why)) => Ending::Unwritten(why),
-        Err(Failure::OutOfMemory) => Ending::OutOfMemory,
+    }
+}
+
+// Prints the answer for the record in the file of this name.
+fn print_file<'a, F: FileSystem, W: WriteEnd>(
+    files: &F,
+    name: &'a str,
+    output: &mut W,
+) -> Ending<'a>
+    ensures { IsUnopened F.fails (W.contents output.old) (W.contents output.new) name.now result
+        ⊎ PrintsFile F.opens F.File.remaining F.File.fails W.fails
+        (W.contents output.old) (W.contents output.new) name.now result }
+{
+    match files.open_named(name) {
+        Ok(mut file) => print_answer(Source::File(name), &mut file, output),
+        Err(why) => Ending::Unread(Source::File(name), why),
     }
 }
 
 // Does what is asked for.
-fn serve<'a, F: Files, R: Read, W: Write>(
+fn serve<'a, F: FileSystem, R: ReadEnd, W: WriteEnd>(
     files: &F,
-    alloc: Global,
     request: Option<Request<'a>>,
     input: &mut R,
     output: &mut W,
 ) -> Ending<'a>
-    ensures ending { EndsAs (due (asked_in request.entry) (R.remaining input.old)) result }
-    ensures named { NamesAsked (asked_in request.entry) result }
+    ensures own { OfOwn (asked_in request.entry) (λ text.
+        PrintsOwn W.fails (W.contents output.old) (W.contents output.new) text result) }
+    ensures input { OfInput (asked_in request.entry)
+        (PrintsAnswer answer R.fails W.fails (R.remaining input.old) (R.remaining input.new)
+        (W.contents output.old) (W.contents output.new) result) }
+    ensures file { OfFile (asked_in request.entry) (λ name.
+        IsUnopened F.fails (W.contents output.old) (W.contents output.new) name result
+        ⊎ PrintsFile F.opens F.File.remaining F.File.fails W.fails
+        (W.contents output.old) (W.contents output.new) name result) }
+    ensures unknown { OfUnknown (asked_in request.entry)
+        ((result ≡ Misused) × Keeps (W.contents output.old) (W.contents output.new)) }
     ensures left { Leaves (asked_in request.entry) (R.remaining input.old) (R.remaining input.new) }
-    ensures text { IsAnswered result → Gets (due (asked_in request.entry) (R.remaining input.old))
-        (W.contents output.old) (W.contents output.new) }
-    ensures front { GetsFront (due (asked_in request.entry) (R.remaining input.old))
-        (W.contents output.old) (W.contents output.new) }
 {
     match request {
         Some(Request::Help) => print(output, USAGE),
         Some(Request::Version) => print(output, VERSION),
         Some(Request::Answer(Source::StandardInput)) => {
-            print_answer(alloc, Source::StandardInput, input, output)
+            print_answer(Source::StandardInput, input, output)
         }
-        Some(Request::Answer(Source::File(name))) => match fs::open(files, name) {
-            Ok(mut file) => print_answer(alloc, Source::File(name), &mut file, output),
-            Err(why) => Ending::Unread(Source::File(name), why),
-        },
+        Some(Request::Answer(Source::File(name))) => print_file(files, name, output),
         None => Ending::Misused,
     }
 }
 
-/// Does what the words of a command line ask for, those behind the program's name. Where an end or the memory fails,
-/// the output has got a front of what is due.
-pub fn run<'a, F: Files, R: Read, W: Write>(
+/// Does what the words of a command line ask for, those behind the program's name. Where an end fails, the ending names
+/// it, and the output has got a front of what is due.
+pub fn run<'a, F: FileSystem, R: ReadEnd, W: WriteEnd>(
     files: &F,
-    alloc: Global,
     words: &'a [String],
     input: &mut R,
     output: &mut W,
 ) -> Ending<'a>
-    ensures ending { EndsAs (due (asked_by (map string_bytes words.now)) (R.remaining input.old)) result }
-    ensures named { NamesAsked (asked_by (map string_bytes words.now)) result }
+    ensures own { OfOwn (asked_by (map string_bytes words.now)) (λ text.
+        PrintsOwn W.fails (W.contents output.old) (W.contents output.new) text result) }
+    ensures input { OfInput (asked_by (map string_bytes words.now))
+        (PrintsAnswer answer R.fails W.fails (R.remaining input.old) (R.remaining input.new)
+        (W.contents output.old) (W.contents output.new) result) }
+    ensures file { OfFile (asked_by (map string_bytes words.now)) (λ name.
+        IsUnopened F.fails (W.contents output.old) (W.contents output.new) name result
+        ⊎ PrintsFile F.opens F.File.remaining F.File.fails W.fails
+        (W.contents output.old) (W.contents output.new) name result) }
+    ensures unknown { OfUnknown (asked_by (map string_bytes words.now))
+        ((result ≡ Misused) × Keeps (W.contents output.old) (W.contents output.new)) }
     ensures left { Leaves (asked_by (map string_bytes words.now)) (R.remaining input.old) (R.remaining input.new) }
-    ensures text { IsAnswered result → Gets (due (asked_by (map string_bytes words.now)) (R.remaining input.old))
-        (W.contents output.old) (W.contents output.new) }
-    ensures front { GetsFront (due (asked_by (map string_bytes words.now)) (R.remaining input.old))
-        (W.contents output.old) (W.contents output.new) }
 {
-    serve(files, alloc, parse(words), input, output)
+    serve(files, parse(words), input, output)
 }

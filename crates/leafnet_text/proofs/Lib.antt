@@ -1,5 +1,4 @@
 -- Laws that the proofs of the functions cite.
-pub mod Numerals
 pub mod Refusing
 pub mod Numbered
 pub mod Refining

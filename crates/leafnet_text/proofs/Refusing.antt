@@ -5,11 +5,9 @@ use borrow.Author.Tests.{lt-leb}
 use Rattle.refusals.specs.Said.{Said, accepted, refused, refusal, is_accepted}
 use Rattle.refusals.proofs.Settled.{as-refused}
 use Rattle.build.proofs.Fitting.{refused-accepted}
-use Rattle.leafnet_text.specs.declared.stop.Stop.{Stop}
-use Rattle.leafnet_text.specs.declared.stop.Stop.TheVariants.{Refused, OutOfMemory}
 use Rattle.leafnet_text.specs.Rooms.{input_room}
 use Rattle.leafnet_text.specs.Boards.{board_in}
-use Rattle.leafnet_text.specs.Output.{unless_refused, record_says, leafnet_says, Prints, PrintsNext}
+use Rattle.leafnet_text.specs.Output.{unless_refused, record_says, leafnet_says, Prints}
 
 -- a refusal is what is said, whatever would be next
 pub refused-first : (why : Refusal) (said next : Said) → refusal why ≡ said → unless_refused said next ≡ refusal why
@@ -26,18 +24,8 @@ accepted-if false passed why vs e = let r = as-refused why in absurd (refused-ac
 
 -- an answer that is this refusal
 pub prints-refused : {A : Type 0} (r : Result A Refusal) (why : Refusal) (next : A → Said) (says : Said)
-    → r ≡ Err why → says ≡ refusal why → PrintsNext r next says
-prints-refused r why next says e h = subst (λ x. PrintsNext x next says) (sym e) h
-
-pub prints-stopped : {A : Type 0} (r : Result A Stop) (why : Refusal) (next : A → Said) (says : Said)
-    → r ≡ Err (Refused why) → says ≡ refusal why → Prints r next says
-prints-stopped r why next says e h = subst (λ x. Prints x next says) (sym e) h
-
--- an answer that another step's is passed on as
-pub prints-passed : {A B : Type 0} (stop : Stop) (r : Result B Stop) (made : A → Said) (next : B → Said) (says says' : Said)
-    → r ≡ Err stop → says ≡ says' → Prints {A = A} (Err stop) made says' → Prints r next says
-prints-passed (Refused why) r made next says says' e h p = subst (λ x. Prints x next says) (sym e) (h ∙ p)
-prints-passed (OutOfMemory o) r made next says says' e h p = subst (λ x. Prints x next says) (sym e) tt
+    → r ≡ Err why → says ≡ refusal why → Prints r next says
+prints-refused r why next says e h = subst (λ x. Prints x next says) (sym e) h
 
 -- input that is too long, and input that is read
 pub too_long : (s : List ℕ) → input_room < length s → leafnet_says s ≡ refused 6 0

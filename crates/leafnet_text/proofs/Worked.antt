@@ -5,7 +5,7 @@ use Rattle.std.specs.Fmt.{digits}
 use Rattle.leafnet_text.specs.Worked.{WorkedBoardIsPrinted, RefusalIsPrinted, RangesArePrinted}
 
 pub worked : WorkedBoardIsPrinted
-unfolding digits to_bits
+unfolding to_bits digits
 worked = refl
 
 pub worked-refusal : RefusalIsPrinted
@@ -13,5 +13,5 @@ unfolding digits
 worked-refusal = refl
 
 pub worked-ranges : RangesArePrinted
-unfolding digits to_bits
+unfolding to_bits digits
 worked-ranges = refl

@@ -8,3 +8,5 @@ pub mod Output
 pub mod Held
 pub mod Worked
 pub mod Fronts
+pub mod Ends
+pub mod Cut

@@ -1,6 +1,6 @@
 -- The rules' lines of `leafnet`, each without its newline.
-use Rattle.std.specs.Prelude.{ℕ, ◌-◌, List, [], ◌++◌, codes, decimal, false, length, replicate}
-use Rattle.std.specs.Fmt.{signed_decimal, digits}
+use Rattle.std.specs.Prelude.{ℕ, zero, suc, ◌/◌, ◌%◌, List, [], ◌∷◌, ◌++◌, codes, decimal, false}
+use Rattle.std.specs.Fmt.{signed_decimal, digit_glyph}
 use Rattle.std.specs.Float.{binary64}
 use Rattle.std.specs.Float.Ieee.{to_bits}
 use Rattle.refusals.specs.Said.{Said, accepted, refused}
@@ -37,14 +37,23 @@ node_line number n =
     codes "node " ++ (decimal number ++ (space ++ (decimal n.layer ++ (space ++ (decimal n.component
     ++ (space ++ (signed_decimal n.x ++ (space ++ signed_decimal n.y))))))))
 
--- 64 bits as 16 lower-case digits in base 16: zeros stand in front of a number of fewer
+-- the last k digits of n in base 16, in lower case: zeros stand in front of a number of fewer
+abbrev pub last_hex : ℕ → ℕ → List ℕ
+last_hex zero n = []
+last_hex (suc k) n = last_hex k (n / 16) ++ (digit_glyph false (n % 16) ∷ [])
+
+-- 64 bits
 abbrev pub hex_16 : ℕ → List ℕ
-hex_16 n = replicate (16 - length (digits 16 false n)) 48 ++ digits 16 false n
+hex_16 n = last_hex 16 n
 
 -- the two ends, and the conductance's binary64 bits
 abbrev pub edge_line : Edge → List ℕ
 edge_line e =
     codes "edge " ++ (decimal e.from ++ (space ++ (decimal e.to ++ (space ++ hex_16 (to_bits binary64 e.conductance)))))
+
+-- a line and its newline
+abbrev pub ended : List ℕ → List ℕ
+ended line = line ++ codes "\n"
 
 -- number and place of a refusal
 abbrev pub refusal_line : Said → List ℕ

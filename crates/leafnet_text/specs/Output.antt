@@ -1,5 +1,5 @@
 -- What `leafnet` says of a record, and prints for it: totals, leaves, nodes and edges, each on a line; or the first refusal of any step, on a line, and nothing else.
-use Rattle.std.specs.Prelude.{ℕ, List, ◌++◌, codes, ◌≡◌, ⊤, if◌then◌else◌, nat_le, ℤ, length, map, replicate, Option, Some, None, Result, Ok, Err, IsTrue}
+use Rattle.std.specs.Prelude.{ℕ, List, ◌++◌, ◌≡◌, if◌then◌else◌, nat_le, ℤ, length, map, replicate, Option, Some, None, Result, Ok, Err, IsTrue}
 use Rattle.std.specs.List.{flat_map, enumerate_from}
 use Rattle.refusals.specs.declared.Refusal.{Refusal}
 use Rattle.refusals.specs.Said.{Said, accepted, refused, refusal, is_accepted}
@@ -16,18 +16,12 @@ use Rattle.links.specs.Judged.{no_links}
 use Rattle.network.specs.Says.{net_of, network_says}
 use Rattle.leafnet_text.specs.declared.lines.Totals.{Totals}
 use Rattle.leafnet_text.specs.declared.lines.Leaf.{Leaf}
-use Rattle.leafnet_text.specs.declared.stop.Stop.{Stop}
-use Rattle.leafnet_text.specs.declared.stop.Stop.TheVariants.{Refused, OutOfMemory}
-use Rattle.leafnet_text.specs.Lines.{totals_line, leaf_line, node_line, edge_line, refusal_line}
+use Rattle.leafnet_text.specs.Lines.{ended, totals_line, leaf_line, node_line, edge_line, refusal_line}
 use Rattle.leafnet_text.specs.Rooms.{input_room, leaf_room, net_rows}
 use Rattle.leafnet_text.specs.Boards.{Given, given_by, polygons_of, board_in}
 use Rattle.leafnet_text.specs.Growing.{roots_say, splits_say, balance_says, balanced_row, balanced_head, balance_splits}
 
 -- ---- a board that nothing refuses
-
--- a line and its newline
-abbrev pub ended : List ℕ → List ℕ
-ended line = line ++ codes "\n"
 
 -- the leaf in slot id of a table
 abbrev pub leaf_at : List ℤ → ℕ → Leaf
@@ -100,16 +94,10 @@ output_text s = printed (leafnet_says s)
 
 -- ---- what the code's answers say of it
 
--- where a step answers this, what is said is what the next says of its value, or its refusal. Nothing is known where memory runs out
-abbrev pub Prints : {A : Type 0} → Result A Stop → (A → Said) → Said → Type 0
+-- where a step answers this, what is said is what the next says of its value, or its refusal
+abbrev pub Prints : {A : Type 0} → Result A Refusal → (A → Said) → Said → Type 0
 Prints (Ok a) next says = says ≡ next a
-Prints (Err (Refused why)) next says = says ≡ refusal why
-Prints (Err (OutOfMemory e)) next says = ⊤
-
--- the same of a step that takes no memory
-abbrev pub PrintsNext : {A : Type 0} → Result A Refusal → (A → Said) → Said → Type 0
-PrintsNext (Ok a) next says = says ≡ next a
-PrintsNext (Err why) next says = says ≡ refusal why
+Prints (Err why) next says = says ≡ refusal why
 
 -- the refusal, or none where it is accepted
 abbrev pub Tells : Option Refusal → Said → Type 0

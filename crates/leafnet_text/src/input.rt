@@ -1,63 +1,47 @@
 //! A record's board in rows of its own, as build, refine and network take it.
-ghost use Rattle.std.specs.Prelude.{◌≡◌, ◌≤◌, take, IfOk};
+ghost use Rattle.std.specs.Prelude.{◌≡◌, ◌≤◌, length, take};
 ghost use Rattle.leafnet_text.specs.declared.rooms.TheConstants.{POINTS, SPLITS};
 ghost use Rattle.refusals.specs.declared.limits.TheConstants.{LAYERS, POLYGONS};
 ghost use Rattle.leafnet_text.specs.Boards.{AreNarrow, column};
 
 use crate::rooms::{LAYERS, POINTS, POLYGONS, SPLITS};
-use crate::stop::Stop;
-use record::{BoardRowsMut, Counts, Read};
+use arrayvec::ArrayVec;
+use record::{BoardRowsMut, Read};
 use refusals::Refusal;
-use std::alloc::{AllocError, Global};
-
-#[derive(Drop)]
-pub struct Board {
-    pub settings: build::Settings,
-    /// The layer list: layer and cell in each entry.
-    pub list: Vec<[u64; 2]>,
-    pub layers: Vec<u16>,
-    pub components: Vec<u32>,
-    pub sheets: Vec<f64>,
-    /// How many points each polygon has.
-    pub counts: Vec<u64>,
-    /// The points of all polygons, one after another.
-    pub points: Vec<[i64; 2]>,
-    /// The ids of the leaves to be split.
-    pub splits: Vec<u64>,
-}
 
 // Of each polygon the layer, the component and the point count.
 #[derive(Drop)]
 struct Columns {
-    layers: Vec<u16>,
-    components: Vec<u32>,
-    counts: Vec<u64>,
+    layers: ArrayVec<u16, POLYGONS>,
+    components: ArrayVec<u32, POLYGONS>,
+    counts: ArrayVec<u64, POLYGONS>,
 }
 
-fn columns_of(alloc: Global, polygons: &[[u64; 3]]) -> Result<Columns, AllocError>
-    requires { AreNarrow polygons.now }
-    ensures layers { IfOk result (λ c. c.layers.items ≡ column 0 polygons.now) }
-    ensures components { IfOk result (λ c. c.components.items ≡ column 1 polygons.now) }
-    ensures counts { IfOk result (λ c. c.counts.items ≡ column 2 polygons.now) }
+fn columns_of(polygons: &[[u64; 3]]) -> Columns
+    requires few { length polygons.now ≤ POLYGONS }
+    requires narrow { AreNarrow polygons.now }
+    ensures layers { result.layers.items ≡ column 0 polygons.now }
+    ensures components { result.components.items ≡ column 1 polygons.now }
+    ensures counts { result.counts.items ≡ column 2 polygons.now }
 {
-    let mut layers = Vec::new(alloc);
-    let mut components = Vec::new(alloc);
-    let mut counts = Vec::new(alloc);
+    let mut layers = ArrayVec::new();
+    let mut components = ArrayVec::new();
+    let mut counts = ArrayVec::new();
     for polygon in polygons {
-        layers.push(polygon[0] as u16)?;
-        components.push(polygon[1] as u32)?;
-        counts.push(polygon[2])?;
+        layers.push(polygon[0] as u16);
+        components.push(polygon[1] as u32);
+        counts.push(polygon[2]);
     }
-    Ok(Columns {
+    Columns {
         layers,
         components,
         counts,
-    })
+    }
 }
 
-// A record's rows as the reader fills them, each with as many items as the record has of them.
+/// A record's rows as the reader fills them, each with as many items as the record has of them.
 #[derive(Clone, Copy)]
-struct Rows {
+pub struct Rows {
     read: Read,
     list: [[u64; 2]; LAYERS],
     polygons: [[u64; 3]; POLYGONS],
@@ -74,10 +58,10 @@ struct Rows {
 impl Rows {
     ghost use Rattle.leafnet_text.specs.Boards.{given_of, board_in};
     ghost use Rattle.leafnet_text.specs.Held.{given_in};
-    ghost use Rattle.leafnet_text.specs.Output.{PrintsNext, board_says, record_says};
+    ghost use Rattle.leafnet_text.specs.Output.{Prints, board_says, record_says};
 
     fn read(bytes: &[u8]) -> Result<Rows, Refusal>
-        ensures { PrintsNext result (λ r. board_says (given_in r)) (record_says (board_in bytes.now)) }
+        ensures { Prints result (λ r. board_says (given_in r)) (record_says (board_in bytes.now)) }
     {
         let mut list = [[0u64; 2]; LAYERS];
         let mut polygons = [[0u64; 3]; POLYGONS];
@@ -102,31 +86,30 @@ impl Rows {
         })
     }
 
-    fn board(&self, alloc: Global) -> Result<Board, AllocError>
-        ensures { IfOk result (λ b. given_of b ≡ given_in self.now) }
+    fn board(self) -> Board
+        ensures { given_of result ≡ given_in self }
     {
-        let Counts {
+        let Columns {
             layers,
-            polygons,
-            points,
-            splits,
-        } = self.read.counts;
-        let columns = columns_of(alloc, &self.polygons[..polygons])?;
-        Ok(Board {
-            settings: build::Settings {
-                max_level: self.read.settings.level,
-                cap: self.read.settings.cap,
-                target: self.read.settings.target,
-            },
-            list: self.list[..layers].to_vec(alloc)?,
-            layers: columns.layers,
-            components: columns.components,
-            sheets: self.sheets[..polygons].to_vec(alloc)?,
-            counts: columns.counts,
-            points: self.points[..points].to_vec(alloc)?,
-            splits: self.splits[..splits].to_vec(alloc)?,
-        })
+            components,
+            counts,
+        } = columns_of(&self.polygons[..self.read.counts.polygons]);
+        Board {
+            rows: self,
+            layers,
+            components,
+            counts,
+        }
     }
+}
+
+/// A board in rows with room for the largest.
+#[derive(Drop)]
+pub struct Board {
+    rows: Rows,
+    layers: ArrayVec<u16, POLYGONS>,
+    components: ArrayVec<u32, POLYGONS>,
+    counts: ArrayVec<u64, POLYGONS>,
 }
 
 impl Board {
@@ -134,10 +117,67 @@ impl Board {
     ghost use Rattle.leafnet_text.specs.Output.{Prints, board_says, record_says};
 
     /// The board of a record that fits the program's room.
-    pub fn read(alloc: Global, bytes: &[u8]) -> Result<Board, Stop>
+    pub fn read(bytes: &[u8]) -> Result<Board, Refusal>
         ensures { Prints result (λ b. board_says (given_of b)) (record_says (board_in bytes.now)) }
     {
         let rows = Rows::read(bytes)?;
-        Ok(rows.board(alloc)?)
+        Ok(rows.board())
+    }
+
+    pub fn settings(&self) -> build::Settings
+        ensures { result ≡ (given_of self.now).board.settings }
+    {
+        let settings = self.rows.read.settings;
+        build::Settings {
+            max_level: settings.level,
+            cap: settings.cap,
+            target: settings.target,
+        }
+    }
+
+    /// The layer list: layer and cell in each entry.
+    pub fn list(&self) -> &[[u64; 2]]
+        ensures { result.now ≡ (given_of self.now).board.list }
+    {
+        &self.rows.list[..self.rows.read.counts.layers]
+    }
+
+    pub fn layers(&self) -> &[u16]
+        ensures { result.now ≡ (given_of self.now).board.layers }
+    {
+        self.layers.as_slice()
+    }
+
+    pub fn components(&self) -> &[u32]
+        ensures { result.now ≡ (given_of self.now).components }
+    {
+        self.components.as_slice()
+    }
+
+    pub fn sheets(&self) -> &[f64]
+        ensures { result.now ≡ (given_of self.now).sheets }
+    {
+        &self.rows.sheets[..self.rows.read.counts.polygons]
+    }
+
+    /// How many points each polygon has.
+    pub fn counts(&self) -> &[u64]
+        ensures { result.now ≡ (given_of self.now).board.counts }
+    {
+        self.counts.as_slice()
+    }
+
+    /// The points of all polygons, one after another.
+    pub fn points(&self) -> &[[i64; 2]]
+        ensures { result.now ≡ (given_of self.now).board.points }
+    {
+        &self.rows.points[..self.rows.read.counts.points]
+    }
+
+    /// The ids of the leaves to be split.
+    pub fn splits(&self) -> &[u64]
+        ensures { result.now ≡ (given_of self.now).splits }
+    {
+        &self.rows.splits[..self.rows.read.counts.splits]
     }
 }

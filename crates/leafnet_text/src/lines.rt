@@ -1,11 +1,62 @@
-//! The lines that leafnet prints, as values that print themselves. A line has no newline of its own.
-
+//! The lines that leafnet prints, put behind a text that has room for them. Internal, but for what `Refused` prints.
+ghost use Rattle.std.specs.Prelude.{◌≡◌, ◌+◌, ◌≤◌, ◌++◌};
 ghost use Rattle.std.specs.Float.{NotNan};
+ghost use Rattle.arrayvec.specs.ArrayString.{array_string_len};
+ghost use Rattle.leafnet_text.specs.Lines.{corners_text, edge_line, ended, last_hex, node_line, refusal_line};
 
+use crate::rooms::{EDGE_LINE, LEAF_LINE, NODE_LINE, REFUSED_LINE, TEXT, TOTALS_LINE};
+use arrayvec::ArrayString;
 use cell::rectangles::Rect;
+use itoa::{Buffer, Integer};
 use net_rows::{Edge, Node};
 use refusals::{Code, Refusal};
 use std::fmt;
+
+/// All that leafnet prints, in a row with room for the longest.
+pub type Text = ArrayString<TEXT>;
+
+// A number in decimal.
+fn put_number<I: Integer>(text: &mut Text, number: I)
+    requires { array_string_len text.old + I.MAX_STR_LEN ≤ TEXT }
+    ensures bytes { text.new.bytes ≡ text.old.bytes ++ I.text number }
+    ensures short { array_string_len text.new ≤ array_string_len text.old + I.MAX_STR_LEN }
+{
+    text.push_str(Buffer::new().format(number));
+}
+
+// A number's last digits in base 16.
+fn put_hex(text: &mut Text, number: u64, digits: usize)
+    requires { array_string_len text.old + digits ≤ TEXT }
+    ensures bytes { text.new.bytes ≡ text.old.bytes ++ last_hex digits number }
+    ensures len { array_string_len text.new ≡ array_string_len text.old + digits }
+{
+    if digits == 0 {
+        return;
+    }
+    put_hex(text, number / 16, digits - 1);
+    let digit = (number % 16) as u8;
+    let code = if digit < 10 {
+        b'0' + digit
+    } else {
+        b'a' - 10 + digit
+    };
+    text.push(char::from(code));
+}
+
+// x0 y0 x1 y1
+fn put_corners(text: &mut Text, rect: &Rect)
+    requires { array_string_len text.old + 83 ≤ TEXT }
+    ensures bytes { text.new.bytes ≡ text.old.bytes ++ corners_text rect.now }
+    ensures short { array_string_len text.new ≤ array_string_len text.old + 83 }
+{
+    put_number(text, rect.x0);
+    text.push_str(" ");
+    put_number(text, rect.y0);
+    text.push_str(" ");
+    put_number(text, rect.x1);
+    text.push_str(" ");
+    put_number(text, rect.y1);
+}
 
 /// How many there are of everything, and how many splits balance made.
 #[derive(Clone, Copy, Debug, PartialEq, Eq)]
@@ -17,41 +68,25 @@ pub struct Totals {
     pub splits: usize,
 }
 
-impl fmt::Display for Totals {
-    ghost use Rattle.std.specs.Prelude.{Some};
+impl Totals {
     ghost use Rattle.leafnet_text.specs.Lines.{totals_line};
 
-    ghost output = { λ t. Some (totals_line t) };
-
-    fn fmt<W: fmt::Write>(&self, f: &mut fmt::Formatter<W>) -> fmt::Result {
-        let Totals {
-            cells,
-            leaves,
-            nodes,
-            edges,
-            splits,
-        } = *self;
-        write!(
-            f,
-            "cells {cells} leaves {leaves} nodes {nodes} edges {edges} splits {splits}"
-        )
-    }
-}
-
-/// A rectangle by its corners, south-west and north-east. Tried in a leaf's own `write!`: the search gives up at seven
-/// values.
-#[derive(Clone, Copy, Debug, PartialEq, Eq)]
-pub struct Corners(pub Rect);
-
-impl fmt::Display for Corners {
-    ghost use Rattle.std.specs.Prelude.{Some};
-    ghost use Rattle.leafnet_text.specs.Lines.{corners_text};
-
-    ghost output = { λ c. Some (corners_text c.0) };
-
-    fn fmt<W: fmt::Write>(&self, f: &mut fmt::Formatter<W>) -> fmt::Result {
-        let Rect { x0, y0, x1, y1 } = self.0;
-        write!(f, "{x0} {y0} {x1} {y1}")
+    pub fn put(&self, text: &mut Text)
+        requires { array_string_len text.old + TOTALS_LINE ≤ TEXT }
+        ensures bytes { text.new.bytes ≡ text.old.bytes ++ ended (totals_line self.now) }
+        ensures short { array_string_len text.new ≤ array_string_len text.old + TOTALS_LINE }
+    {
+        text.push_str("cells ");
+        put_number(text, self.cells);
+        text.push_str(" leaves ");
+        put_number(text, self.leaves);
+        text.push_str(" nodes ");
+        put_number(text, self.nodes);
+        text.push_str(" edges ");
+        put_number(text, self.edges);
+        text.push_str(" splits ");
+        put_number(text, self.splits);
+        text.push_str("\n");
     }
 }
 
@@ -64,78 +99,84 @@ pub struct Leaf {
     pub rect: Rect,
 }
 
-impl fmt::Display for Leaf {
-    ghost use Rattle.std.specs.Prelude.{Some};
+impl Leaf {
     ghost use Rattle.leafnet_text.specs.Lines.{leaf_line};
 
-    ghost output = { λ l. Some (leaf_line l) };
-
-    fn fmt<W: fmt::Write>(&self, f: &mut fmt::Formatter<W>) -> fmt::Result {
-        let Leaf {
-            id,
-            polygon,
-            level,
-            rect,
-        } = *self;
-        let corners = Corners(rect);
-        write!(f, "leaf {id} {polygon} {level} {corners}")
+    pub fn put(&self, text: &mut Text)
+        requires { array_string_len text.old + LEAF_LINE ≤ TEXT }
+        ensures bytes { text.new.bytes ≡ text.old.bytes ++ ended (leaf_line self.now) }
+        ensures short { array_string_len text.new ≤ array_string_len text.old + LEAF_LINE }
+    {
+        text.push_str("leaf ");
+        put_number(text, self.id);
+        text.push_str(" ");
+        put_number(text, self.polygon);
+        text.push_str(" ");
+        put_number(text, self.level);
+        text.push_str(" ");
+        put_corners(text, &self.rect);
+        text.push_str("\n");
     }
 }
 
 /// A node of the net, with its number.
-#[derive(Clone, Copy, Debug, PartialEq, Eq)]
-pub struct NodeLine {
-    pub number: usize,
-    pub node: Node,
-}
-
-impl fmt::Display for NodeLine {
-    ghost use Rattle.std.specs.Prelude.{Some};
-    ghost use Rattle.leafnet_text.specs.Lines.{node_line};
-
-    ghost output = { λ l. Some (node_line l.number l.node) };
-
-    fn fmt<W: fmt::Write>(&self, f: &mut fmt::Formatter<W>) -> fmt::Result {
-        let number = self.number;
-        let Node {
-            layer,
-            component,
-            x,
-            y,
-        } = self.node;
-        write!(f, "node {number} {layer} {component} {x} {y}")
-    }
+pub fn put_node(text: &mut Text, number: usize, node: &Node)
+    requires { array_string_len text.old + NODE_LINE ≤ TEXT }
+    ensures bytes { text.new.bytes ≡ text.old.bytes ++ ended (node_line number node.now) }
+    ensures short { array_string_len text.new ≤ array_string_len text.old + NODE_LINE }
+{
+    text.push_str("node ");
+    put_number(text, number);
+    text.push_str(" ");
+    put_number(text, node.layer);
+    text.push_str(" ");
+    put_number(text, node.component);
+    text.push_str(" ");
+    put_number(text, node.x);
+    text.push_str(" ");
+    put_number(text, node.y);
+    text.push_str("\n");
 }
 
 /// An edge of the net. Its conductance is a number, and so has bits that can be printed.
-#[derive(Clone, Copy, Debug)]
-pub struct EdgeLine {
-    pub edge: Edge,
-    ghost conducts: { NotNan edge.conductance },
-}
-
-impl fmt::Display for EdgeLine {
-    ghost use Rattle.std.specs.Prelude.{Some};
-    ghost use Rattle.leafnet_text.specs.Lines.{edge_line};
-
-    ghost output = { λ l. Some (edge_line l.edge) };
-
-    fn fmt<W: fmt::Write>(&self, f: &mut fmt::Formatter<W>) -> fmt::Result {
-        let from = self.edge.from;
-        let to = self.edge.to;
-        let bits = self.edge.conductance.to_bits();
-        write!(f, "edge {from} {to} {bits:016x}")
-    }
+pub fn put_edge(text: &mut Text, edge: &Edge)
+    requires room { array_string_len text.old + EDGE_LINE ≤ TEXT }
+    requires conducts { NotNan edge.now.conductance }
+    ensures bytes { text.new.bytes ≡ text.old.bytes ++ ended (edge_line edge.now) }
+    ensures short { array_string_len text.new ≤ array_string_len text.old + EDGE_LINE }
+{
+    text.push_str("edge ");
+    put_number(text, edge.from);
+    text.push_str(" ");
+    put_number(text, edge.to);
+    text.push_str(" ");
+    put_hex(text, edge.conductance.to_bits(), 16);
+    text.push_str("\n");
 }
 
 /// A refusal, by its number and place.
 #[derive(Clone, Copy, Debug, PartialEq, Eq)]
 pub struct Refused(pub Refusal);
 
+impl Refused {
+    ghost use Rattle.refusals.specs.Said.{refusal};
+
+    pub fn put(&self, text: &mut Text)
+        requires { array_string_len text.old + REFUSED_LINE ≤ TEXT }
+        ensures { text.new.bytes ≡ text.old.bytes ++ ended (refusal_line (refusal self.now.0)) }
+    {
+        let Code { number, place } = self.0.code();
+        text.push_str("refused ");
+        put_number(text, number);
+        text.push_str(" ");
+        put_number(text, place);
+        text.push_str("\n");
+    }
+}
+
 impl fmt::Display for Refused {
     ghost use Rattle.std.specs.Prelude.{Some};
     ghost use Rattle.refusals.specs.Said.{refusal};
-    ghost use Rattle.leafnet_text.specs.Lines.{refusal_line};
 
     ghost output = { λ r. Some (refusal_line (refusal r.0)) };
 

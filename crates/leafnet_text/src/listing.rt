@@ -1,19 +1,18 @@
 //! The text of a mesh and its net, line after line.
-ghost use Rattle.std.specs.Prelude.{◌≡◌, ◌+◌, ◌*◌, ◌≤◌, ◌++◌, length, All, OnOk, IfOk, string_bytes};
+ghost use Rattle.std.specs.Prelude.{◌≡◌, ◌+◌, ◌*◌, ◌≤◌, [], ◌++◌, length, All, OnErr, take};
+ghost use Rattle.arrayvec.specs.ArrayString.{array_string_len};
 ghost use Rattle.std.specs.Float.{NotNan};
 ghost use Rattle.leafnet_text.specs.Output.{leaf_lines, node_lines, edge_lines};
 
 use crate::input::Board;
-use crate::lines::{EdgeLine, Leaf, NodeLine, Totals};
+use crate::lines::{Leaf, Text, Totals, put_edge, put_node};
 use crate::mesh::Mesh;
 use crate::netlist::Net;
-use crate::rooms::LEAVES;
-use crate::stop::Stop;
+use crate::rooms::{EDGE_LINE, LEAF_LINE, LEAVES, NODE_LINE, TEXT};
 use cell::rectangles::Rect;
 use cell::ticks::ticks;
 use net_rows::{Edge, Node};
-use std::alloc::{AllocError, Global};
-use std::fmt::Write as _;
+use refusals::Refusal;
 use table::leaves::leaf_order;
 use table::slots::cell_at;
 
@@ -40,40 +39,36 @@ impl Leaf {
     }
 }
 
-fn write_leaves(text: &mut String, row: &[i64], order: &[u64]) -> Result<(), AllocError>
-    requires { All (λ id. id * 8 + 8 ≤ length row.now) order.now }
-    ensures { OnOk result (string_bytes text.new ≡ string_bytes text.old ++ leaf_lines row.now order.now) }
+fn put_leaves(text: &mut Text, row: &[i64], order: &[u64])
+    requires room { array_string_len text.old + LEAF_LINE * length order.now ≤ TEXT }
+    requires slots { All (λ id. id * 8 + 8 ≤ length row.now) order.now }
+    ensures bytes { text.new.bytes ≡ text.old.bytes ++ leaf_lines row.now order.now }
+    ensures short { array_string_len text.new ≤ array_string_len text.old + LEAF_LINE * length order.now }
 {
     for id in order {
-        let leaf = Leaf::at(row, *id as usize);
-        writeln!(text, "{leaf}")?;
+        Leaf::at(row, *id as usize).put(text);
     }
-    Ok(())
 }
 
 #[tactic(auto, using(crate::proofs::Numbered::numbered_all))]
-fn write_nodes(text: &mut String, nodes: &[Node]) -> Result<(), AllocError>
-    ensures { OnOk result (string_bytes text.new ≡ string_bytes text.old ++ node_lines nodes.now) }
+fn put_nodes(text: &mut Text, nodes: &[Node])
+    requires { array_string_len text.old + NODE_LINE * length nodes.now ≤ TEXT }
+    ensures bytes { text.new.bytes ≡ text.old.bytes ++ node_lines nodes.now }
+    ensures short { array_string_len text.new ≤ array_string_len text.old + NODE_LINE * length nodes.now }
 {
     for (number, node) in nodes.iter().enumerate() {
-        let line = NodeLine {
-            number,
-            node: *node,
-        };
-        writeln!(text, "{line}")?;
+        put_node(text, number, node);
     }
-    Ok(())
 }
 
-fn write_edges(text: &mut String, edges: &[Edge]) -> Result<(), AllocError>
-    requires { All (λ e. NotNan e.conductance) edges.now }
-    ensures { OnOk result (string_bytes text.new ≡ string_bytes text.old ++ edge_lines edges.now) }
+fn put_edges(text: &mut Text, edges: &[Edge])
+    requires room { array_string_len text.old + EDGE_LINE * length edges.now ≤ TEXT }
+    requires numbers { All (λ e. NotNan e.conductance) edges.now }
+    ensures { text.new.bytes ≡ text.old.bytes ++ edge_lines edges.now }
 {
     for edge in edges {
-        let line = EdgeLine { edge: *edge };
-        writeln!(text, "{line}")?;
+        put_edge(text, edge);
     }
-    Ok(())
 }
 
 impl Mesh {
@@ -83,34 +78,39 @@ impl Mesh {
 
     // The lines of a mesh with this leaf order, and of its net.
     #[tactic(auto, unfolding(crate::specs::Output::lines_text))]
-    fn lines(&self, alloc: Global, order: &[u64], net: &Net) -> Result<String, AllocError>
-        requires { All (λ id. id * 8 + 8 ≤ length self.now.row) order.now }
-        ensures { IfOk result (λ text. string_bytes text
-            ≡ lines_text self.now.row self.now.head self.now.splits order.now net.now.nodes.items net.now.edges.items) }
+    fn put_lines(&self, order: &[u64], net: &Net, text: &mut Text)
+        requires empty { text.old.bytes ≡ [] }
+        requires few { length order.now ≤ LEAVES }
+        requires slots { All (λ id. id * 8 + 8 ≤ length self.now.row) order.now }
+        ensures { text.new.bytes ≡ lines_text self.now.row self.now.head self.now.splits order.now
+            (take net.now.size.nodes net.now.nodes) (take net.now.size.edges net.now.edges) }
     {
+        let nodes = net.nodes();
+        let edges = net.edges();
         let totals = Totals {
             cells: self.head.count,
             leaves: order.len(),
-            nodes: net.nodes.len(),
-            edges: net.edges.len(),
+            nodes: nodes.len(),
+            edges: edges.len(),
             splits: self.splits,
         };
-        let mut text = String::new(alloc);
-        writeln!(text, "{totals}")?;
-        write_leaves(&mut text, &self.row, order)?;
-        write_nodes(&mut text, &net.nodes)?;
-        write_edges(&mut text, &net.edges)?;
-        Ok(text)
+        totals.put(text);
+        put_leaves(text, &self.row, order);
+        put_nodes(text, nodes);
+        put_edges(text, edges);
     }
 
-    /// The text of a mesh of this board, or the refusal of its leaf order or its net.
-    pub fn text(&self, alloc: Global, board: &Board) -> Result<String, Stop>
-        ensures { Prints result (λ text. accepted (string_bytes text))
+    /// The text of a mesh of this board, or the refusal of its leaf order or its net, and no text.
+    pub fn put(&self, board: &Board, text: &mut Text) -> Result<(), Refusal>
+        requires { text.old.bytes ≡ [] }
+        ensures says { Prints result (λ _. accepted text.new.bytes)
             (table_says (given_of board.now) self.now.row self.now.head self.now.splits) }
+        ensures none { OnErr result (text.new.bytes ≡ []) }
     {
         let mut order = [0u64; LEAVES];
         let leaves = leaf_order(&self.row, self.head, &mut order)?;
-        let net = Net::of_mesh(alloc, self, board)?;
-        Ok(self.lines(alloc, &order[..leaves], &net)?)
+        let net = Net::of_mesh(self, board)?;
+        self.put_lines(&order[..leaves], &net, text);
+        Ok(())
     }
 }

@@ -29,13 +29,13 @@ fn make_roots(board: &Board, row: &mut [i64; TABLE]) -> Result<Head, Refusal>
     ensures row_after { OnOk result (row.new ≡ roots_row (given_of board.now)) }
 {
     let outlines = Outlines {
-        layers: &board.layers,
-        components: &board.components,
-        sheets: &board.sheets,
-        counts: &board.counts,
-        points: &board.points,
+        layers: board.layers(),
+        components: board.components(),
+        sheets: board.sheets(),
+        counts: board.counts(),
+        points: board.points(),
     };
-    build::build(board.settings, &board.list, &outlines, row)
+    build::build(board.settings(), board.list(), &outlines, row)
 }
 
 // Splits the leaf of each id in order. The first refusal ends it, and what was split before that stays split.
@@ -51,16 +51,16 @@ fn refine_all(row: &mut [i64], head: Head, ids: &[u64]) -> Result<Head, Refusal>
 }
 
 impl Mesh {
-    ghost use Rattle.leafnet_text.specs.Output.{PrintsNext, board_says, table_says};
+    ghost use Rattle.leafnet_text.specs.Output.{Prints, board_says, table_says};
 
     /// The mesh of a board.
     pub fn of_board(board: &Board) -> Result<Mesh, Refusal>
-        ensures { PrintsNext result (λ m. table_says (given_of board.now) m.row m.head m.splits)
+        ensures { Prints result (λ m. table_says (given_of board.now) m.row m.head m.splits)
             (board_says (given_of board.now)) }
     {
         let mut row = [0i64; TABLE];
         let roots = make_roots(board, &mut row)?;
-        let refined = refine_all(&mut row, roots, &board.splits)?;
+        let refined = refine_all(&mut row, roots, board.splits())?;
         let Evening { splits, head } = balance(&mut row, refined)?;
         Ok(Mesh { row, head, splits })
     }

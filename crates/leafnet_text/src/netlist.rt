@@ -1,21 +1,16 @@
 //! The net of a mesh, to be printed.
-ghost use Rattle.std.specs.Prelude.{All};
+ghost use Rattle.std.specs.Prelude.{◌≡◌, ◌≤◌, All, length, take};
 ghost use Rattle.std.specs.Float.{NotNan};
+ghost use Rattle.leafnet_text.specs.declared.rooms.TheConstants.{EDGES, NODES};
 
 use crate::input::Board;
 use crate::mesh::Mesh;
-use crate::rooms::LEAVES;
-use crate::stop::Stop;
+use crate::rooms::{EDGES, LEAVES, NODES};
 use links::Links;
 use net_rows::{Corners, Edge, NetCell, Node, Polygons};
-use network::judge::{EDGES_A_LEAF, NODES_A_LEAF, WORK_A_LEAF};
-use std::alloc::Global;
-
-/// The most nodes of a net.
-const NODES: usize = NODES_A_LEAF * LEAVES;
-
-/// The most edges of a net.
-const EDGES: usize = EDGES_A_LEAF * LEAVES;
+use network::NetSize;
+use network::judge::WORK_A_LEAF;
+use refusals::Refusal;
 
 /// The numbers of the work room.
 const WORK: usize = WORK_A_LEAF * LEAVES;
@@ -44,12 +39,15 @@ const NO_CELL: NetCell = NetCell {
     sheet: 0.0,
 };
 
-/// The nodes and the edges of a net. No conductance is a NaN.
-#[derive(Drop)]
+/// The nodes and the edges of a net, at the front of rows with room for the largest. No conductance is a NaN.
+#[derive(Clone, Copy)]
 pub struct Net {
-    pub nodes: Vec<Node>,
-    pub edges: Vec<Edge>,
-    ghost numbers: { All (λ e. NotNan e.conductance) edges.items },
+    nodes: [Node; NODES],
+    edges: [Edge; EDGES],
+    size: NetSize,
+    ghost few_nodes: { size.nodes ≤ NODES },
+    ghost few_edges: { size.edges ≤ EDGES },
+    ghost numbers: { All (λ e. NotNan e.conductance) (take size.edges edges) },
 }
 
 impl Net {
@@ -59,15 +57,15 @@ impl Net {
     ghost use Rattle.table.specs.Rows.{order_in};
 
     /// The net of a mesh, or its refusal.
-    pub fn of_mesh(alloc: Global, mesh: &Mesh, board: &Board) -> Result<Net, Stop>
+    pub fn of_mesh(mesh: &Mesh, board: &Board) -> Result<Net, Refusal>
         ensures { Prints result
             (λ n. accepted (lines_text mesh.now.row mesh.now.head mesh.now.splits (order_in mesh.now.row mesh.now.head)
-            n.nodes.items n.edges.items))
+            (take n.size.nodes n.nodes) (take n.size.edges n.edges)))
             (net_says (given_of board.now) mesh.now.row mesh.now.head mesh.now.splits) }
     {
         let polygons = Polygons {
-            layers: &board.layers,
-            components: &board.components,
+            layers: board.layers(),
+            components: board.components(),
         };
         let mut nodes = [NO_NODE; NODES];
         let mut edges = [NO_EDGE; EDGES];
@@ -77,16 +75,28 @@ impl Net {
             &mesh.row,
             mesh.head,
             &polygons,
-            &board.sheets,
+            board.sheets(),
             &Links::none(),
             &mut nodes,
             &mut edges,
             &mut cells,
             &mut work,
         )?;
-        Ok(Net {
-            nodes: nodes[..size.nodes].to_vec(alloc)?,
-            edges: edges[..size.edges].to_vec(alloc)?,
-        })
+        Ok(Net { nodes, edges, size })
+    }
+
+    pub fn nodes(&self) -> &[Node]
+        ensures nodes { result.now ≡ take self.now.size.nodes self.now.nodes }
+        ensures few { length result.now ≤ NODES }
+    {
+        &self.nodes[..self.size.nodes]
+    }
+
+    pub fn edges(&self) -> &[Edge]
+        ensures edges { result.now ≡ take self.now.size.edges self.now.edges }
+        ensures few { length result.now ≤ EDGES }
+        ensures numbers { All (λ e. NotNan e.conductance) result.now }
+    {
+        &self.edges[..self.size.edges]
     }
 }

@@ -5,14 +5,10 @@
 //! port, write `stdout`.
 #![tactic(auto)]
 
-use std::alloc::Global;
+use leafnet_text::answer_to;
+use leafnet_text::lines::Text;
 use std::io;
 use std::io::{Read, Write};
-
-fn print<W: Write>(alloc: Global, out: &mut W, record: &[u8]) -> io::Result<()> {
-    let text = leafnet_text::text_of(alloc, record)?;
-    out.write_all(text.as_bytes())
-}
 
 // The first record and what stands behind it; none where no whole record is left.
 fn split_record(bytes: &[u8]) -> Option<(&[u8], &[u8])> {
@@ -24,12 +20,14 @@ fn main(rt: HostRuntime) -> io::Result<()> {
     let mut bytes = Vec::new(rt.alloc());
     rt.reader().read_to_end(&mut bytes)?;
     let mut out = io::writer(&rt);
+    let mut text = Text::new();
     let mut left = bytes.as_slice();
     for _ in 0..bytes.len() {
         let Some((record, rest)) = split_record(left) else {
             break;
         };
-        print(rt.alloc(), &mut out, record)?;
+        answer_to(record, &mut text);
+        out.write_all(text.as_str().as_bytes())?;
         left = rest;
     }
     Ok(())

@@ -11,22 +11,22 @@ use Rattle.leafnet_text.proofs.mesh.make_roots.Goals as goal
 pub returns : goal.returns
 unfolding build_leaves
 returns c =
-    let b = c.args.board.now in
-    let g = given_of b in
+    let g = given_of c.args.board.now in
     let r = c.build.result in
     let long : length c.args.row.now ≡ 512 = search rules in
-    let list = c.deref-6.ensures.value in
-    let layers = c.deref.ensures.value in
-    let counts = c.deref-4.ensures.value in
-    let points = c.deref-5.ensures.value in
-    let components = c.deref-2.ensures.value in
-    let sheets = c.deref-3.ensures.value in
+    let list = c.list.ensures in
+    let layers = c.layers.ensures in
+    let counts = c.counts.ensures in
+    let points = c.points.ensures in
+    let components = c.components.ensures in
+    let sheets = c.sheets.ensures in
+    let settings = c.settings.ensures in
     let says : built_said r ≡ roots_say g =
-    c.build.ensures.answer ∙ (λ i. build_says (board b.settings (list i) (layers i) (counts i) (points i)) (components i) (sheets i) (long i)) in
+    c.build.ensures.answer ∙ (λ i. build_says (board (settings i) (list i) (layers i) (counts i) (points i)) (components i) (sheets i) (long i)) in
     let left : c.build.new.table ≡ if_accepted (roots_say g) (roots_row g) c.args.row.now =
     c.build.ensures.slots
-    ∙ (λ i. if_accepted (build_says (board b.settings (list i) (layers i) (counts i) (points i)) (components i) (sheets i) (long i))
-    (filled (board b.settings (list i) (layers i) (counts i) (points i)) (long i)) c.args.row.now) in
+    ∙ (λ i. if_accepted (build_says (board (settings i) (list i) (layers i) (counts i) (points i)) (components i) (sheets i) (long i))
+    (filled (board (settings i) (list i) (layers i) (counts i) (points i)) (long i)) c.args.row.now) in
     record {
       says = says;
       head = built-head g r says;

@@ -25,7 +25,7 @@ returns-in_err-refined c =
     let x = c.in_err-refined in
     let same : c.from_residual-in_err-refined.result ≡ Err x.field-0.0 = search rules in
     let split : refusal x.field-0.0 ≡ splits_say g =
-    x.ensures.says ∙ (λ i. refine_all_says (d.ensures.row_after i) (d.ensures.head i) (c.deref.ensures.value i)) in
+    x.ensures.says ∙ (λ i. refine_all_says (d.ensures.row_after i) (d.ensures.head i) (c.splits.ensures i)) in
     prints-refused c.from_residual-in_err-refined.result x.field-0.0 _ _ same
     (split-refused g d.roots x.field-0.0 d.ensures.says split)
 
@@ -37,9 +37,9 @@ returns-in_err-splits c =
     let x = c.in_err-splits in
     let same : c.from_residual-in_err-splits.result ≡ Err x.field-0.0 = search rules in
     let split : accepted (head_values r.refined) ≡ splits_say g =
-    r.ensures.says ∙ (λ i. refine_all_says (d.ensures.row_after i) (d.ensures.head i) (c.deref.ensures.value i)) in
+    r.ensures.says ∙ (λ i. refine_all_says (d.ensures.row_after i) (d.ensures.head i) (c.splits.ensures i)) in
     let row : c.refine_all.new.row ≡ split_row g =
-    r.ensures.row_after ∙ (λ i. refine_all_row (d.ensures.row_after i) (d.ensures.head i) (c.deref.ensures.value i)) in
+    r.ensures.row_after ∙ (λ i. refine_all_row (d.ensures.row_after i) (d.ensures.head i) (c.splits.ensures i)) in
     let head = split-is g r.refined split in
     let even : refusal x.field-0.0 ≡ balance_says g = x.ensures.says ∙ (λ i. even_says Balancing (row i) (head i)) in
     prints-refused c.from_residual-in_err-splits.result x.field-0.0 _ _ same
@@ -52,9 +52,9 @@ returns c =
     let r = c.in_ok-refined in
     let x = c.in_ok-splits in
     let split : accepted (head_values r.refined) ≡ splits_say g =
-    r.ensures.says ∙ (λ i. refine_all_says (d.ensures.row_after i) (d.ensures.head i) (c.deref.ensures.value i)) in
+    r.ensures.says ∙ (λ i. refine_all_says (d.ensures.row_after i) (d.ensures.head i) (c.splits.ensures i)) in
     let row : c.refine_all.new.row ≡ split_row g =
-    r.ensures.row_after ∙ (λ i. refine_all_row (d.ensures.row_after i) (d.ensures.head i) (c.deref.ensures.value i)) in
+    r.ensures.row_after ∙ (λ i. refine_all_row (d.ensures.row_after i) (d.ensures.head i) (c.splits.ensures i)) in
     let head = split-is g r.refined split in
     grown g d.roots r.refined x.field-0.splits x.field-0.head c.balance.new.row
     d.ensures.says split (x.ensures.says ∙ (λ i. even_says Balancing (row i) (head i)))
