@@ -1,6 +1,7 @@
 //! How a run ends.
 ghost use Rattle.std.specs.Prelude.{◌≡◌, OnOk};
-ghost use Rattle.leafnet_command.specs.Ended.{reason};
+ghost use Rattle.leafnet_command.specs.declared.ending.Ending.TheVariants.{Unread};
+ghost use Rattle.leafnet_command.specs.Ended.{Says, reason};
 
 use crate::request::{Source, USAGE};
 use arrayvec::ArrayString;
@@ -51,8 +52,19 @@ fn words(why: Refusal) -> &'static str
     }
 }
 
+// Says what can't be read, and why.
+fn say_unread<W: Write>(source: Source<'_>, why: &io::Error, error: &mut W) -> io::Result<()>
+    ensures { OnOk result (Says (Unread source.entry why.now) (W.contents error.old) (W.contents error.new)) }
+{
+    let words = system_words(why);
+    match source {
+        Source::StandardInput => writeln!(error, "leafnet: cannot read standard input: {words}"),
+        Source::File(name) => writeln!(error, "leafnet: {name}: {words}"),
+    }
+}
+
 impl Ending<'_> {
-    ghost use Rattle.leafnet_command.specs.Ended.{Says, status_of};
+    ghost use Rattle.leafnet_command.specs.Ended.{status_of};
 
     /// The status that the program ends with.
     pub fn status(&self) -> u8
@@ -78,14 +90,7 @@ impl Ending<'_> {
                 writeln!(error, "leafnet: {refused}: {words}")
             }
             Ending::Misused => write!(error, "{USAGE}"),
-            Ending::Unread(Source::StandardInput, why) => {
-                let words = system_words(why);
-                writeln!(error, "leafnet: cannot read standard input: {words}")
-            }
-            Ending::Unread(Source::File(name), why) => {
-                let words = system_words(why);
-                writeln!(error, "leafnet: {name}: {words}")
-            }
+            Ending::Unread(source, why) => say_unread(*source, why, error),
             Ending::Unwritten(why) => {
                 let words = system_words(why);
                 writeln!(error, "leafnet: cannot write standard output: {words}")
