@@ -158,17 +158,6 @@ impl Pitch {
         })
     }
 
-    /// Whether a length lies in the range of a coordinate, and is no multiple.
-    pub(crate) fn is_off(self, millimetres: f64) -> bool {
-        matches!(
-            self.ticks(millimetres),
-            Err(Misfit {
-                why: Why::OffPitch { .. },
-                ..
-            })
-        )
-    }
-
     /// Ticks in millimetres of the board; of a split cell's corner fractions of a pitch.
     pub fn millimetres(self, ticks: i64) -> f64 {
         ticks as f64 / self.ticks as f64 * self.millimetres

@@ -205,6 +205,10 @@ fn what_names_polygons_names_the_new_ones() {
 
 #[test]
 fn what_would_mean_something_else_is_refused_by_its_line() {
+    let apart = "contact 0 1\npolygon 1 0 0.001\n0 2\n0 4\n2 4\n2 2\n20 2\n20 4\n22 4\n22 2\n";
+    assert!(merged(&format!("{LINKED}{apart}"))
+        .0
+        .contains("# left out: contact 0 1"));
     // The contact goes to the node of polygon 1 that is nearest to the first one of 2; united it would be polygon 0's.
     let said = refused(
         BOARD,
@@ -265,6 +269,37 @@ fn a_strip_that_gets_too_long_is_cut() {
         "{made}"
     );
     assert!((ohms(&made) / 0.095 - 1.0).abs() < 1e-5, "{}", ohms(&made));
+}
+
+/// One cell a strip: as many polygons as cells.
+#[test]
+fn more_polygons_than_a_record_has_are_refused() {
+    let text = |east| {
+        let bar = |x0, x1| format!("polygon 1 0 1\n{x0} 0\n{x1} 0\n{x1} 2\n{x0} 2\n");
+        format!(
+            "level 0\ncap 1\ntarget 2\n{}{}",
+            bar(0, 400),
+            bar(200, east)
+        )
+    };
+    let words = "drawn once, the copper has 257 polygons, more than 256: a ring of more than 1,024 points and a strip of \
+                 more than cap base cells are cut; take a larger cell of the layer, or leave out holes\n";
+    assert_eq!(refused(BOARD, &["merge"], text(514).as_bytes()), words);
+    let (made, said) = merged(&text(512));
+    assert!(said.contains("256 rings of 1,024 points"), "{said}");
+    assert_eq!(text::parse(&made).expect("a board").polygons.len(), 256);
+}
+
+/// A text whose copper needs more cells than there is room for, since it is drawn twice.
+#[test]
+fn what_has_no_room_twice_has_it_once() {
+    let text = format!(
+        "{}refine 0 0 4 4 1\n",
+        squares(200).replace("pitch 0.5", "level 1\npitch 0.4")
+    );
+    let words = "more than 16,384 cells";
+    assert!(refused(BOARD, &["net"], text.as_bytes()).contains(words));
+    made(BOARD, &["net"], merged(&text).0.as_bytes());
 }
 
 /// Texts of random rectangles: merged they have a net, and as many base cells as a raster has squares.

@@ -195,7 +195,7 @@ fn terminals_that_hold_nothing_are_told_by_their_line() {
     for (board, words) in [
         (
             format!("{STRIP}{IN}terminal out 0 V end 1 1 east\n"),
-            no_node.as_str(),
+            "line 9: terminal out: layer 1 has no copper of component 1; layer 1 has 0",
         ),
         (
             format!("{STRIP}{IN}terminal out 0 V end 1 0 west\n"),

@@ -38,13 +38,13 @@ fn a_length_is_judged_by_the_cell_of_its_layer() {
     made(BOARD, &["net"], board("0.5", ["1", "1"]).as_bytes());
     made(BOARD, &["net"], board("0.7", ["2.1", "1.4"]).as_bytes());
     // Bands of unequal cells name the side that is no multiple.
-    let bands = "pitch 0.2\nlayer 1 1\npolygon 1 0 1\n0 0\n4.4 0\n4.4 2\n2 2\n2 4\n0 4\n";
+    let bands = "pitch 0.2\nlayer 1 1\npolygon 1 0 1\n0 0\n2.4 0\n2.4 2\n1 2\n1 4\n0 4\n";
     let words = said(bands);
     assert!(words.starts_with("line 3: a node at "), "{words}");
-    let misfit = "its side from (0 mm, 0 mm) to (4.4 mm, 0 mm) is 4.4 mm long, no multiple of the cell of layer 1, 1 mm: \
-                  the nearest is 4 mm\n";
+    let misfit = "its side from (0 mm, 0 mm) to (2.4 mm, 0 mm) is 2.4 mm long, no multiple of the cell of layer 1, 1 mm: \
+                  the nearest is 2 mm\n";
     assert!(words.ends_with(misfit), "{words}");
-    made(BOARD, &["net"], bands.replace("4.4", "4").as_bytes());
+    made(BOARD, &["net"], bands.replace("2.4", "2").as_bytes());
     // In ticks a cell itself may be none.
     let ticks = |first: &str| format!("{first}polygon 1 0 1\n{}", ring(["96", "96"]));
     for (first, words) in [
@@ -88,6 +88,19 @@ fn a_point_off_the_pitch_is_told_the_largest_pitch_and_snap() {
     assert!(layer.starts_with(
         "line 2: 0.7 mm is no multiple of the pitch of 0.5 mm; the nearest is 0.5 mm; the largest"
     ));
+    // What is wrong with the line for another reason ends without it.
+    let twice = said("pitch 0.5\nlayer 1 1\nlayer 1 0.7\npolygon 1 0 0.001\n");
+    assert!(
+        twice.starts_with("line 3: 0.7 mm is no multiple") && twice.contains("--snap"),
+        "{twice}"
+    );
+    let nowhere = said("pitch 0.5\n0.7 1\n");
+    assert!(
+        nowhere.starts_with("line 2: 0.7 mm is no multiple"),
+        "{nowhere}"
+    );
+    let number = said("pitch 0.5\npolygon 1 0 1\n0.7x 0.7\n");
+    assert_eq!(number, "line 3: coordinate \"0.7x\" is no number\n");
     // No pitch is as small.
     let inches =
         said("level 12\npitch 0.5\npolygon 1 0 0.001\n0 0\n0.7000001 0\n0.7000001 1\n0 1\n");
@@ -150,6 +163,13 @@ fn snap_moves_points_and_lists_the_moves() {
         }
     }
     made(DRAW, &[&name, "--snap", "0.25"], b"");
+    // A byte order mark in front does no harm.
+    let marked = run(
+        BOARD,
+        &["merge", "--snap", "0.25"],
+        format!("\u{feff}{LAID_OUT}").as_bytes(),
+    );
+    assert_eq!(marked.stdout, text.as_bytes());
     // On the pitch already nothing moves.
     let again = run(BOARD, &["merge", "--snap", "0.25"], text.as_bytes());
     assert_eq!(
@@ -293,6 +313,7 @@ fn words_that_are_meant_for_another_get_it() {
     for (line, words) in [
         ("0,0", format!("cannot make sense of \"0,0\": {blank}")),
         ("0, 0", format!("cannot make sense of \"0, 0\": {blank}")),
+        ("0 0,", format!("cannot make sense of \"0 0,\": {blank}")),
         ("0;0", format!("cannot make sense of \"0;0\": {blank}")),
         ("7", "cannot make sense of \"7\": a point has two numbers, x and y".to_string()),
         ("1 2 3", "cannot make sense of \"1 2 3\": a point has two numbers, x and y, and a line of its own".to_string()),

@@ -28,17 +28,19 @@ mod sweep;
 
 use crate::{Outlines, Point};
 use contour::Contour;
-use std::collections::HashMap;
+use std::collections::{BTreeSet, HashMap};
 
 pub use cutting::{cut, Bounds};
 pub use overlap::{first_overlap, Overlap};
 pub(crate) use sweep::encloses;
 
 /// Polygons of one layer, component and sheet resistance that have an area or a border in common, one through another.
-#[derive(Clone, Debug, PartialEq, Eq)]
+#[derive(Clone, Debug, Default, PartialEq, Eq)]
 pub struct Union {
     /// Two of them or more, rising.
     pub polygons: Vec<usize>,
+    /// Of each of them the rings that it is a part of, by their places in `rings`, rising.
+    pub parts: Vec<Vec<usize>>,
     /// What they enclose together: a ring for each piece, from its lowest corner on, of these the westmost, and
     /// anticlockwise. A hole hangs in its ring by a level side there and back. No two rings have a border in common.
     pub rings: Vec<Vec<Point>>,
@@ -87,29 +89,27 @@ fn unions_among(polygons: &[usize], rings: &[&[Point]]) -> Vec<Union> {
     let (owners, places): (Vec<usize>, Vec<Point>) = places.into_iter().unzip();
     let (pieces, parts) = Contour::of(&own).into_pieces(&places);
 
+    let mut parts_of: Vec<BTreeSet<usize>> = vec![BTreeSet::new(); own.len()];
     let mut classes = Classes::new(own.len() + pieces.len());
     for (&owner, &piece) in owners.iter().zip(&parts) {
         classes.join(owner, own.len() + piece);
+        parts_of[owner].insert(piece);
     }
     let mut found: HashMap<usize, Union> = HashMap::new();
-    for (number, &polygon) in polygons.iter().enumerate() {
-        let class = found.entry(classes.of(number));
-        class
-            .or_insert_with(|| Union {
-                polygons: Vec::new(),
-                rings: Vec::new(),
-            })
-            .polygons
-            .push(polygon);
-    }
+    let mut places = Vec::with_capacity(pieces.len());
     for (number, piece) in pieces.into_iter().enumerate() {
-        let class = found.get_mut(&classes.of(own.len() + number));
-        class.expect("a piece is of some polygon").rings.push(piece);
+        let union = found.entry(classes.of(own.len() + number)).or_default();
+        places.push(union.rings.len());
+        union.rings.push(piece);
     }
-    found
-        .into_values()
-        .filter(|union| union.polygons.len() > 1)
-        .collect()
+    for (number, &polygon) in polygons.iter().enumerate() {
+        let union = found.entry(classes.of(number)).or_default();
+        union.polygons.push(polygon);
+        let parts = parts_of[number].iter().map(|&piece| places[piece]);
+        union.parts.push(parts.collect());
+    }
+    let several = found.into_values().filter(|union| union.polygons.len() > 1);
+    several.collect()
 }
 
 /// Numbers in classes.

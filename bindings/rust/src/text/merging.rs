@@ -1,8 +1,9 @@
 //! A text whose copper is drawn once.
 
+use super::reading::Reading;
 use super::rings::first_slant;
 use super::unit::{grouped, Unit};
-use super::{parse_whole, reading_of, Unclear, Warning, Whole};
+use super::{reading_of, Unclear, Warning, Whole};
 use crate::limits::POLYGONS;
 use crate::merging::{cut, first_overlap, rings_of, unions, Bounds, Overlap, Union};
 use crate::solving::{Spot, Terminal};
@@ -38,7 +39,7 @@ pub struct Merged {
 ///
 /// # Errors
 ///
-/// Those of [`parse_whole`], but for what is split; a slanted ring; polygons of two sheet resistances that overlap, by
+/// Those of [`parse_whole`](super::parse_whole), but for what is split; a slanted ring; polygons of two sheet resistances that overlap, by
 /// the later one's line; more than 256 polygons; a contact that would begin or end elsewhere, and a pad of another form
 /// than a rectangle.
 pub fn merge(text: &str) -> Result<Merged, Unclear> {
@@ -92,11 +93,11 @@ struct Merging<'a> {
     whole: &'a Whole,
     unit: Unit,
     unions: &'a [Union],
-    /// The rings of each union as a record takes them.
-    drawn: Vec<Vec<Vec<Point>>>,
+    /// The rings of each union as a record takes them, by the piece that they are cut from.
+    drawn: Vec<Vec<Vec<Vec<Point>>>>,
     /// Of each polygon the union that it is in.
     union_of: Vec<Option<usize>>,
-    /// Of each polygon the number that it has now, or the first ring of its union.
+    /// Of each polygon the number that it has now, or that of the first ring of the first piece that it is a part of.
     number: Vec<usize>,
     /// The first polygon of each that there is now.
     from: Vec<usize>,
@@ -112,27 +113,33 @@ impl<'a> Merging<'a> {
                 .iter()
                 .for_each(|&polygon| union_of[polygon] = Some(number));
         }
-        let drawn: Vec<Vec<Vec<Point>>> = unions
+        let drawn: Vec<Vec<Vec<Vec<Point>>>> = unions
             .iter()
             .map(|union| {
                 let bounds = bounds_of(whole, union.polygons[0]);
-                union
-                    .rings
-                    .iter()
-                    .flat_map(|ring| cut(ring.clone(), bounds))
-                    .collect()
+                let pieces = union.rings.iter();
+                pieces.map(|ring| cut(ring.clone(), bounds)).collect()
             })
             .collect();
-        let (mut number, mut from): (Vec<usize>, Vec<usize>) = (Vec::new(), Vec::new());
+        let (mut number, mut from): (Vec<usize>, Vec<usize>) = (vec![0; count], Vec::new());
         for polygon in 0..count {
-            let first = union_of[polygon].map(|union: usize| unions[union].polygons[0]);
-            match first {
-                Some(first) if first < polygon => number.push(number[first]),
-                _ => {
-                    number.push(from.len());
-                    let rings = union_of[polygon].map_or(1, |union: usize| drawn[union].len());
-                    from.extend(std::iter::repeat(polygon).take(rings));
+            match union_of[polygon] {
+                None => {
+                    number[polygon] = from.len();
+                    from.push(polygon);
                 }
+                Some(at) if unions[at].polygons[0] == polygon => {
+                    let union: &Union = &unions[at];
+                    let mut first_of = Vec::new();
+                    for rings in &drawn[at] {
+                        first_of.push(from.len());
+                        from.extend(rings.iter().map(|_| polygon));
+                    }
+                    for (&own, parts) in union.polygons.iter().zip(&union.parts) {
+                        number[own] = parts.first().map_or(first_of[0], |&part| first_of[part]);
+                    }
+                }
+                Some(_) => {}
             }
         }
         let unit = Unit(whole.lines.pitch);
@@ -177,7 +184,10 @@ impl<'a> Merging<'a> {
             match self.union_of[polygon] {
                 None => push(ring),
                 Some(union) if self.unions[union].polygons[0] == polygon => {
-                    self.drawn[union].iter().for_each(|ring| push(ring));
+                    self.drawn[union]
+                        .iter()
+                        .flatten()
+                        .for_each(|ring| push(ring));
                 }
                 Some(_) => {}
             }
@@ -224,7 +234,8 @@ impl<'a> Merging<'a> {
             }
             let sheet = self.whole.board.sheets[polygon];
             let head = format!("polygon {layer} {component} {sheet:?}");
-            let rings = self.drawn[union].iter().map(|ring| self.points(ring));
+            let rings = self.drawn[union].iter().flatten();
+            let rings = rings.map(|ring| self.points(ring));
             let rings: Vec<Vec<String>> = rings.collect();
             edits.put_behind(line, rings.join(&head));
         }
@@ -242,20 +253,32 @@ impl<'a> Merging<'a> {
             if self.is_one(from, to) {
                 edits.leave_out(line, "the two polygons of the contact are one now");
             } else {
-                let [from, to] = [from, to].map(|polygon| self.number[polygon]);
-                edits.say(line, format!("contact {from} {to}"));
+                let now = [from, to].map(|polygon| self.number[polygon]);
+                if now != [from, to] {
+                    edits.say(line, format!("contact {} {}", now[0], now[1]));
+                }
             }
         }
         for (terminal, &line) in self.whole.terminals.iter().zip(&lines.terminals) {
             if let Spot::Pad { polygon } = terminal.spot {
-                edits.say(line, self.pad(before, terminal, polygon, line)?);
+                if self.union_of[polygon].is_some() || self.number[polygon] != polygon {
+                    edits.say(line, self.pad(before, terminal, polygon, line)?);
+                }
             }
         }
         Ok(())
     }
 
+    /// Whether two polygons are parts of one piece now.
     fn is_one(&self, from: usize, to: usize) -> bool {
-        from != to && self.union_of[from].is_some() && self.union_of[from] == self.union_of[to]
+        let Some(union) = self.union_of[from].map(|union| &self.unions[union]) else {
+            return false;
+        };
+        let parts = |polygon: usize| {
+            let place = union.polygons.iter().position(|&own| own == polygon);
+            place.map_or(&[][..], |place| &union.parts[place])
+        };
+        from != to && parts(from).iter().any(|part| parts(to).contains(part))
     }
 
     fn pad(
@@ -295,8 +318,10 @@ impl<'a> Merging<'a> {
             return Ok(());
         };
         let before: Vec<Contact> = kept.iter().map(|&at| contacts[at]).collect();
-        let moved = match (ends_of(self.whole, &before), parse_whole(merged)) {
-            (Some(before), Ok(now)) => match ends_of(&now, &now.links.contacts) {
+        // Before anything is split, both times.
+        let now = reading_of(merged).and_then(Reading::end_unsplit);
+        let moved = match (ends_of(self.whole, &before), now) {
+            (Some(before), Ok((now, _))) => match ends_of(&now, &now.links.contacts) {
                 Some(now) => before
                     .iter()
                     .zip(&now)
@@ -318,14 +343,15 @@ impl<'a> Merging<'a> {
     }
 
     fn in_words(&self) -> Vec<String> {
-        let one = |(union, rings): (&Union, &Vec<Vec<Point>>)| {
+        let one = |(union, pieces): (&Union, &Vec<Vec<Vec<Point>>>)| {
             let polygon = union.polygons[0];
             let [layer, component, _] = self.whole.board.polygons[polygon];
             let lines = union
                 .polygons
                 .iter()
                 .map(|&polygon| self.whole.lines.polygons[polygon]);
-            let points: usize = rings.iter().map(Vec::len).sum();
+            let rings: Vec<&Vec<Point>> = pieces.iter().flatten().collect();
+            let points: usize = rings.iter().map(|ring| ring.len()).sum();
             let rings = match rings.len() {
                 1 => "one ring".to_string(),
                 count => format!("{} rings", grouped(count)),

@@ -277,7 +277,7 @@ fn reading_of(text: &str) -> Result<Reading, Unclear> {
         let taken = reading.take_line(index + 1, &words);
         taken.map_err(|why| Unclear {
             line: Some(index + 1),
-            words: why + &reading.way_out(text, &words),
+            words: format!("{why}{}", reading.way_out(text, &why, &words)),
         })?;
     }
     Ok(reading)

@@ -67,7 +67,9 @@ impl Reading {
             ["contact", ..] | ["via", ..] | ["channels", ..] | ["channel", ..] => {
                 self.take_link(line, words)
             }
-            [x, y] if is_number(x) && !x.ends_with([',', ';']) => self.take_point(line, x, y),
+            [x, y] if is_number(x) && ![x, y].iter().any(|word| word.ends_with([',', ';'])) => {
+                self.take_point(line, x, y)
+            }
             _ => Err(senseless(words)),
         }
     }
@@ -252,7 +254,7 @@ impl Reading {
     }
 
     /// What to do about a line that isn't taken, where its lengths are no multiples of the pitch.
-    pub fn way_out(&self, text: &str, words: &[&str]) -> String {
+    pub fn way_out(&self, text: &str, why: &str, words: &[&str]) -> String {
         let Whole { board, lines, .. } = &self.whole;
         let layer = board.polygons.last().map(|&[layer, ..]| layer);
         let own = board
@@ -260,7 +262,14 @@ impl Reading {
             .iter()
             .find(|entry| Some(entry[0]) == layer && entry[1] > 0);
         let cell = own.map(|&[layer, cell]| (layer, cell as i64));
-        snapping::way_out(text, words, lines.pitch, board.settings().max_level, cell)
+        snapping::way_out(
+            text,
+            why,
+            words,
+            lines.pitch,
+            board.settings().max_level,
+            cell,
+        )
     }
 
     /// What the lines say together without what they split, and the lines that split cells by their ids.

@@ -2,7 +2,7 @@
 
 use super::unit::finite;
 use super::Unclear;
-use crate::Pitch;
+use crate::{Pitch, Why};
 
 /// A text whose lengths are multiples of another pitch.
 #[derive(Clone, Debug, PartialEq)]
@@ -46,6 +46,7 @@ pub fn snap(text: &str, pitch: f64) -> Result<Snapped, Unclear> {
     let mut lines: Vec<String> = Vec::new();
     let mut moves = Vec::new();
     let mut is_in_millimetres = false;
+    let text = text.strip_prefix('\u{feff}').unwrap_or(text);
     for (number, line) in (1..).zip(text.lines()) {
         let (meant, comment) = line.split_at(line.find('#').unwrap_or(line.len()));
         let words: Vec<&str> = meant.split_whitespace().collect();
@@ -183,10 +184,11 @@ fn common_divisor(a: u64, b: u64) -> u64 {
     common_divisor(b, a % b)
 }
 
-/// What to do about a line whose lengths are no multiples of the text's pitch; nothing of any other line. Where the
-/// layer has cells of its own size, the nearest multiples of these are told, too.
+/// What to do about a line that is refused since a length is no multiple of the text's pitch; nothing of any other line.
+/// Where the layer has cells of its own size, the nearest multiple of these is told, too.
 pub(super) fn way_out(
     text: &str,
+    why: &str,
     words: &[&str],
     pitch: Option<Pitch>,
     level: u64,
@@ -195,15 +197,16 @@ pub(super) fn way_out(
     let (Some(pitch), Lengths::Of(head, lengths)) = (pitch, lengths_of(words)) else {
         return String::new();
     };
-    let is_off = |word: &&&str| word.parse::<f64>().is_ok_and(|length| pitch.is_off(length));
-    let Some(off) = lengths.iter().find(is_off) else {
+    let lengths = lengths.iter().filter_map(|word| word.parse::<f64>().ok());
+    let misfits = lengths.filter_map(|length| pitch.ticks(length).err());
+    let mut off = misfits.filter(|misfit| matches!(misfit.why, Why::OffPitch { .. }));
+    let Some(misfit) = off.find(|misfit| misfit.to_string() == why) else {
         return String::new();
     };
     let mut ways = Vec::new();
     if let (Some((layer, cell)), true) = (cell, head.is_empty()) {
         let cell = pitch.short(cell);
-        let length: f64 = off.parse().unwrap_or(0.0);
-        let nearest = nearest(length, cell, false);
+        let nearest = nearest(misfit.given, cell, false);
         ways.push(format!(
             "by the cell of layer {layer}, {cell} mm, it is {nearest} mm"
         ));
