@@ -243,7 +243,7 @@ fn failures_name_their_end(rt: HostRuntime) -> Result<(), Fail> {
     ending.say(&mut said)?;
     assert_eq!(rt;
         said.as_slice(),
-        b"leafnet: cannot read standard input: other error\n"
+        "leafnet: cannot read standard input: other error\n".as_bytes()
     );
     assert!(rt; printed.is_empty());
     let mut writer = BrokenWriter { room: 10, taken: 0 };
@@ -253,7 +253,7 @@ fn failures_name_their_end(rt: HostRuntime) -> Result<(), Fail> {
     ending.say(&mut said)?;
     assert_eq!(rt;
         said.as_slice(),
-        b"leafnet: cannot write standard output: other error\n"
+        "leafnet: cannot write standard output: other error\n".as_bytes()
     );
     Ok(())
 }

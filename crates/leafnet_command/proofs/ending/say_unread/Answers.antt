@@ -1,4 +1,5 @@
 -- The system's words are those that were written.
+use Rattle.std.proofs.Common.{append_assoc}
 use Rattle.leafnet_command.proofs.OnOk.{on_ok}
 use Rattle.leafnet_command.proofs.ending.say_unread.Goals as goal
 
@@ -10,4 +11,4 @@ returns-in-StandardInput g c =
 pub returns-in-File : goal.returns-in-File
 returns-in-File g c =
     let w = c.writeln-in-File in
-    rw c.in-File.is (on_ok w.result (λ said. (c.system_words-words.result.bytes, said)) w.ensures.bytes)
+    rw c.in-File.is (on_ok w.result (λ said. (c.system_words-words.result.bytes, simp append_assoc said)) w.ensures.bytes)

@@ -4,7 +4,7 @@ use Rattle.refusals.specs.Said.{accepted}
 use Rattle.leafnet_text.specs.Output.{lines_text}
 use Rattle.leafnet_text.proofs.Refusing.{prints-refused}
 use Rattle.leafnet_text.proofs.Tabled.{ordered, order-refused, order-accepted}
-use Rattle.leafnet_text.proofs.listing.Mesh.put.Goals as goal
+use Rattle.leafnet_text.proofs.mesh.Mesh.put.Goals as goal
 
 pub returns-in_err-leaves-clause-says : goal.returns-in_err-leaves-clause-says
 returns-in_err-leaves-clause-says c =
