@@ -20,6 +20,8 @@ const POWER: u64 = 1;
 
 const NETWORK_CONFORMING: u64 = 2;
 
+const BY_LAYER: u64 = 3;
+
 const NETWORK: u64 = 4;
 
 const LINKED_NETWORK: u64 = 5;
@@ -301,13 +303,10 @@ fn print_counts(out: &mut String, n: NetSize) -> Result<(), AllocError> {
     writeln!(out, " {} {} {}", n.nodes, n.edges, n.cells)
 }
 
-// Potentials and answers stand next.
-fn run_power(
-    alloc: Global,
-    cases: &mut Cases,
-    net: Result<&Net, Refusal>,
-    out: &mut String,
-) -> Result<(), AllocError> {
+// A net, potentials and answers stand next.
+fn run_power(alloc: Global, cases: &mut Cases, out: &mut String) -> Result<(), AllocError> {
+    let typed = Numbers::read(alloc, cases)?.typed(alloc)?;
+    let net = typed.as_ref().ok_or(Refusal::BadTable);
     let potentials: Vec<f64> = cases.row(alloc)?;
     let mut answers: Vec<f64> = cases.row(alloc)?;
     write!(out, "power")?;
@@ -316,13 +315,14 @@ fn run_power(
     print::fractions(out, &answers)
 }
 
-// A table with its head in front and the work room stand next.
+// A net, a table with its head in front and the work room stand next.
 fn run_network_conforming(
     alloc: Global,
     cases: &mut Cases,
-    net: Result<&Net, Refusal>,
     out: &mut String,
 ) -> Result<(), AllocError> {
+    let typed = Numbers::read(alloc, cases)?.typed(alloc)?;
+    let net = typed.as_ref().ok_or(Refusal::BadTable);
     let head = cases.head();
     let t: Vec<i64> = cases.row(alloc)?;
     let mut work: Vec<u64> = cases.row(alloc)?;
@@ -337,13 +337,10 @@ fn run_network_conforming(
     print::work(out, &work)
 }
 
-// A table with its head in front, layers, components and the work room stand next.
-fn run_by_layer(
-    alloc: Global,
-    cases: &mut Cases,
-    net: Result<&Net, Refusal>,
-    out: &mut String,
-) -> Result<(), AllocError> {
+// A net, a table with its head in front, layers, components and the work room stand next.
+fn run_by_layer(alloc: Global, cases: &mut Cases, out: &mut String) -> Result<(), AllocError> {
+    let typed = Numbers::read(alloc, cases)?.typed(alloc)?;
+    let net = typed.as_ref().ok_or(Refusal::BadTable);
     let head = cases.head();
     let t: Vec<i64> = cases.row(alloc)?;
     let layers: Vec<u16> = cases.row(alloc)?;
@@ -455,19 +452,14 @@ fn run_edge_rows(alloc: Global, cases: &mut Cases, out: &mut String) -> Result<(
 }
 
 fn run(alloc: Global, cases: &mut Cases, out: &mut String) -> Result<(), AllocError> {
-    let kind = cases.word();
-    match kind {
-        NETWORK => return run_network(alloc, cases, out),
-        LINKED_NETWORK => return run_linked(alloc, cases, out),
-        EDGE_ROWS => return run_edge_rows(alloc, cases, out),
-        _ => {}
-    }
-    let typed = Numbers::read(alloc, cases)?.typed(alloc)?;
-    let net = typed.as_ref().ok_or(Refusal::BadTable);
-    match kind {
-        POWER => run_power(alloc, cases, net, out),
-        NETWORK_CONFORMING => run_network_conforming(alloc, cases, net, out),
-        _ => run_by_layer(alloc, cases, net, out),
+    match cases.word() {
+        POWER => run_power(alloc, cases, out),
+        NETWORK_CONFORMING => run_network_conforming(alloc, cases, out),
+        BY_LAYER => run_by_layer(alloc, cases, out),
+        NETWORK => run_network(alloc, cases, out),
+        LINKED_NETWORK => run_linked(alloc, cases, out),
+        EDGE_ROWS => run_edge_rows(alloc, cases, out),
+        kind => writeln!(out, "unknown {kind}"),
     }
 }
 

@@ -15,6 +15,8 @@ use table::Head;
 
 const STRIPS: u64 = 1;
 
+const BUILD: u64 = 2;
+
 const BUILD_IN_ZEROS: u64 = 3;
 
 // A ring and the row for its strips stand next.
@@ -102,8 +104,9 @@ fn main(rt: HostRuntime) -> io::Result<()> {
     for _ in 0..cases.word() {
         match cases.word() {
             STRIPS => run_strips(rt.alloc(), &mut cases, &mut out)?,
+            BUILD => run_build(rt.alloc(), &mut cases, &mut out)?,
             BUILD_IN_ZEROS => run_build_in_zeros(rt.alloc(), &mut cases, &mut out)?,
-            _ => run_build(rt.alloc(), &mut cases, &mut out)?,
+            kind => writeln!(out, "unknown {kind}")?,
         }
     }
     rt.print(out)

@@ -21,6 +21,8 @@ const LEAF_COUNT: u64 = 2;
 
 const LEAVES: u64 = 3;
 
+const LEAF_ORDER: u64 = 4;
+
 const REFINE: u64 = 5;
 
 const BALANCE: u64 = 6;
@@ -115,11 +117,12 @@ fn run_table(
             let mut ids: Vec<u64> = cases.row(alloc)?;
             run_leaves(out, &t, head, &mut ids)
         }
-        _ => {
+        LEAF_ORDER => {
             let mut ids: Vec<u64> = cases.row(alloc)?;
             let answer = table::leaves::leaf_order(&t, head, &mut ids);
             print_list(out, "leaf_order", answer, &ids)
         }
+        _ => writeln!(out, "unknown {kind}"),
     }
 }
 
