@@ -23,18 +23,37 @@ pub struct Walked {
 fn read_settings(reader: &mut Reader<'_>, limits: Limits) -> Result<Settings, Refusal>
     ensures { Reads result reader.new ((settings limits).reading reader.old) }
 {
-    let level = read_level(reader, limits.max_level)?;
-    let cap = u64::from(reader.read_u16_within(1, limits.cap)?);
-    let target = reader.read_u64_within(1, limits.cell)?;
-    Ok(Settings { level, cap, target })
+    let level = read_level(reader, limits.max_level);
+    let Ok(level) = level else {
+        return Err(level.unwrap_err());
+    };
+    let cap = reader.read_u16_within(1, limits.cap);
+    let Ok(cap) = cap else {
+        return Err(cap.unwrap_err());
+    };
+    let target = reader.read_u64_within(1, limits.cell);
+    let Ok(target) = target else {
+        return Err(target.unwrap_err());
+    };
+    Ok(Settings {
+        level,
+        cap: u64::from(cap),
+        target,
+    })
 }
 
 #[inline]
 fn read_entry(reader: &mut Reader<'_>, limits: Limits, last: Option<u16>) -> Result<Entry, Refusal>
     ensures { Reads result reader.new ((entry limits last).reading reader.old) }
 {
-    let layer = read_layer(reader, last)?;
-    let cell = reader.read_u64_within(0, limits.cell)?;
+    let layer = read_layer(reader, last);
+    let Ok(layer) = layer else {
+        return Err(layer.unwrap_err());
+    };
+    let cell = reader.read_u64_within(0, limits.cell);
+    let Ok(cell) = cell else {
+        return Err(cell.unwrap_err());
+    };
     Ok(Entry { layer, cell })
 }
 
@@ -42,8 +61,14 @@ fn read_entry(reader: &mut Reader<'_>, limits: Limits, last: Option<u16>) -> Res
 fn read_point(reader: &mut Reader<'_>) -> Result<Point, Refusal>
     ensures { Reads result reader.new (point.reading reader.old) }
 {
-    let x = read_coordinate(reader)?;
-    let y = read_coordinate(reader)?;
+    let x = read_coordinate(reader);
+    let Ok(x) = x else {
+        return Err(x.unwrap_err());
+    };
+    let y = read_coordinate(reader);
+    let Ok(y) = y else {
+        return Err(y.unwrap_err());
+    };
     Ok(Point { x, y })
 }
 
@@ -51,7 +76,11 @@ fn read_point(reader: &mut Reader<'_>) -> Result<Point, Refusal>
 fn read_layers(reader: &mut Reader<'_>, limits: Limits) -> Result<usize, Refusal>
     ensures { ReadsSome result reader.new ((layer_list limits).reading reader.old) }
 {
-    let count = usize::from(reader.read_u16_within(0, limits.layers)?);
+    let count = reader.read_u16_within(0, limits.layers);
+    let Ok(count) = count else {
+        return Err(count.unwrap_err());
+    };
+    let count = usize::from(count);
     let mut last = None;
     for _ in 0..count {
         let entry = read_entry(reader, limits, last)?;
@@ -81,8 +110,14 @@ fn read_polygon(reader: &mut Reader<'_>, limits: Limits) -> Result<u16, Refusal>
     let Some(_component) = reader.read_u32() else {
         return Err(Refusal::WrongLength(reader.offset()));
     };
-    reader.read_u64_within(SHEET_LOW_BITS, SHEET_HIGH_BITS)?;
-    let points = reader.read_u16_within(0, limits.ring_points)?;
+    let sheet = reader.read_u64_within(SHEET_LOW_BITS, SHEET_HIGH_BITS);
+    let Ok(_sheet) = sheet else {
+        return Err(sheet.unwrap_err());
+    };
+    let points = reader.read_u16_within(0, limits.ring_points);
+    let Ok(points) = points else {
+        return Err(points.unwrap_err());
+    };
     read_ring(reader, points)?;
     Ok(points)
 }
@@ -91,7 +126,11 @@ fn read_polygon(reader: &mut Reader<'_>, limits: Limits) -> Result<u16, Refusal>
 fn read_polygons(reader: &mut Reader<'_>, limits: Limits) -> Result<Walked, Refusal>
     ensures { ReadsPolygons result reader.new ((polygon_list limits).reading reader.old) }
 {
-    let count = usize::from(reader.read_u16_within(0, limits.polygons)?);
+    let count = reader.read_u16_within(0, limits.polygons);
+    let Ok(count) = count else {
+        return Err(count.unwrap_err());
+    };
+    let count = usize::from(count);
     let mut points: usize = 0;
     for _ in 0..count {
         points += usize::from(read_polygon(reader, limits)?);
@@ -106,7 +145,11 @@ fn read_polygons(reader: &mut Reader<'_>, limits: Limits) -> Result<Walked, Refu
 fn read_splits(reader: &mut Reader<'_>) -> Result<usize, Refusal>
     ensures { ReadsSome result reader.new (split_list.reading reader.old) }
 {
-    let count = usize::from(reader.read_u16_within(0, u16::MAX)?);
+    let count = reader.read_u16_within(0, u16::MAX);
+    let Ok(count) = count else {
+        return Err(count.unwrap_err());
+    };
+    let count = usize::from(count);
     for _ in 0..count {
         let Some(_id) = reader.read_u32() else {
             return Err(Refusal::WrongLength(reader.offset()));

@@ -7,9 +7,9 @@ use Rattle.record.proofs.walk.read_layers.Goals as goal
 
 pub returns-in_err-entry : goal.returns-in_err-entry
 returns-in_err-entry c =
-    let p = err_from_is_err_and c.from_residual-in_err-entry.result c.from_residual-in_err-entry.ensures.1 in
+    let p = err_from_is_err_and c.from_residual.result c.from_residual.ensures.1 in
     let l = c.loop in
-    rw (p.1, p.2, c.in_ok-read_u16_within.ensures.read, ← c.from-count.ensures)
+    rw (p.1, p.2, c.in-Ok.ensures.read, ← c.from-count.ensures)
     (stops (entry c.args.limits) (λ (e : Entry). Some e.layer) None c.from-count.result _ l.counter l.invariant.0 l.last l.reader l.invariant.1 _ c.loop-test.true c.in_err-entry.ensures)
 
 pub loop-preserved : goal.loop-preserved
@@ -25,6 +25,6 @@ returns c =
     let l = c.loop in
     let all = is_done (entry c.args.limits) (λ (e : Entry). Some e.layer) None c.from-count.result _ l.counter l.invariant.0 l.last l.reader l.invariant.1 c.loop-test.false in (
       l.invariant.0,
-      rw (c.in_ok-read_u16_within.ensures.read, ← c.from-count.ensures) all,
+      rw (c.in-Ok.ensures.read, ← c.from-count.ensures) all,
       sym (many_length (entry c.args.limits) (λ (e : Entry). Some e.layer) None c.from-count.result _ all),
     )

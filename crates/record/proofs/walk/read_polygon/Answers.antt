@@ -7,7 +7,7 @@ pub returns : goal.returns
 unfolding polygon
 returns c =
     let p = c.in_ok-read_ring.ensures in (
-      record { layer = c.in-Some._layer; component = c.in-Some-read_u32._component; sheet = c.in_ok-read_u64_within.field-0; points = p.0 },
-      rw (c.in-Some.ensures.read, c.in-Some-read_u32.ensures.read, c.in_ok-read_u64_within.ensures.read, c.in_ok-points.ensures.read, p.1) refl,
+      record { layer = c.in-Some._layer; component = c.in-Some-read_u32._component; sheet = c.in-Ok._sheet; points = p.0 },
+      rw (c.in-Some.ensures.read, c.in-Some-read_u32.ensures.read, c.in-Ok.ensures.read, c.in-Ok-points.ensures.read, p.1) refl,
       sym (many_length (λ (_ : Unit {0}). point) (λ (_ : Point). tt) tt _ _ p.1),
     )

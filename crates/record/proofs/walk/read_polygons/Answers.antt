@@ -8,9 +8,9 @@ use Rattle.record.proofs.walk.read_polygons.Goals as goal
 
 pub returns-in_err-read_polygon : goal.returns-in_err-read_polygon
 returns-in_err-read_polygon c =
-    let p = err_from_is_err_and c.from_residual-in_err-read_polygon.result c.from_residual-in_err-read_polygon.ensures.1 in
+    let p = err_from_is_err_and c.from_residual.result c.from_residual.ensures.1 in
     let l = c.loop in
-    rw (p.1, p.2, c.in_ok-read_u16_within.ensures.read, ← c.from-count.ensures)
+    rw (p.1, p.2, c.in-Ok.ensures.read, ← c.from-count.ensures)
     (stops (λ (_ : Unit {0}). polygon c.args.limits) (λ (_ : Polygon). tt) tt c.from-count.result _ l.counter l.invariant.0 tt l.reader l.invariant.1 _ c.loop-test.true c.in_err-read_polygon.ensures)
 
 pub loop-preserved : goal.loop-preserved
@@ -30,7 +30,7 @@ returns c =
     let l = c.loop in
     let all = is_done (λ (_ : Unit {0}). polygon c.args.limits) (λ (_ : Polygon). tt) tt c.from-count.result _ l.counter l.invariant.0 tt l.reader l.invariant.1 c.loop-test.false in (
       l.invariant.0,
-      rw (c.in_ok-read_u16_within.ensures.read, ← c.from-count.ensures) all,
+      rw (c.in-Ok.ensures.read, ← c.from-count.ensures) all,
       sym (many_length (λ (_ : Unit {0}). polygon c.args.limits) (λ (_ : Polygon). tt) tt c.from-count.result _ all),
       l.invariant.2,
     )
