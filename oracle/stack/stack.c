@@ -265,7 +265,10 @@ static void skyline(size_t n, int64_t unit, size_t heights)
     one_polygon(n);
 }
 
-/* The same number whenever the program runs, and no order to be seen in them. */
+/* How many rings and boards are drawn by chance for a row. */
+enum { DRAWINGS = 32 };
+
+/* The same numbers whenever the program runs, and no order to be seen in them. */
 static uint64_t drawn(uint64_t below)
 {
     static uint64_t state = 1;
@@ -274,10 +277,10 @@ static uint64_t drawn(uint64_t below)
 }
 
 /* A ring of n points, an even number, that goes to and fro: its edges stand in no order, and cross. */
-static void tangle(size_t n, int64_t unit, size_t heights)
+static void tangle(size_t n, int64_t unit, size_t columns, size_t heights)
 {
     for (size_t i = 0; i < n; i += 2) {
-        points[i].x = points[i + 1].x = unit * (int64_t)drawn(n);
+        points[i].x = points[i + 1].x = unit * (int64_t)drawn(columns);
         points[i + 1].y = unit * (int64_t)drawn(heights);
         points[i + 2].y = points[i + 1].y;
     }
@@ -334,6 +337,21 @@ static void split_down(size_t root, size_t quadrant)
     }
 }
 
+/* Splits leaves anywhere on the board, each as deep as the drawn ids lead. */
+static void split_anywhere(size_t splits)
+{
+    while (splits > 0) {
+        id = drawn(count);
+        if (table[LEAFMESH_SLOT * id + LEAFMESH_FIRST_CHILD] != LEAFMESH_NO_CELL ||
+            table[LEAFMESH_SLOT * id + LEAFMESH_LEVEL] == (int64_t)max_level) {
+            continue;
+        }
+        PREPARE(leafmesh_refine, refine);
+        keep_head();
+        splits--;
+    }
+}
+
 /* A square board with a root split down in its middle: unbalanced. */
 static size_t split_root;
 
@@ -345,10 +363,9 @@ static void split_board(int64_t cells, uint64_t levels)
     keep_table();
 }
 
-/* The same balanced, with its net: has nodes at the middle of a leaf's edge. */
-static void board_with_net(int64_t cells, uint64_t levels)
+/* The board balanced, with its net: has nodes at the middle of a leaf's edge. */
+static void make_net(void)
 {
-    split_board(cells, levels);
     PREPARE(leafmesh_balance, balance);
     keep_head();
     work_length = WORK;
@@ -356,6 +373,12 @@ static void board_with_net(int64_t cells, uint64_t levels)
     network();
     accepted("leafmesh_network", net.number);
     edge_count = net.edges;
+}
+
+static void board_with_net(int64_t cells, uint64_t levels)
+{
+    split_board(cells, levels);
+    make_net();
 }
 
 static void measure_contact(void)
@@ -369,7 +392,7 @@ static void measure_contact(void)
 
 static void measure_strips(size_t n, const char *name)
 {
-    tangle(n - n % 2, 1, 64);
+    tangle(n - n % 2, 1, n, 64);
     MEASURE(leafmesh_strips, strips);
     skyline(n, 1, 64);
     MEASURE(leafmesh_strips, strips);
@@ -409,8 +432,9 @@ static void measure_build(void)
     many_squares(16);
     measure_boards();
     /* Edges in no order take the sort deepest. */
-    for (int i = 0; i < 64; i++) {
-        tangle(LEAFMESH_RING_POINTS, 8, 4);
+    target = 8;
+    for (int i = 0; i < DRAWINGS; i++) {
+        tangle(LEAFMESH_RING_POINTS, 8, LEAFMESH_CAP, 4);
         measure_boards();
     }
     print_row("build, a ring of 1,024 points or 256 rings of 4");
@@ -512,8 +536,23 @@ static void with_links(void)
     link_count = 2;
 }
 
+/* A board on which nodes stand in no order, so that they take the sorts deepest. */
+static void board_of_drawn_splits(void)
+{
+    square_board(20, 3);
+    split_anywhere(400);
+    make_net();
+}
+
 static void measure_links(void)
 {
+    for (int i = 0; i < DRAWINGS; i++) {
+        board_of_drawn_splits();
+        with_links();
+        MEASURE(leafmesh_edge_rows, edge_rows);
+        MEASURE(leafmesh_network, network);
+        link_count = 0;
+    }
     board_with_net(60, 3);
     with_links();
     MEASURE(leafmesh_edge_rows, edge_rows);
@@ -539,6 +578,10 @@ static void measure_net(void)
 {
     board_with_net(1, 3);
     MEASURE(leafmesh_network, network);
+    for (int i = 0; i < DRAWINGS; i++) {
+        board_of_drawn_splits();
+        MEASURE(leafmesh_network, network);
+    }
     board_with_net(60, 3);
     MEASURE(leafmesh_network, network);
     work_length = 1;
