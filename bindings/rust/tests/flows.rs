@@ -225,8 +225,8 @@ fn terminals_that_hold_nothing_are_told_by_their_line() {
             assert_eq!(said, format!("{file}: {words}\n"));
         }
     }
-    let words = ["solve", "--terminal", "out 0 V end 1 1 east"];
-    let said = refused(BOARD, &words, strip().as_bytes());
+    let words = ["solve", "--terminal", "out 0 V rect 1 0 15 7 17 9"];
+    let said = refused(BOARD, &words, format!("{}split 0\n", strip()).as_bytes());
     assert_eq!(said, format!("--terminal: terminal out: {NO_NODE}\n"));
     for words in ["out", "out 0 V end 1 1 up", "out x V end 1 0 east"] {
         let said = refused(BOARD, &["solve", "--terminal", words], strip().as_bytes());
