@@ -1,6 +1,7 @@
 //! What flows through straight lines: the current of a cut from edge to edge is what the terminals drive, whatever the
 //! cells are, and parts of it come close to a calculation written apart.
 
+#[allow(dead_code)]
 mod shared;
 
 use leafmesh::solving::{Crossing, Cuts, Drive, Line, Solution, Spot, System, Terminal};
@@ -21,7 +22,7 @@ struct Flow {
 impl Flow {
     /// 3 A into one place, out of another at so many volts.
     fn of(mesh: Mesh, [from, to]: [Rect; 2], volts: f64) -> Self {
-        let net = mesh.net().expect("a net");
+        let net = mesh.unjudged_net().expect("a net");
         let rect = |rect: Rect| Spot::Rect {
             layer: 1,
             component: 0,
@@ -229,6 +230,33 @@ fn a_cut_between_two_inner_corners_is_one() {
     }
 }
 
+/// Copper of half a cell beside copper of whole ones: its corner hangs at the middle of a cell's side. The tools refuse
+/// such a net, whose node isn't joined along the side.
+#[test]
+fn a_cut_at_an_inner_corner_that_hangs_is_one() {
+    let own: [(Rect, Rect); 3] = [
+        ([0, 0, 128, 32], [128, 0, 256, 64]),
+        ([0, 32, 128, 64], [128, 0, 256, 128]),
+        ([0, 64, 128, 96], [128, 0, 256, 128]),
+    ];
+    let mirrored = own.map(|(low, high)| {
+        let turned = |[x0, y0, x1, y1]: Rect| [256 - x1, y0, 256 - x0, y1];
+        (turned(high), turned(low))
+    });
+    for (west, east) in own.into_iter().chain(mirrored) {
+        let mesh = mesh_of(&[west, east], 2);
+        let ends = [[0, 0, 0, 128], [256, 0, 256, 128]];
+        let flow = Flow::of(mesh, ends, 0.0);
+        for cut in [[128, 0, 128, 128], [100, 0, 100, 128], [160, 0, 160, 128]] {
+            let amperes = flow.amperes(cut);
+            assert!(
+                (amperes / 3.0 - 1.0).abs() < 1e-9,
+                "{west:?} {cut:?} {amperes}"
+            );
+        }
+    }
+}
+
 /// Parts of a line carry the whole together, wherever they meet.
 #[test]
 fn parts_of_a_line_add_up() {
@@ -336,7 +364,7 @@ fn shares_by_volumes(fine: i64) -> [f64; 3] {
                     weight += 2.0;
                 }
             }
-            let step = 1.97 * (sum / weight - volts[at(x, y)]);
+            let step: f64 = 1.97 * (sum / weight - volts[at(x, y)]);
             volts[at(x, y)] += step;
             moved = moved.max(step.abs());
         }

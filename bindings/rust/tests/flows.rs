@@ -3,8 +3,10 @@
 mod programs;
 
 use leafmesh::solving::{Solution, System};
-use leafmesh::{read, text, Mesh, Net};
-use programs::{made, refused, run, sample, sample_name, text_made, Folder, BOARD, DRAW, RELAX};
+use leafmesh::{read, text, Leaf, Mesh, Net, Rect};
+use programs::{
+    made, refused, run, sample, sample_name, senseless, text_made, Folder, BOARD, DRAW, RELAX,
+};
 use std::fs;
 
 /// A strip of four squares, one ohm a square, from the left to the right: 4 ohms.
@@ -17,6 +19,11 @@ const NO_NODE: &str =
 
 fn strip() -> String {
     [STRIP, IN, OUT].concat()
+}
+
+/// The same with all current in at one corner, so that it is even nowhere.
+fn cornered() -> String {
+    [STRIP, "terminal in 3 A edge 1 0 0 0 0 1\n", OUT].concat()
 }
 
 /// The value behind a word that begins a line.
@@ -272,18 +279,22 @@ fn refined(text: &str, rounds: usize, share: f64) -> Mesh {
     let mut mesh = Mesh::of_board(&board).expect("a mesh");
     for _ in 0..rounds {
         let net = mesh.net().expect("a net");
-        let watts: Vec<f64> = solved(&mesh, &net, text)
-            .cells
-            .iter()
-            .map(|cell| cell.watts)
+        let solution = solved(&mesh, &net, text);
+        // What each cell takes beyond the power of an even current.
+        let cells = mesh.leaves().zip(&solution.cells);
+        let uneven: Vec<f64> = cells
+            .map(|(leaf, cell)| {
+                let [x, y] = cell.current;
+                cell.watts - (x * x + y * y) * leaf.sheet * leaf.area()
+            })
             .collect();
-        mesh.refine_hottest(&watts, share).expect("room");
+        mesh.refine_hottest(&uneven, share).expect("room");
     }
     mesh
 }
 
 /// A board of 30 by 20.2 mm with a neck of 0.2 mm, as docs/FORMATS.md draws it in cells of 1 mm, comes to 7.03 milliohms
-/// by heat, what uniform grids of 0.1 and 0.05 mm tend to.
+/// in rounds, what uniform grids of 0.1 and 0.05 mm tend to.
 #[test]
 fn a_fine_neck_on_a_large_board_is_refined() {
     let page = include_str!("../../../docs/FORMATS.md");
@@ -301,7 +312,15 @@ fn a_fine_neck_on_a_large_board_is_refined() {
     assert!((ohms / 7.032e-3 - 1.0).abs() < 0.005, "{ohms}");
 }
 
-/// What is written means the same mesh, number by number, by text and by record.
+/// The leaves by place, in a row that is the same for the same leaves.
+fn places(mesh: &Mesh) -> Vec<(u16, u32, Rect)> {
+    let place = |leaf: Leaf| (leaf.layer, leaf.component, leaf.rect);
+    let mut all: Vec<_> = mesh.leaves().map(place).collect();
+    all.sort_unstable();
+    all
+}
+
+/// What is written means the same mesh, leaf by leaf, by text and by record.
 #[test]
 fn the_hottest_leaves_are_split_in_rounds() {
     let file = sample_name("across.txt");
@@ -316,8 +335,17 @@ fn the_hottest_leaves_are_split_in_rounds() {
         assert!(text.starts_with(&words), "the text as it stands");
         let board = text::parse(&text).expect("a board");
         let own = refined(&words, rounds, share.map_or(1.0 / 6.0, |_| 0.25));
-        assert_eq!(Mesh::of_board(&board).expect("a mesh"), own);
-        assert_eq!(board.splits, own.board().splits);
+        assert_eq!(
+            places(&Mesh::of_board(&board).expect("a mesh")),
+            places(&own)
+        );
+        // Rectangles by place, and fewer than what they split.
+        let more = text[words.len()..].lines();
+        assert!(
+            more.clone().all(|line| line.starts_with("refine ")),
+            "{text}"
+        );
+        assert!(2 * more.count() < own.splits().count(), "{text}");
 
         let said = String::from_utf8(output.stderr).expect("words");
         let last = said.lines().last().expect("a line");
@@ -365,48 +393,124 @@ fn rounds_end_where_nothing_more_can_be_split() {
     };
     // Four base cells of three levels: 4, 16, 64, 256 leaves.
     let all = ["--rounds", "9", "--share", "1"];
-    let (leaves, said) = refine(&all, &strip());
+    let (leaves, said) = refine(&all, &cornered());
     assert_eq!(leaves, 256);
-    assert_eq!(
-        said,
-        "no round 4: the hottest of 256 leaves are at the finest level"
-    );
-    let (leaves, said) = refine(&[&all[..], &["--leaves", "100"]].concat(), &strip());
+    assert_eq!(said, "no round 4: all leaves are at the finest level");
+    let (leaves, said) = refine(&[&all[..], &["--leaves", "100"]].concat(), &cornered());
     assert_eq!(leaves, 64);
     assert_eq!(said, "no round 3: it would have 256 leaves, more than 100");
-    let (leaves, said) = refine(&[&all[..], &["--leaves", "256"]].concat(), &strip());
+    let (leaves, said) = refine(&[&all[..], &["--leaves", "256"]].concat(), &cornered());
     assert_eq!(
-        (leaves, said.starts_with("no round 4: the hottest ")),
+        (leaves, said.starts_with("no round 4: all leaves ")),
         (256, true)
     );
     // A share of four leaves that is none.
-    let (leaves, said) = refine(&["--rounds", "1", "--share", "0.2"], &strip());
+    let (leaves, said) = refine(&["--rounds", "1", "--share", "0.2"], &cornered());
     assert_eq!(leaves, 4);
-    assert_eq!(said, "no round 1: the share of 4 leaves is less than one");
+    assert_eq!(
+        said,
+        "no round 1: the share of 4 leaves that can be split is less than one"
+    );
     // 1,024 leaves in 1,360 cells, then 4,096 in 5,456, and no room for 16,384 in 21,840.
     let deep = "level 7\ntarget 256\npolygon 1 0 1\n0 0\n1024 0\n1024 256\n0 256\n";
-    let (leaves, said) = refine(&all, &[deep, IN, OUT].concat());
+    let (leaves, said) = refine(
+        &all,
+        &[deep, "terminal in 3 A edge 1 0 0 0 0 1\n", OUT].concat(),
+    );
     assert_eq!(leaves, 4096);
     assert_eq!(said, "no round 6: it would have more than 16,384 cells");
+    // Where the current is even no split gains anything.
+    let (leaves, said) = refine(&all, &strip());
+    assert_eq!(leaves, 4);
+    assert_eq!(
+        said,
+        "no round 1: the current is even in each leaf that can be split"
+    );
+}
+
+/// A round that moves the resistance by less than was asked is the last.
+#[test]
+fn rounds_end_where_a_round_moves_little() {
+    let file = sample_name("across.txt");
+    let said_by = |words: &[&str]| {
+        let output = run(BOARD, &[&["refine", &file], words].concat(), b"");
+        assert_eq!(output.status.code(), Some(0), "{output:?}");
+        String::from_utf8(output.stderr).expect("words")
+    };
+    let moves = |said: &str| -> Vec<f64> {
+        let each = said.lines().filter_map(|line| line.strip_suffix(" in 100"));
+        let last = each.filter(|line| line.starts_with("round "));
+        last.map(|line| {
+            line.rsplit(' ')
+                .next()
+                .expect("a word")
+                .parse()
+                .expect("a number")
+        })
+        .collect()
+    };
+    let all = moves(&said_by(&["--rounds", "3"]));
+    assert!(all.len() == 3 && all[0] > all[1], "{all:?}");
+    // Between the first and the second; as a share of 1 and in 100.
+    let between = (all[0] + all[1]) / 2.0;
+    for (word, rounds) in [
+        (format!("{between}%"), 2),
+        (format!("{}", between / 100.0), 2),
+        (format!("{}%", 1.1 * all[0]), 1),
+    ] {
+        let said = said_by(&["--until", &word]);
+        assert_eq!(moves(&said), all[..rounds], "{said}");
+        let last = said.lines().last().expect("a line");
+        let next = format!(
+            "no round {}: the last one moved it by less than ",
+            rounds + 1
+        );
+        assert!(last.starts_with(&next), "{said}");
+    }
+    // The number of rounds is the end, too.
+    assert_eq!(
+        moves(&said_by(&["--until", "0.0001%", "--rounds", "1"])),
+        all[..1]
+    );
+    for (words, why) in [
+        (vec!["refine", &file], "--rounds or --until is missing"),
+        (
+            vec!["refine", &file, "--until", "0"],
+            "--until takes a share above 0, 1 at most, not 0",
+        ),
+        (
+            vec!["refine", &file, "--until", "a%"],
+            "--until takes a share above 0, 1 at most, not a%",
+        ),
+    ] {
+        let said = senseless(BOARD, &words, b"");
+        assert!(said.starts_with(&format!("board: {why}\n")), "{said}");
+    }
 }
 
 /// More than two terminals are told one by one.
 #[test]
 fn rounds_of_three_terminals_say_what_stands_at_each() {
-    let board = format!("{}terminal tap 0 V rect 1 0 31 -1 33 17\n", strip());
+    let board = format!("{}terminal tap 0 V rect 1 0 31 -1 33 17\n", cornered());
     let output = run(
         BOARD,
         &["refine", "--rounds", "1", "--share", "1"],
         board.as_bytes(),
     );
     let said = String::from_utf8(output.stderr).expect("words");
-    assert_eq!(
-        said.lines().collect::<Vec<_>>(),
-        [
-            "round 0: 4 leaves, in 6 V 3 A, out 0 V 0 A, tap 0 V -3 A, 18 W",
-            "round 1: 16 leaves, in 6 V 3 A, out 0 V 0 A, tap 0 V -3 A, 18 W, +0.000 in 100"
-        ]
-    );
+    // Behind the tap nothing flows.
+    for (line, begin) in said
+        .lines()
+        .zip(["round 0: 4 leaves, in ", "round 1: 10 leaves, in "])
+    {
+        assert!(line.starts_with(begin), "{said}");
+        assert!(
+            line.contains(" V 3 A, out 0 V 0 A, tap 0 V -3 A, "),
+            "{said}"
+        );
+    }
+    let last = said.lines().last().expect("a line");
+    assert!(last.contains(" W, ") && last.ends_with(" in 100"), "{said}");
 }
 
 /// Where no current flows there is no resistance, and nothing to compare.
@@ -431,12 +535,18 @@ fn a_board_at_one_potential_is_at_rest() {
     );
     assert_eq!(output.status.code(), Some(0), "{output:?}");
     let said = String::from_utf8(output.stderr).expect("words");
-    let last = said.lines().last().expect("a line");
-    let words = last.strip_prefix("round 1: 16 leaves, a 1 V 0 A, b 1 V 0 A, ");
+    let [first, last] = said.lines().collect::<Vec<_>>()[..] else {
+        panic!("{said}");
+    };
+    let words = first.strip_prefix("round 0: 4 leaves, a 1 V 0 A, b 1 V 0 A, ");
     let watts = words
         .and_then(|words| words.strip_suffix(" W"))
-        .expect(last);
-    assert!(watts.parse::<f64>().expect("a number") < 1e-20, "{last}");
+        .expect(first);
+    assert!(watts.parse::<f64>().expect("a number") < 1e-20, "{first}");
+    assert_eq!(
+        last,
+        "no round 1: the current is even in each leaf that can be split"
+    );
 }
 
 /// Two ends that mirror each other have one potential: what the iteration leaves of a difference stands as 0.

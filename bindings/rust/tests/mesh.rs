@@ -1,18 +1,17 @@
 //! A mesh with a row of its own: marks by place and by heat, what comes back, and who lies beside whom.
 
+#[allow(dead_code)]
+mod shared;
+
 use leafmesh::{
     contact, printed, text, write, Board, Leaf, LeafBorder, Mesh, Reason, Region, Side, MAX_LEVEL,
     SLOT, SLOTS,
 };
-use std::fs;
-use std::path::Path;
 
 fn sample(name: &str) -> Board {
-    let file = Path::new(env!("CARGO_MANIFEST_DIR"))
-        .join("../../boards")
-        .join(name);
-    let words = fs::read_to_string(file).expect("a sample");
-    text::parse_whole(&words).expect("a board").board
+    text::parse_whole(&shared::sample(name))
+        .expect("a board")
+        .board
 }
 
 fn meshed(board: &str) -> Mesh {
@@ -155,6 +154,92 @@ fn the_hottest_share_is_split() {
     for share in [0.0, -1.0, f64::NAN] {
         assert_eq!(finest.refine_hottest(&[1.0; 16], share), Ok(0));
     }
+}
+
+/// The share is one of the leaves that can be split: where the hottest are at the finest level it goes on with others.
+#[test]
+fn a_share_is_of_the_leaves_that_can_be_split() {
+    let mut mesh =
+        meshed("level 1\ntarget 16\npolygon 1 0 1\n0 0\n256 0\n256 16\n0 16\nsplit 0-7\n");
+    let leaves: Vec<Leaf> = mesh.leaves().collect();
+    // 32 fine ones, all hotter than the eight coarse ones.
+    let heat = |leaf: &Leaf| 1000.0 * leaf.level as f64 + leaf.id as f64;
+    let watts: Vec<f64> = leaves.iter().map(heat).collect();
+    assert_eq!(leaves.len(), 40);
+    assert_eq!(mesh.refine_hottest(&watts, 0.25), Ok(2));
+    let split: Vec<usize> = leaves
+        .iter()
+        .map(|leaf| leaf.id)
+        .filter(|&id| mesh.leaf(id).is_none())
+        .collect();
+    assert_eq!(split, [14, 15]);
+}
+
+/// A mesh by rectangles: refined one after another and balanced they make the same leaves.
+#[test]
+fn regions_make_the_same_leaves() {
+    let places = |mesh: &Mesh| {
+        let place = |leaf: Leaf| (leaf.layer, leaf.component, leaf.rect);
+        let mut all: Vec<_> = mesh.leaves().map(place).collect();
+        all.sort_unstable();
+        all
+    };
+    let mut dice = Dice(11);
+    for name in [
+        "shunt.txt",
+        "across.txt",
+        "two_layers.txt",
+        "drive.txt",
+        "comb.txt",
+        "deep.txt",
+    ] {
+        let words = shared::sample(name);
+        let board = text::parse_whole(&words).expect("a board").board;
+        let first = Mesh::of_board(&board).expect("a mesh");
+        for count in [0, 1, 10, 60] {
+            let mut fine = first.clone();
+            for _ in 0..count {
+                let id = dice.below(fine.head().count);
+                let _ = fine.refine(id);
+            }
+            fine.balance().expect("room");
+            let regions = first.regions_to(&fine).expect("regions");
+            assert_eq!(regions.is_empty(), fine == first);
+            let mut again = first.clone();
+            for &region in &regions {
+                again.refine_region(region).expect("room");
+            }
+            again.balance().expect("room");
+            assert_eq!(places(&again), places(&fine), "{name}");
+            // By a text, too, in its own unit.
+            let whole = text::parse_whole(&words).expect("a board");
+            let more = text::with_regions(&words, &regions, whole.lines.pitch);
+            let by_text = text::parse_whole(&more).expect("a board").board;
+            assert_eq!(
+                places(&Mesh::of_board(&by_text).expect("a mesh")),
+                places(&fine),
+                "{name}"
+            );
+        }
+        // A block of cells is one rectangle.
+        if name == "across.txt" {
+            let mut fine = first.clone();
+            let all: Vec<usize> = first
+                .leaves()
+                .filter(|leaf| leaf.level == 0)
+                .map(|leaf| leaf.id)
+                .collect();
+            fine.refine_many(all).expect("room");
+            fine.balance().expect("room");
+            let regions = first.regions_to(&fine).expect("regions");
+            assert!(regions.len() < 12, "{}", regions.len());
+        }
+    }
+    // Splits that the other one lacks.
+    let coarse = meshed(TWO);
+    let mut fine = coarse.clone();
+    fine.refine(0).expect("a leaf");
+    assert_eq!(fine.regions_to(&coarse), None);
 }
 
 /// Split by chance, balanced, conformed and split on: the board that it is now has the same table, number by number, by

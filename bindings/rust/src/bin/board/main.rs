@@ -61,7 +61,7 @@ Reads a board's text or record from a file or from standard input (no file, or
   msh      a file for Gmsh
   csv      a table of its leaves
   solve    what flows between its terminals, as tables to be read
-  refine   the board with its hottest leaves split, round by round
+  refine   the board split where its current is least even, round by round
   merge    the text with its copper drawn once
 ",
 };

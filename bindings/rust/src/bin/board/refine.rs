@@ -1,4 +1,4 @@
-//! A board with its hottest leaves split, round by round.
+//! A board split where its current is least even, round by round.
 
 use crate::{given, TERMINAL};
 use leafmesh::tool::{digits, say, By, Command, Given, Solved, Stop, Switch, Takes, Words, SNAP};
@@ -17,11 +17,11 @@ pub const REFINE: Command = Command {
 usage: board refine [FILE] (--rounds N | --until S | both) [--share S]
                     [--leaves M] [--terminal WORDS] .. [--snap PITCH] [-o FILE]
 
-The board with its hottest leaves split: of a text the text as it stands and
-lines `refine` behind it, of a record a record. A round solves on the cells,
-splits the leaves of the largest power, and balances; a line on standard error
-tells what came of it. Where no more can be split, or there is no more room,
-what was reached by then is written.
+The board split where its current is least even: of a text the text as it stands
+and lines `refine` behind it, of a record a record. A round solves on the cells,
+splits the leaves that take most power beyond that of an even current, and
+balances; a line on standard error tells what came of it. Where no more is to be
+split, or there is no more room, what was reached by then is written.
 
   --rounds N        so many rounds at most
   --until S         a round that moves the resistance by less than this share, as
@@ -106,21 +106,11 @@ impl Plan {
 
     /// The mesh behind one more round, or why there is none.
     fn next(&self, solved: &Solved) -> Result<Mesh, String> {
-        let finest = solved.mesh.head().max_level;
-        let open = solved.mesh.leaves().filter(|leaf| leaf.level < finest);
-        match open.count() {
-            0 => return Err("all leaves are at the finest level".to_string()),
-            open if (open as f64 * self.share) < 1.0 => {
-                let words =
-                    format!("the share of {open} leaves that can be split is less than one");
-                return Err(words);
-            }
-            _ => {}
-        }
+        let ids = self.least_even(solved)?;
         let mut mesh = solved.mesh.clone();
-        let splits = mesh.refine_hottest(&solved.watts, self.share);
+        let balanced = mesh.refine_many(ids).and_then(|()| mesh.balance());
         let leaves = mesh.head().leaves;
-        match splits {
+        match balanced {
             Ok(_) if leaves > self.leaves => Err(format!(
                 "it would have {leaves} leaves, more than {}",
                 self.leaves
@@ -131,6 +121,34 @@ impl Plan {
             }
             Err(why) => Err(why.to_string()),
         }
+    }
+
+    /// The leaves in which the current is least even: so many as the share has of those that can be split. Where it is
+    /// even nothing is gained by a split, however much flows there.
+    fn least_even(&self, solved: &Solved) -> Result<Vec<usize>, String> {
+        let finest = solved.mesh.head().max_level;
+        let all = solved.mesh.leaves().zip(solved.uneven_watts());
+        let mut open: Vec<(f64, usize)> = all
+            .filter(|(leaf, _)| leaf.level < finest)
+            .map(|(leaf, watts)| (watts, leaf.id))
+            .collect();
+        if open.is_empty() {
+            return Err("all leaves are at the finest level".to_string());
+        }
+        let count = (open.len() as f64 * self.share) as usize;
+        if count == 0 {
+            let open = open.len();
+            return Err(format!(
+                "the share of {open} leaves that can be split is less than one"
+            ));
+        }
+        open.retain(|(watts, _)| *watts > 0.0);
+        if open.is_empty() {
+            return Err("the current is even in each leaf that can be split".to_string());
+        }
+        open.sort_by(|a, b| b.0.total_cmp(&a.0));
+        open.truncate(count);
+        Ok(open.into_iter().map(|(_, id)| id).collect())
     }
 }
 
