@@ -20,16 +20,16 @@ cd "$(dirname "$0")"
 folder=$(mktemp -d)
 trap 'rm -rf "$folder"' EXIT
 page=../docs/CONDUCTANCES.md
-for name in conductances hottest neck; do
+for name in conductances hottest neck half_bridge; do
     (cd rust && cargo run --offline --release --quiet --example "$name" -- "$folder") >"$folder/$name.txt"
 done
 # What stands between a comment with an example's name and the next "end" is what that example prints.
 awk -v folder="$folder" '
     /^<!-- end -->$/ { inside = 0 }
     !inside { print }
-    /^<!-- (conductances|hottest|neck) -->$/ {
+    /^<!-- (conductances|hottest|neck|half_bridge) -->$/ {
         inside = 1
-        fence = $2 == "neck" ? "```" : ""
+        fence = $2 == "neck" || $2 == "half_bridge" ? "```" : ""
         if (fence) print fence
         while ((getline line < (folder "/" $2 ".txt")) > 0) print line
         if (fence) print fence
@@ -38,5 +38,5 @@ awk -v folder="$folder" '
 case "${1:-}" in
 --write) cat "$folder/page.md" >"$page" ;;
 --check) diff "$page" "$folder/page.md" ;;
-*) cat "$folder/conductances.txt" "$folder/hottest.txt" "$folder/neck.txt" ;;
+*) cat "$folder/conductances.txt" "$folder/hottest.txt" "$folder/neck.txt" "$folder/half_bridge.txt" ;;
 esac

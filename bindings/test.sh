@@ -181,7 +181,6 @@ borders=$(grep -c '<title>leaves ' "$folder/neck-borders.svg")
 
 say "two layers joined by vias: currents, pictures and a file"
 (cd rust && cargo run --offline --release --quiet --example layers -- "$folder") | diff rust/examples/layers.txt -
-(cd rust && cargo run --offline --release --quiet --example half_bridge) | diff rust/examples/half_bridge.txt -
 for file in layers.svg layers-power.svg layers.vtk; do
     [ -s "$folder/$file" ] || fail "no $file"
 done

@@ -7,7 +7,7 @@ use leafmesh::{
     text, Area, Channel, ChannelEnd, Footprint, Link, Links, Mesh, Net, OwnedLinks, Reason, Region,
     Unmeshed, Via,
 };
-use programs::{made, refused, run, text_made, Folder, BOARD, DRAW, RELAX};
+use programs::{made, refused, run, sample_name, text_made, Folder, BOARD, DRAW, RELAX};
 
 /// Ticks a unit of length.
 const UNIT: i64 = 4_096;
@@ -688,4 +688,36 @@ fn lines_that_make_no_sense() {
     let off = pads("channel 0 at 20 2 0.6 0.8 1 7 2 1");
     let said = refused(BOARD, &["solve"], off.as_bytes());
     assert!(said.starts_with("line 16: "), "{said}");
+}
+
+/// The half bridge of the samples: within 0.3 in 100 of what uniform grids of resistors come to
+/// (examples/half_bridge, which refines it in rounds, too). None of its links is told.
+#[test]
+fn a_half_bridge_has_the_resistance_of_uniform_grids() {
+    let output = run(BOARD, &["solve", &sample_name("half_bridge.txt")], b"");
+    assert!(
+        output.status.success() && output.stderr.is_empty(),
+        "{output:?}"
+    );
+    let table = String::from_utf8(output.stdout).expect("text");
+    let words = behind(&table, "V / A ").strip_suffix(" ohm").expect("ohms");
+    let ohms: f64 = words.parse().expect("a number");
+    assert!((ohms / 4.3186e-3 - 1.0).abs() < 0.003, "{table}");
+    for channel in ["channel 0 ", "channel 1 "] {
+        assert_eq!(
+            behind(&table, channel).split_whitespace().last(),
+            Some("40")
+        );
+    }
+    let vias = table.lines().filter(|line| line.starts_with("via "));
+    let amperes: f64 = vias
+        .map(|line| {
+            line.rsplit(' ')
+                .next()
+                .expect("a word")
+                .parse::<f64>()
+                .expect("a number")
+        })
+        .sum();
+    assert!((amperes - 40.0).abs() < 1e-3, "{table}");
 }

@@ -4,7 +4,7 @@
 use leafmesh::solving::{Drive, Spot};
 use leafmesh::text::Whole;
 use leafmesh::{Link, Pitch};
-use std::collections::HashMap;
+use std::collections::{BTreeMap, HashMap};
 
 /// Layer, component, and a place in steps.
 type Spot3 = (u16, u32, i64, i64);
@@ -57,7 +57,7 @@ pub fn ohms(whole: &Whole, pitch: Pitch, step: f64) -> f64 {
     let mut grid = Grid::default();
     put_copper(whole, &steps, &mut grid);
     let links = whole.links.rows();
-    let mut ends: HashMap<Link, [usize; 2]> = HashMap::new();
+    let mut ends: BTreeMap<Link, [usize; 2]> = BTreeMap::new();
     for pad in links.pads().expect("footprints") {
         let nodes = grid.inside(pad.layer, pad.component, pad.rect.map(steps));
         let node = grid.unite(&nodes);
