@@ -1,7 +1,7 @@
 //! Ends of links that have an area, and ends that are one node.
 
 use crate::{Footprint, Leaf, Link, Links, Net, Node, Reason, Rect, Refusal};
-use std::collections::BTreeMap;
+use std::collections::{BTreeMap, BTreeSet};
 
 /// What of a link is one potential over a rectangle, as a pad of solder or the foot of a via's barrel is. The net has
 /// edges between nodes all the same; [`System::of_cells`](crate::solving::System::of_cells) takes the rectangle, and
@@ -139,9 +139,9 @@ impl Net {
             let node = self.nodes.get(*node);
             node.is_some_and(|node| self.pads.iter().any(|pad| pad.has(node)))
         };
-        let has_pad = |end: LinkEnd| self.pads.iter().any(|pad| pad.end == end);
+        let with_pads: BTreeSet<LinkEnd> = self.pads.iter().map(|pad| pad.end).collect();
         let lone = |(end, node): (LinkEnd, Option<usize>)| {
-            let node = node.filter(|node| !has_pad(end) && !is_in_pad(node))?;
+            let node = node.filter(|node| !with_pads.contains(&end) && !is_in_pad(node))?;
             Some(Lone { end, node })
         };
         nodes.into_iter().filter_map(lone).collect()

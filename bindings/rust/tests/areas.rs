@@ -9,8 +9,8 @@ use leafmesh::{
 };
 use programs::{made, refused, run, sample_name, text_made, Folder, BOARD, DRAW, RELAX};
 
-/// Ticks a unit of length.
-const UNIT: i64 = 4_096;
+/// Ticks a unit of length: a quarter of a millimetre.
+const UNIT: i64 = 1 << 26;
 
 fn ticks(length: f64) -> i64 {
     (length * UNIT as f64).round() as i64
@@ -243,11 +243,10 @@ fn footprints_that_touch_are_one() {
         ohms_of(&mesh, &links)
     };
     let one = ohms(UNIT / 2, [4.0, 4.0], [0.8, 0.4]);
-    // A tick is a 4,096th of a unit, and each end is rounded by itself.
-    assert!((two(0.4) / one - 1.0).abs() < 1e-3);
+    assert!((two(0.4) / one - 1.0).abs() < 1e-6);
     // Over each other, they are their union.
     let over = ohms(UNIT / 2, [4.0, 4.0], [0.6, 0.4]);
-    assert!((two(0.2) / over - 1.0).abs() < 1e-3);
+    assert!((two(0.2) / over - 1.0).abs() < 1e-6);
     let alone = ohms(UNIT / 2, [3.5, 4.0], [0.4, 0.4]);
     let apart = two(0.5);
     assert!(apart > 1.05 * one && apart < alone, "{one} {apart} {alone}");

@@ -147,6 +147,9 @@ impl Solution {
                     && (y0..=y1).contains(&node.y)
             })
         };
+        if self.lone.is_empty() {
+            return vec![false; mesh.head().leaves];
+        }
         mesh.leaves().map(is_out).collect()
     }
 

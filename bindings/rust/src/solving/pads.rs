@@ -11,6 +11,8 @@ use std::collections::BTreeMap;
 
 /// A pad whose border misses a node by so many ticks ends there: its centre and its half size are rounded by themselves.
 const SNAP: i64 = 16;
+/// And by no more than one part in so many of the smallest cell.
+const OF_CELL: i64 = 1 << 18;
 
 /// The pads of a net.
 pub(super) struct Pads {
@@ -27,11 +29,16 @@ pub(super) struct Pads {
 impl Pads {
     /// Their potentials stand behind the net's nodes.
     pub fn of(net: &Net) -> Self {
-        let rects: Vec<Rect> = net
+        let smallest = smallest_sides(net);
+        let snap = |pad: &Pad| {
+            let side = smallest.get(&(pad.layer, pad.component)).copied();
+            SNAP.min(side.unwrap_or(0) / OF_CELL)
+        };
+        let rects = net
             .pads
             .iter()
-            .map(|pad| snapped(pad, &net.nodes))
-            .collect();
+            .map(|pad| snapped(pad, snap(pad), &net.nodes));
+        let rects: Vec<Rect> = rects.collect();
         let firsts = first_of_each(&net.pads, &rects);
         let count = net.nodes.len();
         let mut numbers = BTreeMap::new();
@@ -215,8 +222,20 @@ fn touch(a: &Rect, b: &Rect) -> bool {
     a[0] <= b[2] && b[0] <= a[2] && a[1] <= b[3] && b[1] <= a[3]
 }
 
+/// The smallest side of a cell of each copper that has one, if there are pads.
+fn smallest_sides(net: &Net) -> BTreeMap<(u16, u32), i64> {
+    let mut sides = BTreeMap::new();
+    for cell in net.cells.iter().filter(|_| !net.pads.is_empty()) {
+        let [low, high] = [SW, NE].map(|corner| net.nodes[cell.corners[corner]]);
+        let own = (high.x - low.x).min(high.y - low.y);
+        let side = sides.entry((low.layer, low.component)).or_insert(own);
+        *side = own.min(*side);
+    }
+    sides
+}
+
 /// A pad's rectangle, with borders that nearly meet a node of its copper where the node is.
-fn snapped(pad: &Pad, nodes: &[Node]) -> Rect {
+fn snapped(pad: &Pad, snap: i64, nodes: &[Node]) -> Rect {
     let mut rect = pad.rect;
     for (at, line) in rect.iter_mut().enumerate() {
         let along = |node: &Node| [node.x, node.y][at % 2];
@@ -225,7 +244,7 @@ fn snapped(pad: &Pad, nodes: &[Node]) -> Rect {
             .filter(|node| (node.layer, node.component) == (pad.layer, pad.component));
         let near = own.map(along).min_by_key(|other| (other - *line).abs());
         *line = near
-            .filter(|other| (other - *line).abs() <= SNAP)
+            .filter(|other| (other - *line).abs() <= snap)
             .unwrap_or(*line);
     }
     rect

@@ -80,6 +80,31 @@
 //! # Ok::<(), leafmesh::text::Unclear>(())
 //! ```
 //!
+//! Ends of links may have an area, and copper another sheet resistance than its polygon, by place and by temperature:
+//!
+//! ```
+//! let whole = leafmesh::text::parse_whole("
+//! target 8
+//! polygon 1 0 0.5
+//! 0 0
+//! 16 0
+//! 16 16
+//! 0 16
+//! polygon 1 1 0.5
+//! 32 0
+//! 48 0
+//! 48 16
+//! 32 16
+//! channels 1
+//! channel 0 at 8 8 4 4 1 at 40 8 4 4 0.5    # centre, half width and half height of drain and source
+//! via 1 2 0 4 4 1 1 0.001 barrel            # one potential over its footprint on each layer
+//! sheet 0 0 8 8 2                           # half of the thickness is gone there
+//! temperature 85                            # r_sheet is that at 20 degrees
+//! ")?;
+//! assert_eq!((whole.links.areas.len(), whole.sheets.regions.len()), (3, 1));
+//! # Ok::<(), leafmesh::text::Unclear>(())
+//! ```
+//!
 //! With a `pitch` in millimetres all lengths behind it are in millimetres and must be multiples of it, and it is the
 //! target (see [`Pitch`]); only links, terminals, lines across copper and what is refined may stand anywhere, at the nearest tick:
 //!
