@@ -122,15 +122,13 @@ fn by_resistors(n: usize, [x0, x1]: [usize; 2], [y0, y1]: [usize; 2]) -> f64 {
             }
         }
     }
+    // Out by each way to the outline.
     let mut amperes = 0.0;
-    for i in 0..side {
-        for j in 0..side {
-            if is_out(i, j) {
-                continue;
-            }
+    for (i, row) in volts.iter().enumerate() {
+        for (j, one) in row.iter().enumerate().filter(|&(j, _)| !is_out(i, j)) {
             let steps = [(i - 1, j), (i + 1, j), (i, j - 1), (i, j + 1)];
             let out = steps.into_iter().filter(|&(a, b)| is_out(a, b)).count();
-            amperes += out as f64 * volts[i][j];
+            amperes += out as f64 * one;
         }
     }
     1.0 / amperes

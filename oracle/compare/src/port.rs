@@ -60,7 +60,7 @@ pub fn lent(net: &calls::net::Net) -> Net {
         nodes: net.nodes.iter().map(node).collect(),
         edges: net.edges.iter().map(edge).collect(),
         cells: net.cells.iter().map(cell).collect(),
-        links: 0,
+        ..Net::default()
     }
 }
 

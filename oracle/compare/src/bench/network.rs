@@ -83,7 +83,7 @@ pub fn net_of_rows(mut rows: Rows, [nodes, edges, cells]: [usize; 3]) -> Net {
     rows.nodes.truncate(nodes);
     rows.edges.truncate(edges);
     rows.cells.truncate(cells);
-    Net { nodes: rows.nodes, edges: rows.edges, cells: rows.cells, links: 0 }
+    Net { nodes: rows.nodes, edges: rows.edges, cells: rows.cells, ..Net::default() }
 }
 
 pub fn net_bits(net: Net) -> Bits {
