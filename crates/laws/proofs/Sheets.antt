@@ -6,7 +6,7 @@ use lib.Ieee.Fits.{and_i}
 use lib.Ieee.Order.{le_of_values}
 use lib.Pow.{pow_pos, pow_mono}
 use Rattle.std.proofs.lemmas.Bool.{cases_lt, lt-leb}
-use Rattle.record.specs.Board as record_board
+use Rattle.refusals.specs.Limits.{sheet_low_bits, sheet_high_bits}
 use Rattle.floats.specs.Fractions.{sheet_low, sheet_high, in_sheet}
 
 low_value : HasValue sheet_low false 1 (2 ^ 40)
@@ -18,7 +18,7 @@ unfolding round
 high_value = (refl, refl)
 
 -- the number of the digits 2^52 + t at the exponent y: its bits are the exponent's field, suc y, and t
-module _ (y t : ℕ) (digits : t < 2 ^ 52) (from : record_board.sheet_low ≤ suc y * 2 ^ 52 + t) (to : suc y * 2 ^ 52 + t ≤ record_board.sheet_high) where
+module _ (y t : ℕ) (digits : t < 2 ^ 52) (from : sheet_low_bits ≤ suc y * 2 ^ 52 + t) (to : suc y * 2 ^ 52 + t ≤ sheet_high_bits) where
   abbrev units : ℕ
   units = (2 ^ 52 + t) * 2 ^ y
 
@@ -41,7 +41,7 @@ module _ (y t : ℕ) (digits : t < 2 ^ 52) (from : record_board.sheet_low ≤ su
       (and_i _ _ (le_of_values sheet_low x 1 (2 ^ 40) units (2 ^ 1074) (pow_pos 40) (pow_pos 1074) low_value v (omega (arith, many)))
       (le_of_values x sheet_high units (2 ^ 1074) (2 ^ 40) 1 (pow_pos 1074) (omega arith) v high_value (omega (arith, few))))
 
-pub bits-in_sheet : (b : ℕ) → record_board.sheet_low ≤ b → b ≤ record_board.sheet_high → T (in_sheet (of_bits binary64 b))
+pub bits-in_sheet : (b : ℕ) → sheet_low_bits ≤ b → b ≤ sheet_high_bits → T (in_sheet (of_bits binary64 b))
 unfolding of_bits
 bits-in_sheet b from to =
     let small : b < 2 ^ 63 = omega arith in

@@ -1,4 +1,5 @@
 use Rattle.std.proofs.Common.{◌*◌, ◌≤◌, length, arith}
+use Rattle.refusals.specs.Limits.{max_slots}
 use Rattle.table.specs.Mesh.{is_leaf}
 use Rattle.table.specs.Tables.{cells, leaves}
 use Rattle.table.specs.declared.view.Table.{Table}
@@ -7,7 +8,7 @@ use Rattle.links.specs.Count.{edge_count}
 use Rattle.links.proofs.Steps.{total-of, totals-sum}
 use Rattle.links.proofs.count.Corners.count_edges.Goals as goal
 
-few : (t : Table) → 8 * length (leaves t) ≤ 131072
+few : (t : Table) → 8 * length (leaves t) ≤ 8 * max_slots
 few t =
     let within = t.within in
     let slots = t.slots in
