@@ -98,8 +98,8 @@ impl Coppers {
         Coppers(coppers)
     }
 
-    /// What is wrong with a link that finds copper of its layers and components somewhere: a via from a layer to itself,
-    /// or an end that lies on none and on no side of any.
+    /// What is wrong with a link that finds copper of its layers and components somewhere: a via from a layer to
+    /// itself, or an end that lies on none and on no side of any.
     pub fn judge(&self, link: Link, one: Links) -> Result<(), Unmeshed> {
         if let (Link::Via(at), [via]) = (link, one.vias) {
             if via.bottom == via.top {

@@ -321,8 +321,8 @@ fn named(
     Ok(leaf.map(|leaf| (leaf.id, hanging)))
 }
 
-/// Two leaves of one layer and component that have an area in common, by their ids, the earlier one first, and the place
-/// as [`Overlap`] has it. A polygon whose copper may be of several layers or components is passed over.
+/// Two leaves of one layer and component that have an area in common, by their ids, the earlier one first, and the
+/// place as [`Overlap`] has it. A polygon whose copper may be of several layers or components is passed over.
 ///
 /// # Errors
 ///

@@ -116,8 +116,8 @@ impl fmt::Display for TooLong {
     fn fmt(&self, f: &mut fmt::Formatter<'_>) -> fmt::Result {
         write!(
             f,
-            "polygon {}, point {}: {} base cells long; at most {}: give its layer a larger cell, take a larger target, or \
-             draw two polygons that touch",
+            "polygon {}, point {}: {} base cells long; at most {}: give its layer a larger cell, take a larger target, \
+             or draw two polygons that touch",
             self.polygon, self.point, self.cells, self.cap
         )
     }

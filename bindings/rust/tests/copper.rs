@@ -43,8 +43,8 @@ fn merged(text: &str) -> (String, String) {
 /// It solved to 1.25 milliohms for 1.5.
 #[test]
 fn two_that_overlap_are_refused_with_both_lines_and_the_place() {
-    let words = "line 7: overlaps the polygon of line 2 from (2 mm, 0 mm) on: copper of one layer and component is drawn \
-                 once; `board merge` unites the two\n";
+    let words = "line 7: overlaps the polygon of line 2 from (2 mm, 0 mm) on: copper of one layer and component is \
+                 drawn once; `board merge` unites the two\n";
     for command in ["net", "vtk", "msh", "csv", "solve"] {
         assert_eq!(refused(BOARD, &[command], TWO.as_bytes()), words);
     }
@@ -131,8 +131,8 @@ fn squares_that_only_touch_are_taken() {
 #[test]
 fn copper_of_two_sheet_resistances_is_refused_with_both_lines() {
     let text = TWO.replace("0.0005 # the second", "0.001");
-    let words = "line 7: overlaps the polygon of line 2 from (2 mm, 0 mm) on: copper of one layer and component is drawn \
-                 once; take it out of one of the two, whose sheet resistances differ\n";
+    let words = "line 7: overlaps the polygon of line 2 from (2 mm, 0 mm) on: copper of one layer and component is \
+                 drawn once; take it out of one of the two, whose sheet resistances differ\n";
     for command in ["solve", "merge"] {
         assert_eq!(refused(BOARD, &[command], text.as_bytes()), words);
     }
@@ -169,7 +169,8 @@ fn a_text_without_double_copper_stays_as_it_is() {
     assert!(text.contains("# left out: split 1\n"), "{text}");
     // Its coordinates are multiples of 4 ticks, and no longer of a cell from where a strip begins.
     let words = refused(BOARD, &["net"], text.as_bytes());
-    let way_out = "no multiple of the target, 8 ticks: the nearest is 32 ticks, and 4 ticks fit all sides of the ring\n";
+    let way_out = "no multiple of the target, 8 ticks: the nearest is 32 ticks, and 4 ticks fit all sides of the \
+                   ring\n";
     assert!(words.ends_with(way_out), "{words}");
     made(
         BOARD,
@@ -184,8 +185,8 @@ fn a_text_without_double_copper_stays_as_it_is() {
 }
 
 /// Polygons 0 and 1 overlap, 2 lies apart from them, and 3 on another layer.
-const LINKED: &str = "level 2\npitch 0.5\npolygon 1 0 0.001\n0 0\n4 0\n4 2\n0 2\npolygon 1 0 0.001\n3 0\n8 0\n8 2\n3 2\n\
-    polygon 1 1 0.001\n0 3\n8 3\n8 5\n0 5\npolygon 2 0 0.001\n0 0\n8 0\n8 2\n0 2\n";
+const LINKED: &str = "level 2\npitch 0.5\npolygon 1 0 0.001\n0 0\n4 0\n4 2\n0 2\npolygon 1 0 0.001\n3 0\n8 0\n8 2\n3 \
+    2\n polygon 1 1 0.001\n0 3\n8 3\n8 5\n0 5\npolygon 2 0 0.001\n0 0\n8 0\n8 2\n0 2\n";
 
 #[test]
 fn what_names_polygons_names_the_new_ones() {
@@ -236,8 +237,8 @@ fn what_would_mean_something_else_is_refused_by_its_line() {
 }
 
 /// A frame of four bars, and an island in its hole.
-const FRAME: &str = "level 1\npitch 1\npolygon 1 0 0.001\n0 0\n12 0\n12 2\n0 2\npolygon 1 0 0.001\n0 10\n12 10\n12 12\n0 12\n\
-    polygon 1 0 0.001\n0 0\n2 0\n2 12\n0 12\npolygon 1 0 0.001\n10 0\n12 0\n12 12\n10 12\n\
+const FRAME: &str = "level 1\npitch 1\npolygon 1 0 0.001\n0 0\n12 0\n12 2\n0 2\npolygon 1 0 0.001\n0 10\n12 10\n12 \
+    12\n0 12\n polygon 1 0 0.001\n0 0\n2 0\n2 12\n0 12\npolygon 1 0 0.001\n10 0\n12 0\n12 12\n10 12\n\
     polygon 1 0 0.001\n5 5\n7 5\n7 7\n5 7\nterminal in 1 A rect 1 0 0 0 2 2\nterminal out 0 V rect 1 0 10 10 12 12\n";
 
 #[test]
@@ -260,8 +261,8 @@ fn a_hole_is_one_and_no_ring_is_warned_of() {
 /// Two bars of 200 cells that overlap: together they are longer than a strip may be.
 #[test]
 fn a_strip_that_gets_too_long_is_cut() {
-    let text = "level 1\npitch 0.1\npolygon 1 0 0.001\n0 0\n20 0\n20 0.4\n0 0.4\npolygon 1 0 0.001\n18 0\n38 0\n38 0.4\n\
-        18 0.4\nterminal in 1 A end 1 0 west\nterminal out 0 V end 1 0 east\n";
+    let text = "level 1\npitch 0.1\npolygon 1 0 0.001\n0 0\n20 0\n20 0.4\n0 0.4\npolygon 1 0 0.001\n18 0\n38 0\n38 \
+        0.4\n 18 0.4\nterminal in 1 A end 1 0 west\nterminal out 0 V end 1 0 east\n";
     let (made, said) = merged(text);
     assert!(said.contains("2 rings of 8 points"), "{said}");
     assert!(
@@ -282,8 +283,8 @@ fn more_polygons_than_a_record_has_are_refused() {
             bar(200, east)
         )
     };
-    let words = "drawn once, the copper has 257 polygons, more than 256: a ring of more than 1,024 points and a strip of \
-                 more than cap base cells are cut; take a larger cell of the layer, or leave out holes\n";
+    let words = "drawn once, the copper has 257 polygons, more than 256: a ring of more than 1,024 points and a strip \
+                 of more than cap base cells are cut; take a larger cell of the layer, or leave out holes\n";
     assert_eq!(refused(BOARD, &["merge"], text(514).as_bytes()), words);
     let (made, said) = merged(&text(512));
     assert!(said.contains("256 rings of 1,024 points"), "{said}");
@@ -342,8 +343,8 @@ fn leafnets_text_of_copper_drawn_twice_is_refused() {
     let board = text::parse(&shared::sample("overlap.txt")).expect("a board");
     let mesh = Mesh::unjudged(&board).expect("a mesh");
     let text = printed::show_mesh(&board, &mesh, &mesh.unjudged_net().expect("a net"));
-    let words = "leaf 4 overlaps leaf 9 from (12, 4) on: copper of one layer and component is drawn once (`board merge` \
-                 unites the polygons of a text)\n";
+    let words = "leaf 4 overlaps leaf 9 from (12, 4) on: copper of one layer and component is drawn once (`board \
+                 merge` unites the polygons of a text)\n";
     assert_eq!(refused(DRAW, &[], text.as_bytes()), words);
     assert_eq!(refused(RELAX, &[], text.as_bytes()), words);
 }

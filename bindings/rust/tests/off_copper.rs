@@ -20,8 +20,8 @@ fn a_link_off_the_copper_is_refused_with_the_nearest() {
     for (line, words) in [
         (
             "via 1 2 0 50 25 0 0 0.001",
-            "no copper of layer 1, component 0 lies at its via, (50 mm, 25 mm): the nearest is at (10 mm, 5 mm), 44.7214 mm \
-             away",
+            "no copper of layer 1, component 0 lies at its via, (50 mm, 25 mm): the nearest is at (10 mm, 5 mm), \
+             44.7214 mm away",
         ),
         (
             "via 1 2 0 50 25 0.6 0.6 0.001",
@@ -30,13 +30,13 @@ fn a_link_off_the_copper_is_refused_with_the_nearest() {
         ),
         (
             "channel 0 10.5 2.5 1 12 2.5 1",
-            "no copper of layer 2, component 0 lies at its drain, (10.5 mm, 2.5 mm): the nearest is at (10 mm, 2.5 mm), \
-             0.5 mm away",
+            "no copper of layer 2, component 0 lies at its drain, (10.5 mm, 2.5 mm): the nearest is at (10 mm, 2.5 \
+             mm), 0.5 mm away",
         ),
         (
             "channel 0 10 2.5 1 12 -3 1",
-            "no copper of layer 2, component 1 lies at its source, (12 mm, -3 mm): the nearest is at (12 mm, 0 mm), 3 mm \
-             away",
+            "no copper of layer 2, component 1 lies at its source, (12 mm, -3 mm): the nearest is at (12 mm, 0 mm), 3 \
+             mm away",
         ),
         ("via 1 1 0 5 2.5 0 0 0.001", "joins layer 1 to itself: a via has two layers"),
     ] {
@@ -81,7 +81,8 @@ fn a_link_on_the_copper_or_its_side_is_taken() {
         &["solve"],
         format!("{short}via 1 2 0 1 1 0 0 0.001\n").as_bytes(),
     );
-    let words = "no copper of layer 2, component 0 lies at its via, (1 mm, 1 mm): the nearest is at (2 mm, 1 mm), 1 mm away";
+    let words = "no copper of layer 2, component 0 lies at its via, (1 mm, 1 mm): the nearest is at (2 mm, 1 mm), 1 mm \
+                 away";
     assert_eq!(said, format!("line 22: {words}\n"));
 }
 

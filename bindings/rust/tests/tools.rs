@@ -175,16 +175,16 @@ fn refused_by_all(board: &str, words: &str) {
 fn a_strip_that_is_too_long_is_told_by_its_line() {
     for (count, fitting) in [(300, "0.5"), (768, "0.75")] {
         let words = format!(
-            "line 4: {count} pitches long; at most 256 base cells: give layer 1 a larger cell (layer 1 {fitting}), take a \
-             larger pitch ({fitting} mm), or draw two polygons that touch"
+            "line 4: {count} pitches long; at most 256 base cells: give layer 1 a larger cell (layer 1 {fitting}), \
+             take a larger pitch ({fitting} mm), or draw two polygons that touch"
         );
         refused_by_all(&of_pitches(count), &words);
     }
     let in_ticks = "cap 4\nlevel 0\ntarget 2\n# a shorter cap\npolygon 1 0 1\n8 2\n2 2\n2 0\n14 0\n14 4\n8 4\n";
     refused_by_all(
         in_ticks,
-        "line 7: 6 base cells long; at most 4 base cells: give layer 1 a larger cell (layer 1 4), take a larger target (4 \
-         ticks), or draw two polygons that touch",
+        "line 7: 6 base cells long; at most 4 base cells: give layer 1 a larger cell (layer 1 4), take a larger target \
+         (4 ticks), or draw two polygons that touch",
     );
     for good in [256, 512] {
         made(BOARD, &["net"], of_pitches(good).as_bytes());

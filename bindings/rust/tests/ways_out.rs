@@ -31,8 +31,8 @@ fn a_length_is_judged_by_the_cell_of_its_layer() {
     );
     assert_eq!(
         said(&board("0.7", ["2.1", "1.3"])),
-        "line 4: a strip of 2.1 by 1.3 mm is 1.3 mm high, no multiple of the cell of layer 1, 0.7 mm: the nearest is 1.4 \
-         mm, and 0.1 mm fit all sides of the ring\n"
+        "line 4: a strip of 2.1 by 1.3 mm is 1.3 mm high, no multiple of the cell of layer 1, 0.7 mm: the nearest is \
+         1.4 mm, and 0.1 mm fit all sides of the ring\n"
     );
     // What is said to be nearest is taken.
     made(BOARD, &["net"], board("0.5", ["1", "1"]).as_bytes());
@@ -41,26 +41,34 @@ fn a_length_is_judged_by_the_cell_of_its_layer() {
     let bands = "pitch 0.2\nlayer 1 1\npolygon 1 0 1\n0 0\n2.4 0\n2.4 2\n1 2\n1 4\n0 4\n";
     let words = said(bands);
     assert!(words.starts_with("line 3: a node at "), "{words}");
-    let misfit = "its side from (0 mm, 0 mm) to (2.4 mm, 0 mm) is 2.4 mm long, no multiple of the cell of layer 1, 1 mm: \
-                  the nearest is 2 mm\n";
+    let misfit = "its side from (0 mm, 0 mm) to (2.4 mm, 0 mm) is 2.4 mm long, no multiple of the cell of layer 1, 1 \
+                  mm: the nearest is 2 mm\n";
     assert!(words.ends_with(misfit), "{words}");
     made(BOARD, &["net"], bands.replace("2.4", "2").as_bytes());
     // In ticks a cell itself may be none.
     let ticks = |first: &str| format!("{first}polygon 1 0 1\n{}", ring(["96", "96"]));
+    let steps = "is no multiple of 32 ticks (level 4, the default)";
+    let strip = "a strip of 96 by 96 ticks is 96 ticks wide, no multiple of";
     for (first, words) in [
-        ("target 24\n", "line 1: the target, 24 ticks, is no multiple of 32 ticks (level 4, the default): the nearest is 32"),
+        (
+            "target 24\n",
+            format!("line 1: the target, 24 ticks, {steps}: the nearest is 32"),
+        ),
         (
             "target 32\nlayer 1 48\n",
-            "line 2: the cell of layer 1, 48 ticks, is no multiple of 32 ticks (level 4, the default): the nearest is 64",
+            format!("line 2: the cell of layer 1, 48 ticks, {steps}: the nearest is 64"),
         ),
-        ("", "line 1: the target, 1 tick where no line says it, is no multiple of 32 ticks (level 4, the default)"),
+        (
+            "",
+            format!("line 1: the target, 1 tick where no line says it, {steps}"),
+        ),
         (
             "target 64\n",
-            "line 3: a strip of 96 by 96 ticks is 96 ticks wide, no multiple of the target, 64 ticks: the nearest is 128",
+            format!("line 3: {strip} the target, 64 ticks: the nearest is 128"),
         ),
     ] {
         let found = said(&ticks(first));
-        assert!(found.starts_with(words), "{found}");
+        assert!(found.starts_with(&words), "{found}");
     }
 }
 
@@ -69,8 +77,9 @@ fn a_point_off_the_pitch_is_told_the_largest_pitch_and_snap() {
     let board = "pitch 0.5\nlayer 1 1.5\npolygon 1 0 0.001\n0 0\n3.2 0\n3.2 3\n0 3.05\n";
     assert_eq!(
         said(board),
-        "line 5: 3.2 mm is no multiple of the pitch of 0.5 mm; the nearest is 3 mm; by the cell of layer 1, 1.5 mm, it is \
-         3 mm; the largest pitch that fits all points is 0.05 mm; `--snap 0.5` moves points to the nearest multiples\n"
+        "line 5: 3.2 mm is no multiple of the pitch of 0.5 mm; the nearest is 3 mm; by the cell of layer 1, 1.5 mm, it \
+         is 3 mm; the largest pitch that fits all points is 0.05 mm; `--snap 0.5` moves points to the nearest \
+         multiples\n"
     );
     // With that pitch all points are taken.
     let at_right_angles = board.replace("3.05", "3").replace("layer 1 1.5\n", "");
@@ -111,8 +120,9 @@ fn a_point_off_the_pitch_is_told_the_largest_pitch_and_snap() {
 }
 
 /// Points that are on no pitch, in the form in which layout data has them.
-const LAID_OUT: &str = "level 1\npitch 0.5 # of the layout\nlayer 1 1.1\npolygon 1 0 0.001\n0.01 0\n4.02 0 # south-east\n\
-    4.02 1.98\n0.01 1.98\nvia 1 1 0 1.03 1.02 0 0 0.001\n";
+const LAID_OUT: &str =
+    "level 1\npitch 0.5 # of the layout\nlayer 1 1.1\npolygon 1 0 0.001\n0.01 0\n4.02 0 # \
+    south-east\n 4.02 1.98\n0.01 1.98\nvia 1 1 0 1.03 1.02 0 0 0.001\n";
 
 #[test]
 fn snap_moves_points_and_lists_the_moves() {
@@ -207,8 +217,8 @@ fn a_strip_that_is_too_long_is_told_three_ways_out() {
     let board = |first: &str| format!("level 1\n{first}polygon 3 0 1\n{}", ring(["30", "0.2"]));
     assert_eq!(
         said(&(board("pitch 0.1\n") + "polygon 3 1 1\n0 1\n1 1\n1 2\n0 2\n")),
-        "line 4: 300 pitches long; at most 256 base cells: give layer 3 a larger cell (layer 3 0.2), take a larger pitch \
-         (0.2 mm), or draw two polygons that touch\n"
+        "line 4: 300 pitches long; at most 256 base cells: give layer 3 a larger cell (layer 3 0.2), take a larger \
+         pitch (0.2 mm), or draw two polygons that touch\n"
     );
     // Each of them is one.
     made(
@@ -217,7 +227,8 @@ fn a_strip_that_is_too_long_is_told_three_ways_out() {
         board("pitch 0.1\nlayer 3 0.2\n").as_bytes(),
     );
     made(BOARD, &["net"], board("pitch 0.2\n").as_bytes());
-    let touching = "level 1\npitch 0.1\npolygon 3 0 1\n0 0\n20 0\n20 0.2\n0 0.2\npolygon 3 0 1\n20 0\n30 0\n30 0.2\n20 0.2\n";
+    let touching = "level 1\npitch 0.1\npolygon 3 0 1\n0 0\n20 0\n20 0.2\n0 0.2\npolygon 3 0 1\n20 0\n30 0\n30 0.2\n\
+        20 0.2\n";
     made(BOARD, &["net"], touching.as_bytes());
 }
 
@@ -247,24 +258,74 @@ fn damaged_records_are_told_by_the_name_of_the_field() {
     longer.extend([0, 0, 0]);
     let length = longer.len() as u32 - 5;
     longer[1..5].copy_from_slice(&length.to_be_bytes());
+    let out_of = |range: &str| format!("is out of range: {range}");
+    let coordinates = out_of("-68719476736 to 68719476736");
+    let cells = out_of("0 to 68719476736");
+    let ends = format!("the record ends in it or before it: {again}");
+    let behind = whole.len() - 5;
     for (record, words) in [
-        (changed(4, &[1]), format!("byte 1, length of what follows: 1, where {} bytes follow: {again}", whole.len() - 5)),
-        (changed(5, &[13]), "byte 5, max_level: 13 is out of range: 0 to 12, or 255".to_string()),
-        (changed(6, &[2, 0]), "byte 6, cap: 512 is out of range: 1 to 256".to_string()),
-        (changed(8, &[0; 8]), "byte 8, target: 0 is out of range: 1 to 68719476736".to_string()),
-        (changed(16, &[0, 65]), "byte 16, number of layers with a cell of their own: 65 is out of range: 0 to 64".to_string()),
-        (changed(20, &[255]), "byte 20, cell of entry 0: 18374686479671623688 is out of range: 0 to 68719476736".to_string()),
-        (changed(28, &[2, 0]), "byte 28, number of polygons: 512 is out of range: 0 to 256".to_string()),
-        (changed(36, &[0; 8]), "byte 36, r_sheet of polygon 0: 0 is out of range: 2^-40 to 2^40".to_string()),
-        (changed(44, &[8, 0]), "byte 44, number of points of polygon 0: 2048 is out of range: 0 to 1024".to_string()),
+        (
+            changed(4, &[1]),
+            format!("byte 1, length of what follows: 1, where {behind} bytes follow: {again}"),
+        ),
+        (
+            changed(5, &[13]),
+            format!("byte 5, max_level: 13 {}", out_of("0 to 12, or 255")),
+        ),
+        (
+            changed(6, &[2, 0]),
+            format!("byte 6, cap: 512 {}", out_of("1 to 256")),
+        ),
+        (
+            changed(8, &[0; 8]),
+            format!("byte 8, target: 0 {}", out_of("1 to 68719476736")),
+        ),
+        (
+            changed(16, &[0, 65]),
+            format!(
+                "byte 16, number of layers with a cell of their own: 65 {}",
+                out_of("0 to 64")
+            ),
+        ),
+        (
+            changed(20, &[255]),
+            format!("byte 20, cell of entry 0: 18374686479671623688 {cells}"),
+        ),
+        (
+            changed(28, &[2, 0]),
+            format!("byte 28, number of polygons: 512 {}", out_of("0 to 256")),
+        ),
+        (
+            changed(36, &[0; 8]),
+            format!(
+                "byte 36, r_sheet of polygon 0: 0 {}",
+                out_of("2^-40 to 2^40")
+            ),
+        ),
+        (
+            changed(44, &[8, 0]),
+            format!(
+                "byte 44, number of points of polygon 0: 2048 {}",
+                out_of("0 to 1024")
+            ),
+        ),
         (
             changed(62, &[255, 0, 0, 0, 0, 0, 0, 4]),
-            "byte 62, x of point 1 of polygon 0: -72057594037927932 is out of range: -68719476736 to 68719476736".to_string(),
+            format!("byte 62, x of point 1 of polygon 0: -72057594037927932 {coordinates}"),
         ),
-        (cut(75), format!("byte 70, y of point 1 of polygon 0: the record ends in it or before it: {again}")),
-        (cut(30), format!("byte 30, layer of polygon 0: the record ends in it or before it: {again}")),
-        (cut(112), format!("byte 112, split 0: the record ends in it or before it: {again}")),
-        (longer, format!("byte {}: 3 bytes are left over behind the splits: {again}", whole.len())),
+        (
+            cut(75),
+            format!("byte 70, y of point 1 of polygon 0: {ends}"),
+        ),
+        (cut(30), format!("byte 30, layer of polygon 0: {ends}")),
+        (cut(112), format!("byte 112, split 0: {ends}")),
+        (
+            longer,
+            format!(
+                "byte {}: 3 bytes are left over behind the splits: {again}",
+                whole.len()
+            ),
+        ),
     ] {
         for command in ["unpack", "net"] {
             assert_eq!(refused(BOARD, &[command], &record), format!("{words}\n"));
@@ -308,32 +369,66 @@ fn no_damage_of_a_record_is_told_by_a_number_alone() {
 fn words_that_are_meant_for_another_get_it() {
     let square = "level 1\ntarget 8\npolygon 1 0 1\n0 0\n8 0\n8 8\n0 8\n";
     let with = |line: &str| said(&format!("{square}{line}\n"));
+    let did_you_mean = |word: &str, form: &str| format!("did you mean {word}? its form is: {form}");
     let blank = "the numbers of a point are parted by a blank alone: 0 0";
     let unit = "a value and its unit are two words, volts as V or amperes as A";
+    let point = "a point has two numbers, x and y";
     for (line, words) in [
-        ("0,0", format!("cannot make sense of \"0,0\": {blank}")),
-        ("0, 0", format!("cannot make sense of \"0, 0\": {blank}")),
-        ("0 0,", format!("cannot make sense of \"0 0,\": {blank}")),
-        ("0;0", format!("cannot make sense of \"0;0\": {blank}")),
-        ("7", "cannot make sense of \"7\": a point has two numbers, x and y".to_string()),
-        ("1 2 3", "cannot make sense of \"1 2 3\": a point has two numbers, x and y, and a line of its own".to_string()),
+        ("0,0", blank.to_string()),
+        ("0, 0", blank.to_string()),
+        ("0 0,", blank.to_string()),
+        ("0;0", blank.to_string()),
+        ("7", point.to_string()),
+        ("1 2 3", format!("{point}, and a line of its own")),
         (
             "poligon 1 0 1",
-            "cannot make sense of \"poligon 1 0 1\": did you mean polygon? its form is: polygon LAYER COMPONENT OHMS"
-                .to_string(),
+            did_you_mean("polygon", "polygon LAYER COMPONENT OHMS"),
         ),
-        ("Polygon 1 0 1", "cannot make sense of \"Polygon 1 0 1\": did you mean polygon?".to_string()),
-        ("vai 1 2 0 0 0 0 0 1", "cannot make sense of \"vai 1 2 0 0 0 0 0 1\": did you mean via?".to_string()),
-        ("terminals in 1 A pad 0", "cannot make sense of \"terminals in 1 A pad 0\": did you mean terminal?".to_string()),
-        ("hole 1 0", "cannot make sense of \"hole 1 0\": a line is a point, as 0 0, or begins with level, cap,".to_string()),
-        ("terminal in 100 mA end 1 0 west", format!("\"100 mA\": {unit}: 0.1 A")),
-        ("terminal in 100mA end 1 0 west", format!("\"100mA\": {unit}: 0.1 A")),
-        ("terminal in 1A end 1 0 west", format!("\"1A\": {unit}: 1 A")),
+        ("Polygon 1 0 1", did_you_mean("polygon", "polygon ")),
+        ("vai 1 2 0 0 0 0 0 1", did_you_mean("via", "via ")),
+        (
+            "terminals in 1 A pad 0",
+            did_you_mean("terminal", "terminal "),
+        ),
+        (
+            "hole 1 0",
+            "a line is a point, as 0 0, or begins with level, cap,".to_string(),
+        ),
+    ] {
+        let found = with(line);
+        let words = format!("line 8: cannot make sense of \"{line}\": {words}");
+        assert!(found.starts_with(&words) && found.len() < 420, "{found}");
+    }
+    for (line, words) in [
+        (
+            "terminal in 100 mA end 1 0 west",
+            format!("\"100 mA\": {unit}: 0.1 A"),
+        ),
+        (
+            "terminal in 100mA end 1 0 west",
+            format!("\"100mA\": {unit}: 0.1 A"),
+        ),
+        (
+            "terminal in 1A end 1 0 west",
+            format!("\"1A\": {unit}: 1 A"),
+        ),
         ("terminal in 1A", format!("\"1A\": {unit}: 1 A")),
-        ("terminal in 5 kV end 1 0 west", format!("\"5 kV\": {unit}: 5000 V")),
-        ("terminal in -3 uA end 1 0 west", format!("\"-3 uA\": {unit}: -0.000003 A")),
-        ("terminal in 2 a end 1 0 west", format!("\"2 a\": {unit}: 2 A")),
-        ("terminal in 10 W end 1 0 west", "cannot make sense of \"terminal in 10 W".to_string()),
+        (
+            "terminal in 5 kV end 1 0 west",
+            format!("\"5 kV\": {unit}: 5000 V"),
+        ),
+        (
+            "terminal in -3 uA end 1 0 west",
+            format!("\"-3 uA\": {unit}: -0.000003 A"),
+        ),
+        (
+            "terminal in 2 a end 1 0 west",
+            format!("\"2 a\": {unit}: 2 A"),
+        ),
+        (
+            "terminal in 10 W end 1 0 west",
+            "cannot make sense of \"terminal in 10 W".to_string(),
+        ),
     ] {
         let found = with(line);
         assert!(found.starts_with(&format!("line 8: {words}")), "{found}");

@@ -101,8 +101,8 @@ impl Joints {
         Joints { level, upright }
     }
 
-    /// Where an upright side leads from the end of a level one. Of two at a corner the one to the left is taken, so that
-    /// pieces that touch there stay apart.
+    /// Where an upright side leads from the end of a level one. Of two at a corner the one to the left is taken, so
+    /// that pieces that touch there stay apart.
     fn turn_upright(&self, from: Point, left: usize) -> Option<(Point, bool)> {
         let to = |side: usize| self.upright[side].get(&from).map(|&to| (to, side == ABOVE));
         to(left).or_else(|| to(1 - left))
@@ -162,8 +162,8 @@ impl Contour {
 
     /// A ring for each piece, and of some places the piece that lies north-east of each, next to it, by its number.
     ///
-    /// Each hole hangs on the upright side next to it in the west, by a level side there and back from the lowest of its
-    /// westmost corners: by even and odd that counts for nothing, and it makes no band of its own.
+    /// Each hole hangs on the upright side next to it in the west, by a level side there and back from the lowest of
+    /// its westmost corners: by even and odd that counts for nothing, and it makes no band of its own.
     pub fn into_pieces(mut self, places: &[Point]) -> (Vec<Vec<Point>>, Vec<usize>) {
         let holes: Vec<Hole> = self.holes();
         let corners: Vec<Point> = holes.iter().map(|hole| self.corners[hole.corner]).collect();
@@ -260,8 +260,8 @@ impl Contour {
         hole
     }
 
-    /// A way from the upright side behind a corner to a hole, round it and back; answers the corner that the rest of the
-    /// side begins at.
+    /// A way from the upright side behind a corner to a hole, round it and back; answers the corner that the rest of
+    /// the side begins at.
     fn hang(&mut self, side: usize, Hole { before, corner, .. }: Hole) -> usize {
         let [_, y] = self.corners[corner];
         let foot = [self.corners[side][0], y];

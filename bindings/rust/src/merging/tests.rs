@@ -5,6 +5,7 @@ use super::overlap::first_at;
 use super::sweep::{encloses, places_of, steps};
 use super::{cut, first_overlap, unions, Bounds, Overlap};
 use crate::{Outlines, Point};
+use std::slice::from_ref;
 
 /// Numbers that look like chance, the same in every run.
 struct Dice(u64);
@@ -171,7 +172,7 @@ fn assert_merges(rings: &[Vec<Point>], field: i64) {
             union.rings
         );
         for ring in &union.rings {
-            let own: Vec<bool> = raster(&[ring.clone()], field)
+            let own: Vec<bool> = raster(from_ref(ring), field)
                 .iter()
                 .map(|&count| count > 0)
                 .collect();
@@ -264,7 +265,7 @@ fn what_only_touches_does_not_overlap() {
 #[test]
 fn other_copper_is_left_alone() {
     let square = rectangle([0, 0], [8, 8]);
-    let mut drawn = Drawn::of(&[square.clone()]);
+    let mut drawn = Drawn::of(from_ref(&square));
     drawn.push(2, 0, 1.0, &square);
     drawn.push(1, 1, 1.0, &square);
     assert_eq!(first_overlap(drawn.outlines()), None);
@@ -291,9 +292,9 @@ fn two_that_overlap_or_border_are_one() {
     let wide = rectangle([0, 0], [24, 8]);
     for at in [8, 12, 16] {
         let rings = [rectangle([0, 0], [16, 8]), rectangle([at, 0], [24, 8])];
-        assert_eq!(merged(&rings), [wide.clone()]);
+        assert_eq!(merged(&rings), from_ref(&wide));
     }
-    assert_eq!(merged(&vec![wide.clone(); 9]), [wide.clone()]);
+    assert_eq!(merged(&vec![wide.clone(); 9]), from_ref(&wide));
     // One inside the other.
     assert_eq!(merged(&[wide.clone(), rectangle([8, 2], [9, 3])]), [wide]);
 }

@@ -165,8 +165,8 @@ impl Fault {
         })
     }
 
-    /// The first strip whose base cells can't be split often enough: by the cell, where that is no multiple of what it has
-    /// to be, and otherwise by the length.
+    /// The first strip whose base cells can't be split often enough: by the cell, where that is no multiple of what
+    /// it has to be, and otherwise by the length.
     fn of_uneven_cell(board: &Board, polygon: usize, unit: Unit) -> Option<Self> {
         let cut = Cut::of(board, polygon)?;
         let ring = ring(board, polygon)?;
@@ -245,8 +245,8 @@ impl Fault {
                 point: long.point,
             }),
             words: format!(
-                "{cells} {name} long; at most {cap} base cells: give layer {layer} a larger cell (layer {layer} {}), take \
-                 {target}, or draw two polygons that touch",
+                "{cells} {name} long; at most {cap} base cells: give layer {layer} a larger cell (layer {layer} {}), \
+                 take {target}, or draw two polygons that touch",
                 unit.words(&[larger])
             ),
         }
@@ -356,9 +356,7 @@ impl Cut {
         let next = ring.iter().cycle().skip(1);
         let sides = ring.iter().zip(next);
         let long = |([ax, ay], [bx, by]): (&Point, &Point)| (ax - bx).abs() + (ay - by).abs();
-        let common = sides
-            .map(long)
-            .fold(0, |common, side| divisor(common, side));
+        let common = sides.map(long).fold(0, divisor);
         (common > 0 && common % self.step as i64 == 0).then_some(common)
     }
 

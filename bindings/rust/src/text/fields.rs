@@ -87,8 +87,8 @@ struct Fixed {
 
 const LENGTH: Fixed = Fixed { at: 1, long: 4 };
 
-/// The fields of a record one after another; counts say how many follow. The last one is where a count can't be read, or
-/// behind all: it ends past the record.
+/// The fields of a record one after another; counts say how many follow. The last one is where a count can't be read,
+/// or behind all: it ends past the record.
 struct Fields<'a> {
     bytes: &'a [u8],
     part: Part,

@@ -21,10 +21,10 @@ pub struct Merged {
     pub warnings: Vec<Warning>,
 }
 
-/// A text with its copper drawn once: of polygons of one layer, component and sheet resistance that overlap or border on
-/// each other there stands, in the place of the first, what they enclose together. That is a ring for each piece, in
-/// which holes hang by a level side there and back; a ring that a record couldn't hold, or of a strip that is longer than
-/// `cap` base cells, is cut into polygons that touch.
+/// A text with its copper drawn once: of polygons of one layer, component and sheet resistance that overlap or border
+/// on each other there stands, in the place of the first, what they enclose together. That is a ring for each piece,
+/// in which holes hang by a level side there and back; a ring that a record couldn't hold, or of a strip that is
+/// longer than `cap` base cells, is cut into polygons that touch.
 ///
 /// Contacts and pads name the new polygons: the contact between two that are one now is left out, and a pad that was a
 /// rectangle becomes a `rect`. So are ids of cells to be split, which are others now; what `refine` says stands.
@@ -39,9 +39,9 @@ pub struct Merged {
 ///
 /// # Errors
 ///
-/// Those of [`parse_whole`](super::parse_whole), but for what is split; a slanted ring; polygons of two sheet resistances that overlap, by
-/// the later one's line; more than 256 polygons; a contact that would begin or end elsewhere, and a pad of another form
-/// than a rectangle.
+/// Those of [`parse_whole`](super::parse_whole), but for what is split; a slanted ring; polygons of two sheet
+/// resistances that overlap, by the later one's line; more than 256 polygons; a contact that would begin or end
+/// elsewhere, and a pad of another form than a rectangle.
 pub fn merge(text: &str) -> Result<Merged, Unclear> {
     let (whole, splits) = reading_of(text)?.end_unsplit()?;
     let polygons = polygons_of(&whole)?;
@@ -163,8 +163,9 @@ impl<'a> Merging<'a> {
             count if count > POLYGONS => Err(Unclear {
                 line: None,
                 words: format!(
-                    "drawn once, the copper has {} polygons, more than {POLYGONS}: a ring of more than 1,024 points and \
-                     a strip of more than cap base cells are cut; take a larger cell of the layer, or leave out holes",
+                    "drawn once, the copper has {} polygons, more than {POLYGONS}: a ring of more than 1,024 points \
+                     and a strip of more than cap base cells are cut; take a larger cell of the layer, or leave out \
+                     holes",
                     grouped(count)
                 ),
             }),
@@ -335,8 +336,8 @@ impl<'a> Merging<'a> {
             None => Ok(()),
             Some(at) => Err(Unclear {
                 line: self.whole.lines.of_link(Link::Contact(at)),
-                words: "the contact would begin or end elsewhere once the copper of its polygons is united: take it out, \
-                        or unite that copper by hand"
+                words: "the contact would begin or end elsewhere once the copper of its polygons is united: take it \
+                        out, or unite that copper by hand"
                     .to_string(),
             }),
         }

@@ -67,7 +67,8 @@ pub fn snap(text: &str, pitch: f64) -> Result<Snapped, Unclear> {
             words,
         };
         if !is_in_millimetres {
-            let words = "--snap moves points of a text in millimetres: a line `pitch MM` stands in front of its lengths";
+            let words = "--snap moves points of a text in millimetres: a line `pitch MM` stands in front of its \
+                         lengths";
             return Err(line_of(words.to_string()));
         }
         let from: Result<Vec<f64>, String> =
@@ -156,7 +157,8 @@ impl std::fmt::Display for Move {
 /// A length of decimal fractions in units of this one.
 const UNIT: f64 = 1e-9;
 
-/// The largest pitch of which all points and cells of a text in millimetres are multiples, if there is one at this level.
+/// The largest pitch of which all points and cells of a text in millimetres are multiples, if there is one at this
+/// level.
 pub(super) fn largest_pitch(text: &str, level: u64) -> Option<f64> {
     let mut common: u64 = 0;
     for line in text.lines() {
@@ -184,8 +186,8 @@ fn common_divisor(a: u64, b: u64) -> u64 {
     common_divisor(b, a % b)
 }
 
-/// What to do about a line that is refused since a length is no multiple of the text's pitch; nothing of any other line.
-/// Where the layer has cells of its own size, the nearest multiple of these is told, too.
+/// What to do about a line that is refused since a length is no multiple of the text's pitch; nothing of any other
+/// line. Where the layer has cells of its own size, the nearest multiple of these is told, too.
 pub(super) fn way_out(
     text: &str,
     why: &str,

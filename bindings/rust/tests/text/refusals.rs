@@ -459,8 +459,8 @@ fn an_uneven_base_cell_is_told_with_its_strip() {
     let said = refused(text.as_bytes());
     assert_eq!(
         said,
-        "line 5: a strip of 1.25 by 0.75 mm is 1.25 mm wide, no multiple of the cell of layer 1, 0.75 mm: the nearest is \
-         1.5 mm, and 0.25 mm fit all sides of the ring"
+        "line 5: a strip of 1.25 by 0.75 mm is 1.25 mm wide, no multiple of the cell of layer 1, 0.75 mm: the nearest \
+         is 1.5 mm, and 0.25 mm fit all sides of the ring"
     );
 }
 
@@ -594,8 +594,8 @@ fn boards_whose_net_would_be_wrong_are_told_by_their_line() {
     let long = "level 1\npitch 0.1\npolygon 1 0 1\n0 0.1\n0 0\n30 0\n30 0.1\n1 0.1\n1 0.2\n0 0.2\n";
     assert_eq!(
         refused(long.as_bytes()),
-        "line 4: 300 pitches long; at most 256 base cells: give layer 1 a larger cell (layer 1 0.2), take a larger pitch \
-         (0.2 mm), or draw two polygons that touch"
+        "line 4: 300 pitches long; at most 256 base cells: give layer 1 a larger cell (layer 1 0.2), take a larger \
+         pitch (0.2 mm), or draw two polygons that touch"
     );
     let record = text::pack(long).expect("a record");
     let said = refused(&record);
