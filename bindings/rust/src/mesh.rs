@@ -8,8 +8,8 @@ use crate::sides::has_side;
 use crate::unmeshed::{refused, Idle, Loose, TooLong, Unmeshed};
 use crate::{
     contact, power, Board, Border, CellName, Hanging, Head, Leaf, LeafBorder, Link, Links, Net,
-    NetRows, Point, Polygons, Reason, Rect, Refusal, Region, Settings, Table, MAX_LEVEL, NO_CELL,
-    SLOT, SLOTS,
+    NetRows, Pad, Point, Polygons, Reason, Rect, Refusal, Region, Settings, Table, MAX_LEVEL,
+    NO_CELL, SLOT, SLOTS,
 };
 use std::collections::BTreeSet;
 
@@ -368,10 +368,9 @@ impl Mesh {
             return Err(self.why_loose(&net, hanging));
         }
         let made: BTreeSet<Link> = net.joints.iter().map(|joint| joint.link).collect();
-        let bare = net
-            .pads
-            .iter()
-            .filter(|pad| !self.leaves().any(|leaf| pad.covers(&leaf)));
+        let leaves: Vec<Leaf> = self.leaves().collect();
+        let is_bare = |pad: &&Pad| !leaves.iter().any(|leaf| pad.covers(leaf));
+        let bare = net.pads.iter().filter(is_bare);
         let bare: BTreeSet<Link> = bare.map(|pad| pad.end.0).collect();
         let coppers = self.coppers();
         for (link, one) in links.each() {

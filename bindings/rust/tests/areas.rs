@@ -2,7 +2,7 @@
 
 mod programs;
 
-use leafmesh::solving::{Drive, Held, Solution, Spot, System, Terminal};
+use leafmesh::solving::{Drive, Held, Solution, Spot, System, Terminal, Unsolved};
 use leafmesh::{
     text, Area, Channel, ChannelEnd, Footprint, Link, Links, Mesh, Net, OwnedLinks, Reason, Region,
     Unmeshed, Via,
@@ -493,6 +493,25 @@ fn areas_that_make_no_sense_are_refused() {
         .to_string()
         .starts_with("channel 0 has an end without copper"));
     assert!(Links::default().pads().expect("none").is_empty());
+}
+
+/// Footprints by the thousands in one cell would be pieces by the millions: refused, and nothing runs out.
+#[test]
+fn footprints_that_crowd_in_a_cell_are_refused() {
+    let mesh = copper(8 * UNIT);
+    let mut links = channel_to([4.0, 4.0], Some([1.0, 1.0]));
+    for at in 1..1_200 {
+        let place = [0.006 * at as f64, 0.0065 * at as f64];
+        links.channels.push(links.channels[0]);
+        links.areas.push(Area::Source {
+            channel: at,
+            footprint: footprint(place, [0.002, 0.002]),
+        });
+    }
+    let net = mesh.linked_net(links.rows()).expect("a net");
+    let why = System::of_cells(&net).expect_err("too many pieces");
+    assert!(matches!(why, Unsolved::Crowded { .. }));
+    assert!(why.to_string().contains("more than 1,000,000 pieces"));
 }
 
 /// Two pads of 4 by 4 mm, 2 mm apart, that a channel joins from (3, 2) to (7, 2).

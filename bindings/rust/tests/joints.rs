@@ -93,13 +93,13 @@ fn a_via_conducts_its_share() {
         top: 1,
         component: 0,
         footprint,
-        resistance: 0.5,
+        resistance: 0.25,
     }];
     let links = Links {
         vias: &vias,
         ..Links::default()
     };
-    assert_near(added(links, [[0, 0], [4, 0]]), 1.0);
+    assert_near(added(links, [[0, 0], [4, 0]]), 2.0);
 }
 
 /// Each edge says of which link it is; links without edges have none.

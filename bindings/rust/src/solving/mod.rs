@@ -218,6 +218,47 @@ fn entries_of(edges: &[Edge]) -> Vec<Entry> {
     edges.iter().flat_map(entries).collect()
 }
 
+/// The most pieces of cells that footprints cut: some hundreds of bytes each.
+const PIECES: usize = 1_000_000;
+
+/// The elements of all cells, and which are each one's. Nodes that the net doesn't have stand behind the others from now
+/// on.
+fn elements_of(
+    net: &Net,
+    pads: &Pads,
+    parts: &mut Vec<Parts>,
+) -> Result<(Vec<Element>, Vec<Patch>), Unsolved> {
+    let mut cut: usize = 0;
+    let mut elements = Vec::with_capacity(net.cells.len());
+    let mut cells = Vec::with_capacity(net.cells.len());
+    for (at, cell) in net.cells.iter().enumerate() {
+        let whole = rect_of(cell, &net.nodes);
+        cut = cut.saturating_add(pads.count_of_pieces(at, whole));
+        if cut > PIECES {
+            return Err(Unsolved::Crowded { cell: at });
+        }
+        let pieces = match pads.touch_cell(at) {
+            true => pieces_of(pads, at, cell.corners, whole, parts),
+            false => vec![(whole, cell.corners)],
+        };
+        let rects: Vec<Rect> = pieces.iter().map(|(rect, _)| *rect).collect();
+        cells.push(Patch::of(whole, cell.sheet, &rects, elements.len()));
+        let element = |(rect, corners)| Element::of(corners, rect, cell.sheet);
+        elements.extend(pieces.into_iter().map(element));
+    }
+    Ok((elements, cells))
+}
+
+/// The links' edges, by what they conduct as they were given, from pad to pad where their ends have an area.
+fn edges_of(net: &Net, pads: &Pads) -> Vec<Edge> {
+    let mut edges = net.links_as_given();
+    for (edge, joint) in edges.iter_mut().zip(&net.joints) {
+        edge.from = pads.of_end((joint.link, 0)).unwrap_or(edge.from);
+        edge.to = pads.of_end((joint.link, 1)).unwrap_or(edge.to);
+    }
+    edges
+}
+
 /// The pieces of a cell that pads cut, each with the nodes at its corners; those that the net doesn't have stand behind
 /// the others from now on.
 fn pieces_of(
@@ -270,6 +311,7 @@ impl System {
     /// # Errors
     ///
     /// Those of [`System::of_net`]; [`Unsolved::NoJoints`] where the net doesn't say what its links conduct;
+    /// [`Unsolved::Crowded`] where footprints cut its cells into more than a million pieces;
     /// [`Unsolved::NoFit`] where a node stands inside a cell's side and not at its middle:
     /// the table that the net was made of isn't balanced, or its coordinates are no multiples of the base cell.
     pub fn of_cells(net: &Net) -> Result<Self, Unsolved> {
@@ -280,24 +322,8 @@ impl System {
         }
         let pads = Pads::of(net);
         let mut parts = parts_of(net, &pads)?;
-        let mut elements = Vec::with_capacity(net.cells.len());
-        let mut cells = Vec::with_capacity(net.cells.len());
-        for (at, cell) in net.cells.iter().enumerate() {
-            let whole = rect_of(cell, &net.nodes);
-            let pieces = match pads.touch_cell(at) {
-                true => pieces_of(&pads, at, cell.corners, whole, &mut parts),
-                false => vec![(whole, cell.corners)],
-            };
-            let rects: Vec<Rect> = pieces.iter().map(|(rect, _)| *rect).collect();
-            cells.push(Patch::of(whole, cell.sheet, &rects, elements.len()));
-            let element = |(rect, corners)| Element::of(corners, rect, cell.sheet);
-            elements.extend(pieces.into_iter().map(element));
-        }
-        let mut edges = net.links_as_given();
-        for (edge, joint) in edges.iter_mut().zip(&net.joints) {
-            edge.from = pads.of_end((joint.link, 0)).unwrap_or(edge.from);
-            edge.to = pads.of_end((joint.link, 1)).unwrap_or(edge.to);
-        }
+        let (elements, cells) = elements_of(net, &pads, &mut parts)?;
+        let edges = edges_of(net, &pads);
         let first = net.edges.len() - edges.len();
         let lone = net.lone().into_iter();
         Ok(System {

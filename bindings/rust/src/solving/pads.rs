@@ -167,6 +167,15 @@ pub(super) enum Corner {
 }
 
 impl Pads {
+    /// How many pieces a cell is cut into, those under pads among them; 0 where no pad touches it.
+    pub fn count_of_pieces(&self, cell: usize, whole: Rect) -> usize {
+        let along = |axis: usize| self.lines(cell, axis, [whole[axis], whole[axis + 2]]).len() - 1;
+        match self.touch_cell(cell) {
+            true => along(0).saturating_mul(along(1)),
+            false => 0,
+        }
+    }
+
     /// What of a cell lies outside the pads. `corners` are the places of its corners with what they are made of, SW, SE,
     /// NE, NW.
     pub fn pieces(&self, cell: usize, corners: [(Point, &Parts); 4]) -> Vec<Piece> {
@@ -176,7 +185,6 @@ impl Pads {
         for y in ys.windows(2) {
             for x in xs.windows(2) {
                 let rect = [x[0], y[0], x[1], y[1]];
-                // Twice the middle may be odd: a piece lies in a pad with both its ends, or not at all.
                 if self.covers(cell, &rect) {
                     continue;
                 }

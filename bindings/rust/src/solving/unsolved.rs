@@ -27,6 +27,11 @@ pub enum Unsolved {
         /// Of how many it says so.
         joints: usize,
     },
+    /// Footprints of links cut the cells into too many pieces.
+    Crowded {
+        /// The cell at which they get too many, by its place.
+        cell: usize,
+    },
     /// There is no terminal.
     NoTerminal,
     /// What a terminal is held at is no number, or a potential that is out of range.
@@ -106,6 +111,11 @@ impl fmt::Display for Unsolved {
             Unsolved::NoJoints { links, joints } => write!(
                 f,
                 "the net has {links} links and says of {joints} what they conduct: make it by a mesh or a table"
+            ),
+            Unsolved::Crowded { cell } => write!(
+                f,
+                "footprints of links cut the cells into more than 1,000,000 pieces, the last of them cell {cell}: so many \
+                 crowd in large cells; refine them, or draw one footprint for such as touch"
             ),
             Unsolved::NoTerminal => write!(f, "there is no terminal"),
             Unsolved::OutOfRange { terminal } => {
