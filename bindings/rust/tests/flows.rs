@@ -112,8 +112,8 @@ fn links_have_their_currents() {
     let words = [&["solve", &vias], &words[..]].concat();
     let table = text_made(BOARD, &words, b"");
     assert_eq!(
-        behind(&table, "contact 0 ").split_whitespace().last(),
-        Some("0")
+        behind(&table, "contact 0 "),
+        "1            0  one node: no value as the mesh gets finer"
     );
 }
 
