@@ -33,6 +33,7 @@ mod judging;
 mod matrix;
 mod pads;
 mod terminal;
+mod uneven;
 mod unknowns;
 mod unsolved;
 

@@ -2,16 +2,13 @@
 
 use super::Given;
 use crate::solving::{place_of_most, Flow, Held, Solution, System, Unsolved};
-use crate::{Cell, Leaf, Lone, Mesh, Net};
+use crate::{Leaf, Lone, Mesh, Net};
 use std::collections::BTreeSet;
 
 /// A current or a potential below this share of the largest one at a terminal is what the iteration leaves.
 const LEFT: f64 = 1e-9;
 /// One below this share of what the largest potential would drive through a square is, too.
 const ROUNDED: f64 = 1e-11;
-
-/// A current is even in a cell where all but this share of its power is that of the current at its centre.
-const EVEN: f64 = 1e-12;
 
 /// What a net is solved by.
 #[derive(Clone, Copy, Debug, PartialEq, Eq)]
@@ -143,22 +140,6 @@ impl Solved {
         };
         let flow = self.solution.cells.get(at).copied();
         Some((leaf, flow.unwrap_or_else(by_power)))
-    }
-
-    /// Of each cell the power that it takes since the current in it isn't the same all over: what is above that of the
-    /// current at its centre, or 0 where rounding leaves no more. Of a solution on the cells.
-    pub fn uneven_watts(&self) -> Vec<f64> {
-        let cells = self.mesh.leaves().zip(&self.net.cells);
-        let uneven = |((leaf, cell), flow): ((Leaf, &Cell), &Flow)| {
-            let [x, y] = flow.current;
-            let uneven = flow.watts - (x * x + y * y) * cell.sheet * leaf.area();
-            if uneven > EVEN * flow.watts {
-                uneven
-            } else {
-                0.0
-            }
-        };
-        cells.zip(&self.solution.cells).map(uneven).collect()
     }
 
     /// The currents of the links' edges.

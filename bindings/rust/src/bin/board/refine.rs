@@ -19,7 +19,7 @@ usage: board refine [FILE] (--rounds N | --until S | both) [--share S]
 
 The board split where its current is least even: of a text the text as it stands
 and lines `refine` behind it, of a record a record. A round solves on the cells,
-splits the leaves that take most power beyond that of an even current, and
+splits the leaves in which, and round which, the current changes most, and
 balances; a line on standard error tells what came of it. Where no more is to be
 split, or there is no more room, what was reached by then is written.
 
@@ -127,7 +127,8 @@ impl Plan {
     /// even nothing is gained by a split, however much flows there.
     fn least_even(&self, solved: &Solved) -> Result<Vec<usize>, String> {
         let finest = solved.mesh.head().max_level;
-        let all = solved.mesh.leaves().zip(solved.uneven_watts());
+        let uneven = solved.solution.uneven_watts(&solved.mesh, &solved.net);
+        let all = solved.mesh.leaves().zip(uneven);
         let mut open: Vec<(f64, usize)> = all
             .filter(|(leaf, _)| leaf.level < finest)
             .map(|(leaf, watts)| (watts, leaf.id))
