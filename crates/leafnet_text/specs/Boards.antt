@@ -1,6 +1,6 @@
 -- A record's board as the calls behind the reader take it.
 use denote.Ref.{Bor}
-use Rattle.std.specs.Prelude.{ℕ, ◌^◌, ◌<◌, List, map, take, All, ℤ, Float, slice_index, Result}
+use Rattle.std.specs.Prelude.{ℕ, ◌^◌, ◌<◌, List, map, All, ℤ, Float, slice_index, Result}
 use Rattle.build.specs.declared.Settings as Build
 use Rattle.build.specs.Board as Outline
 use Rattle.refusals.specs.declared.Refusal.{Refusal}
@@ -9,7 +9,6 @@ use Rattle.record.specs.Board.{Board, points_in}
 use Rattle.record.specs.Rows.{entry_row, sheet_of, point_row, rings}
 use Rattle.record.specs.Reading.{reading}
 use Rattle.net_rows.specs.declared.rows.Polygons.{Polygons}
-use Rattle.leafnet_text.specs.declared.input.Board as Held
 use Rattle.leafnet_text.specs.Rooms.{record_rows}
 
 -- what a table and its net are made of
@@ -32,14 +31,6 @@ abbrev pub given_by : Board → Given
 given_by b =
     given (settings_of b.settings) (map entry_row b.layers) (map (λ p. p.layer) b.polygons) (map (λ p. p.component) b.polygons) (map sheet_of b.polygons)
     (map points_in b.polygons) (map point_row (rings b.polygons)) b.splits
-
--- and the board that is held: of each row as much as there is of it
-abbrev pub given_of : Held.Board → Given
-given_of b =
-    let rows = b.rows in
-    let n = rows.read.counts in
-    given (settings_of rows.read.settings) (take n.layers rows.list) b.layers.items b.components.items (take n.polygons rows.sheets) b.counts.items
-    (take n.points rows.points) (take n.splits rows.splits)
 
 -- numbers as a row that lies anywhere
 abbrev lent : List ℕ → Bor (List ℕ)

@@ -56,8 +56,8 @@ pub struct Rows {
 }
 
 impl Rows {
-    ghost use Rattle.leafnet_text.specs.Boards.{given_of, board_in};
-    ghost use Rattle.leafnet_text.specs.Held.{given_in};
+    ghost use Rattle.leafnet_text.specs.Boards.{board_in};
+    ghost use Rattle.leafnet_text.specs.Held.{given_in, given_of};
     ghost use Rattle.leafnet_text.specs.Output.{Prints, board_says, record_says};
 
     fn read(bytes: &[u8]) -> Result<Rows, Refusal>
@@ -113,7 +113,8 @@ pub struct Board {
 }
 
 impl Board {
-    ghost use Rattle.leafnet_text.specs.Boards.{given_of, board_in};
+    ghost use Rattle.leafnet_text.specs.Boards.{board_in};
+    ghost use Rattle.leafnet_text.specs.Held.{given_of};
     ghost use Rattle.leafnet_text.specs.Output.{Prints, board_says, record_says};
 
     /// The board of a record that fits the program's room.

@@ -72,7 +72,7 @@ fn put_edges(text: &mut Text, edges: &[Edge])
 }
 
 impl Mesh {
-    ghost use Rattle.leafnet_text.specs.Boards.{given_of};
+    ghost use Rattle.leafnet_text.specs.Held.{given_of};
     ghost use Rattle.leafnet_text.specs.Output.{Prints, lines_text, table_says};
     ghost use Rattle.refusals.specs.Said.{accepted};
 

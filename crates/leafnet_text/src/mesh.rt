@@ -2,7 +2,7 @@
 ghost use Rattle.std.specs.Prelude.{◌≡◌, IfOk, OnOk};
 ghost use Rattle.table.specs.Refine.{refined_said};
 ghost use Rattle.build.specs.Says.{built_said};
-ghost use Rattle.leafnet_text.specs.Boards.{given_of};
+ghost use Rattle.leafnet_text.specs.Held.{given_of};
 ghost use Rattle.leafnet_text.specs.Refining.{refine_all_says, refine_all_row};
 ghost use Rattle.leafnet_text.specs.Growing.{roots_say, roots_head, roots_row};
 

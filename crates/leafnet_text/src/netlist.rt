@@ -51,7 +51,7 @@ pub struct Net {
 }
 
 impl Net {
-    ghost use Rattle.leafnet_text.specs.Boards.{given_of};
+    ghost use Rattle.leafnet_text.specs.Held.{given_of};
     ghost use Rattle.leafnet_text.specs.Output.{Prints, lines_text, net_says};
     ghost use Rattle.refusals.specs.Said.{accepted};
     ghost use Rattle.table.specs.Rows.{order_in};

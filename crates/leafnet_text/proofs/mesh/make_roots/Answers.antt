@@ -3,7 +3,7 @@ use Rattle.std.proofs.Common.{◌≡◌, ◌∙◌, length, rules}
 use Rattle.strips.specs.Said.{if_accepted}
 use Rattle.build.specs.Board.{board}
 use Rattle.build.specs.Says.{built_said, build_says, build_leaves, filled}
-use Rattle.leafnet_text.specs.Boards.{given_of}
+use Rattle.leafnet_text.specs.Held.{given_of}
 use Rattle.leafnet_text.specs.Growing.{roots_say, roots_row}
 use Rattle.leafnet_text.proofs.Steps.{built-head, built-row}
 use Rattle.leafnet_text.proofs.mesh.make_roots.Goals as goal

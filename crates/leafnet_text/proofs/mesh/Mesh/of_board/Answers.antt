@@ -4,7 +4,7 @@ use Rattle.refusals.specs.Said.{accepted, refusal}
 use Rattle.table.specs.Rows.{head_values}
 use Rattle.coarsest.specs.declared.Engine.TheVariants.{Balancing}
 use Rattle.even.specs.Even.{even_says, even_row}
-use Rattle.leafnet_text.specs.Boards.{given_of}
+use Rattle.leafnet_text.specs.Held.{given_of}
 use Rattle.leafnet_text.specs.Refining.{refine_all_says, refine_all_row}
 use Rattle.leafnet_text.specs.Growing.{splits_say, split_row, balance_says}
 use Rattle.leafnet_text.proofs.Refusing.{prints-refused}

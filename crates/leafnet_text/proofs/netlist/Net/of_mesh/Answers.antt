@@ -1,6 +1,6 @@
 -- The call's polygons are the board's.
 use Rattle.std.proofs.Common.{◌≡◌, length, Err, rules}
-use Rattle.leafnet_text.specs.Boards.{given_of}
+use Rattle.leafnet_text.specs.Held.{given_of}
 use Rattle.leafnet_text.proofs.Refusing.{prints-refused}
 use Rattle.leafnet_text.proofs.Netted.{net-left, net-refused}
 use Rattle.leafnet_text.proofs.netlist.Net.of_mesh.Goals as goal
