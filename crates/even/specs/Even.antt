@@ -28,9 +28,9 @@ abbrev pub even_head : Engine → List ℤ → Head → Head
 even_head e row head =
     let cells = even_cells e row head in head_of (length cells) (leaf_count cells) head.max_level
 
--- "the number of splits": four cells more for each
+-- three leaves more a split
 abbrev pub even_splits : Engine → List ℤ → Head → ℕ
-even_splits e row head = (length (even_cells e row head) - head.count) / 4
+even_splits e row head = (leaf_count (even_cells e row head) - head.leaves) / 3
 
 -- 7, then 6 where they are more than the slots
 unfoldable pub even_says : Engine → List ℤ → Head → Said

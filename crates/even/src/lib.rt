@@ -62,7 +62,7 @@ fn even_table(row: &mut [i64], head: Head, engine: Engine) -> Result<Evening, Re
     }
     match even_out(row, head, engine) {
         Ok(grown) => Ok(Evening {
-            splits: (grown.count - head.count) / 4,
+            splits: (grown.leaves - head.leaves) / 3,
             head: grown,
         }),
         Err(why) => {

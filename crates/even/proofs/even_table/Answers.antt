@@ -1,4 +1,4 @@
-use Rattle.std.proofs.Common.{sym, ap, ap₂, ◌∙◌, true≢false, arith, ◌≡◌, ◌≤◌, ◌+◌, ◌*◌, ◌-◌, ◌/◌, ℕ, ℤ, List, ◌∷◌, length, le-leb}
+use Rattle.std.proofs.Common.{sym, ap, ap₂, ◌∙◌, true≢false, arith, ◌≡◌, ◌≤◌, ◌+◌, ◌*◌, ◌/◌, ℕ, ℤ, List, ◌∷◌, length, le-leb}
 use Rattle.refusals.specs.Said.{accepted}
 use borrow.Author.Tests.{lt-leb}
 use Rattle.table.specs.declared.Head.{Head}
@@ -11,7 +11,7 @@ use Rattle.table.proofs.Cells.{length-table}
 use Rattle.table.proofs.Wellformed.{formed-facts, facts-formed}
 use Rattle.coarsest.proofs.Evened.{evened-leaves}
 use Rattle.even.specs.Rows.{row_of}
-use Rattle.even.specs.Even.{even_cells, even_says, even_row}
+use Rattle.even.specs.Even.{even_cells, even_splits, even_says, even_row}
 use Rattle.even.proofs.Rowing.{row_is}
 use Rattle.even.proofs.Ending.{ends-bad}
 use Rattle.even.proofs.Held.{definitions-agree}
@@ -77,11 +77,12 @@ module _ (e : Engine) (head grown : Head) (old new : List ℤ) (formed : IsTable
       (a.splits, omega (arith, as_many, before, cells), omega (arith, as-leafy, w.leaves, leaves))
 
   -- the answer, by whichever growth its splits are counted
-  says : (splits : ℕ) → splits ≡ (grown.count - head.count) / 4 → IsTable old head → length new ≡ length old
+  says : (splits : ℕ) → splits ≡ even_splits e old head → IsTable old head → length new ≡ length old
       → grown.max_level ≡ head.max_level → accepted (splits ∷ head_values grown) ≡ even_says e old head
   unfolding even_says
-  says splits quarter formed-so long deep =
-      sym (rw (formed-so, as_many, as-leafy, le-leb _ _ (room long), ← deep, ← quarter))
+  says splits so formed-so long deep =
+      ap (λ (n : ℕ). accepted (n ∷ head_values grown)) so
+      ∙ sym (rw (formed-so, as_many, as-leafy, le-leb _ _ (room long), ← deep))
 
 pub overflow_sub-result : goal.overflow_sub-result
 overflow_sub-result c =
@@ -97,8 +98,10 @@ returns-in-Ok-clause-says c =
     let s =
     grows c.args.engine c.args.head c.in-Ok.grown c.args.row.now c.even_out.new.row g.formed g.cells
     (formed-facts _ _ yes) in
+    let cells = as_many c.args.engine c.args.head c.in-Ok.grown c.args.row.now c.even_out.new.row g.formed g.cells in
+    let leaves = as-leafy c.args.engine c.args.head c.in-Ok.grown c.args.row.now c.even_out.new.row g.formed g.cells in
     says c.args.engine c.args.head c.in-Ok.grown c.args.row.now c.even_out.new.row g.formed g.cells
-    _ (omega (arith, s.1, s.2)) yes c.even_out.auto.row g.max_level
+    _ (omega (arith, s.1, s.2, cells, leaves)) yes c.even_out.auto.row g.max_level
 
 pub returns-in-Ok-clause-row_after : goal.returns-in-Ok-clause-row_after
 unfolding even_row
