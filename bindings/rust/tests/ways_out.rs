@@ -197,6 +197,14 @@ fn snap_takes_a_text_in_millimetres_and_a_pitch() {
             "{words}"
         );
     }
+    // A length that is in no range is left to be refused, and said in short.
+    let far = LAID_OUT.replace("4.02", "1e300");
+    let far = refused(BOARD, &["net", "--snap", "1"], far.as_bytes());
+    let last = far.lines().last().unwrap_or("");
+    assert!(last.starts_with("line 6: 1") && far.len() < 900, "{far}");
+    let small = LAID_OUT.replace("0.01", "1e-300");
+    let small = run(BOARD, &["merge", "--snap", "1"], small.as_bytes());
+    assert!(small.stderr.len() < 600, "{small:?}");
     let ticks = "target 32\npolygon 1 0 1\n0 0\n32 0\n32 32\n0 32\n";
     let words = refused(BOARD, &["net", "--snap", "1"], ticks.as_bytes());
     assert!(
@@ -424,6 +432,14 @@ fn words_that_are_meant_for_another_get_it() {
         (
             "terminal in 2 a end 1 0 west",
             format!("\"2 a\": {unit}: 2 A"),
+        ),
+        (
+            "terminal in 1e300 kA end 1 0 west",
+            "cannot make sense of \"terminal in 1e300 kA".to_string(),
+        ),
+        (
+            "terminal in 1e-300A end 1 0 west",
+            "cannot make sense of \"terminal in 1e-300A".to_string(),
         ),
         (
             "terminal in 10 W end 1 0 west",

@@ -133,7 +133,7 @@ impl Contour {
                 first,
                 is_hole: !levels[start].is_floor,
             });
-            let mut at = Some(start).filter(|&level| !is_done[level]);
+            let mut at = Some(start);
             while let Some(number) = at {
                 is_done[number] = true;
                 let Level { y, x, is_floor } = levels[number];

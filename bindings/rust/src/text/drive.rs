@@ -17,6 +17,9 @@ const PREFIXES: [(&str, i32); 9] = [
     ("d", -1),
 ];
 
+/// Nobody means less, in volts or amperes.
+const LEAST: f64 = 1e-12;
+
 /// A drive by its value and its unit, `V` or `A`; none of another word for the unit.
 pub(super) fn drive_of(value: &str, unit: &str) -> Result<Option<Drive>, String> {
     let (drive, name, most) = match unit {
@@ -54,6 +57,10 @@ pub(super) fn way_out(value: &str, unit: &str) -> Option<String> {
         _ => (cut(value), stuck),
     };
     let (scaled, unit) = in_base_unit(number, unit)?;
+    // One that is no drive, or has too many digits to be read, is none that was meant.
+    if scaled != 0.0 && !(LEAST..=CURRENT).contains(&scaled.abs()) {
+        return None;
+    }
     Some(format!(
         "{}: a value and its unit are two words, volts as V or amperes as A: {scaled} {unit}",
         quoted(&given)

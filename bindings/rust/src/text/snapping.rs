@@ -24,6 +24,9 @@ pub struct Move {
     pub to: Vec<f64>,
 }
 
+/// A length past this many millimetres is in no range.
+const MOST: f64 = 1e6;
+
 /// How far from a multiple a length may lie, in pitches.
 const SLACK: f64 = 1e-6;
 
@@ -78,6 +81,11 @@ pub fn snap(text: &str, pitch: f64) -> Result<Snapped, Unclear> {
             .iter()
             .map(|&length| nearest(length, pitch, !head.is_empty()))
             .collect();
+        // What is far out of range is left to be refused.
+        if from.iter().any(|length| length.abs() > MOST) {
+            lines.push(line.to_string());
+            continue;
+        }
         let is_moved = |(from, to): (&f64, &f64)| (from - to).abs() > SLACK * pitch;
         if from.iter().zip(&to).any(is_moved) {
             let all: Vec<String> = to.iter().map(f64::to_string).collect();
@@ -126,8 +134,12 @@ fn nearest(length: f64, pitch: f64, is_cell: bool) -> f64 {
     } else {
         pitches
     };
-    // Without the digits that decimal fractions leave behind, and without -0.
-    (pitches * pitch * 1e9).round() / 1e9 + 0.0
+    rounded(pitches * pitch)
+}
+
+/// Without the digits that decimal fractions leave behind, and without -0.
+fn rounded(millimetres: f64) -> f64 {
+    (millimetres * 1e9).round() / 1e9 + 0.0
 }
 
 fn with_comment(words: String, comment: &str) -> String {
@@ -140,12 +152,17 @@ fn with_comment(words: String, comment: &str) -> String {
 impl std::fmt::Display for Move {
     fn fmt(&self, f: &mut std::fmt::Formatter<'_>) -> std::fmt::Result {
         let Move { line, from, to } = self;
-        match (&from[..], &to[..]) {
-            ([x, y], [u, v]) => write!(
+        match [from, to].map(|all| {
+            all.iter()
+                .map(|&length| rounded(length))
+                .collect::<Vec<f64>>()
+        }) {
+            [from, to] if from.len() == 2 => write!(
                 f,
-                "line {line}: ({x} mm, {y} mm) is moved to ({u} mm, {v} mm)"
+                "line {line}: ({} mm, {} mm) is moved to ({} mm, {} mm)",
+                from[0], from[1], to[0], to[1]
             ),
-            _ => write!(
+            [from, to] => write!(
                 f,
                 "line {line}: a cell of {} mm becomes one of {} mm",
                 from[0], to[0]

@@ -143,6 +143,22 @@ fn mesh(board: &Board, whole: &Whole, lines: Option<&Lines>) {
     }
 }
 
+/// Whether copper of a text is united. What comes of that has none left to be united.
+fn is_merged(text: &str) -> bool {
+    match text::merge(text) {
+        Ok(merged) => {
+            let again = text::merge(&merged.text).expect(&merged.text);
+            assert_eq!(again.text, merged.text);
+            assert!(again.united.is_empty() && again.warnings.is_empty());
+            !merged.united.is_empty()
+        }
+        Err(why) => {
+            assert_names_a_line(&why, text.as_bytes());
+            false
+        }
+    }
+}
+
 #[test]
 fn no_damaged_text_is_too_much() {
     let mut dice = Dice(3);
@@ -151,7 +167,7 @@ fn no_damaged_text_is_too_much() {
         .to_vec();
     texts.push(ALL_KINDS.to_string());
     text::parse_whole(ALL_KINDS).expect("a board");
-    let (mut taken, mut refused) = (0, 0);
+    let (mut taken, mut refused, mut merged) = (0, 0, 0);
     for time in 0..TIMES {
         let mut text = texts[(time % 4) as usize].clone();
         for _ in 0..=dice.below(3) {
@@ -163,6 +179,14 @@ fn no_damaged_text_is_too_much() {
             0 => with_other_bytes(text.as_bytes(), &mut dice),
             _ => text.into_bytes(),
         };
+        if let Ok(text) = text::text_of(&bytes) {
+            merged += u64::from(is_merged(text));
+            let snapped = text::snap(text, 0.25);
+            assert!(snapped.map_or_else(
+                |why| why.line.is_some(),
+                |snapped| snapped.text.len() < 1 << 20
+            ));
+        }
         match text::parse_bytes(&bytes) {
             Ok(whole) => {
                 use_up(&whole, time % MESHED == 0);
@@ -174,6 +198,7 @@ fn no_damaged_text_is_too_much() {
             }
         }
     }
+    assert!(merged > 30, "{merged}");
     assert!(taken > 1_000 && refused > 1_000, "{taken} {refused}");
 }
 
