@@ -451,7 +451,7 @@ impl System {
                 .map(|edge| edge.conductance * drop(edge))
                 .collect(),
             edge_watts: self.edges.iter().map(watts).collect(),
-            above,
+            above: above[..self.nodes].to_vec(),
             lone: self.lone_beside(held),
         }
     }

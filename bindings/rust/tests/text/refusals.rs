@@ -202,9 +202,11 @@ fn what_is_given_twice_or_too_late_names_both_lines() {
         "channel 0 0 0 0 1 1 1",
         "terminal in 1 A pad 0",
         "refine 0 0 1 1 1",
+        "sheet 0 0 1 1 2",
     ] {
         let said = unclear(&format!("\n{first}\nrefine 0 0 1 1 1\npitch 1\n"));
-        let words = "line 4: pitch stands before layers, polygons, links, terminals, refine and across, as on line 2";
+        let words =
+            "line 4: pitch stands before layers, polygons, links, terminals, sheet, refine and across, as on line 2";
         assert_eq!(said, words, "{first}");
     }
 }
