@@ -1,13 +1,13 @@
 //! What flows through straight lines across copper.
 //!
 //! The elements' currents are balanced at the nodes and not along their sides, so a sum of what runs through a line
-//! would depend on the cells there. [`Cuts`] adds up what the nodes on one side of a line pass on to those on the other:
-//! through the copper along the line, by the elements that it runs through; at a node inside a side that the line
-//! crosses, what the side's end on this side gives to it or takes from it; and where the copper of one side ends at an
-//! inner corner and that of the other goes on, what the corner's node gives to the cells beyond. So the current through
-//! a cut from edge to edge is what the terminals behind it drive, as exactly as the solution is, whatever the cells are.
-//! What lies in the area of a link's end is at one potential, and what flows there has no place: a line that meets a cell
-//! of such an area isn't cut.
+//! would depend on the cells there. [`Cuts`] adds up what the nodes on one side of a line pass on to those on the
+//! other: through the copper along the line, by the elements that it runs through; at a node inside a side that the
+//! line crosses, what the side's end on this side gives to it or takes from it; and where the copper of one side ends
+//! at an inner corner and that of the other goes on, what the corner's node gives to the cells beyond. So the current
+//! through a cut from edge to edge is what the terminals behind it drive, as exactly as the solution is, whatever the
+//! cells are (docs/CONDUCTANCES.md, "Through a line"). What lies in the area of a link's end is at one potential, and
+//! what flows there has no place: a line that meets a cell of such an area isn't cut.
 
 use super::element::{rect_of, Element};
 use super::pads::Pads;

@@ -10,8 +10,8 @@ const EVEN: f64 = 1e-12;
 impl Solution {
     /// Of each cell of a mesh's net the power that it takes, or would if its cells were finer, since the current isn't
     /// the same all over it: what it takes beyond the current at its centre, and what the jumps of the current to the
-    /// cells beside it stand for, spread over the cell. 0 where the current is even, however much flows: so
-    /// [`Mesh::refine_hottest`] by these splits no straight copper. Of a solution on the cells.
+    /// cells beside it stand for. 0 where the current is even, however much flows there, so that
+    /// [`Mesh::refine_hottest`] by these leaves straight copper for the last. Of a solution on the cells.
     ///
     /// A jump across a border of length l counts r_sheet · jump² · l · h / 24 in a cell of size h behind it, which is
     /// the estimate of Kelly and others (1983).
