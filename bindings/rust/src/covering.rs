@@ -22,7 +22,8 @@ impl Mesh {
     /// fine.refine_many([0, 1, 2, 3])?;
     /// let regions = coarse.regions_to(&fine).expect("regions");
     /// let rects: Vec<_> = regions.iter().map(|region| (region.rect, region.level)).collect();
-    /// assert_eq!(rects, [([0, 0, 8, 4], 2), ([8, 0, 16, 8], 1)]);
+    /// // The cell beside them is split by balance.
+    /// assert_eq!(rects, [([0, 0, 8, 4], 2)]);
     /// # Ok::<(), Box<dyn std::error::Error>>(())
     /// ```
     pub fn regions_to(&self, finer: &Mesh) -> Option<Vec<Region>> {

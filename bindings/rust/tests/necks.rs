@@ -144,7 +144,7 @@ fn lines_of_a_text_are_told_what_flows_through_them() {
     let across = std::fs::read_to_string(sample_name("across.txt")).expect("a sample");
     let with = |lines: &str| format!("{across}{lines}");
     let table = solved(&with(
-        "across middle 1 0 7 2 7 2.2\nacross half 1 0 7.2 2.2 7.2 2.1\nacross pad 1 0 3 0 3 4\nacross axis 1 0 0 2.1 13 2.1\n",
+        "across middle 1 0 7 2 7 2.2\nacross half 1 0 7.2 2.2 7.2 2.1\nacross pad 1 0 3 0 3 4\n",
     ));
     // Length of copper, A, mean and largest A/mm.
     let close = |found: &[f64], wanted: [f64; 4]| {
@@ -178,15 +178,30 @@ fn lines_of_a_text_are_told_what_flows_through_them() {
         .contains("warning: line 8: a record has no lines across copper\n"));
     // Its line is named in a file, too.
     let folder = Folder::new("across");
+    let form = "across NAME LAYER COMPONENT X0 Y0 X1 Y1";
+    let no_sense = format!("cannot make sense of \"across 1 0 7 0 7 4\"; its form is: {form}");
+    let past = "is past the range of a coordinate; the nearest is 249.999988126 mm";
+    let far = format!("999 mm {past}");
+    let none = |name: &str, layer: u32| {
+        format!("across {name}: crosses no copper of layer {layer}, component 0")
+    };
+    let [off, edge, other] =
+        [("off", 1), ("edge", 1), ("other", 2)].map(|(name, layer)| none(name, layer));
     for (line, why) in [
-        ("across off 1 0 20 0 20 4", "across off: crosses no copper of layer 1, component 0"),
-        ("across edge 1 0 0 0 0 4", "across edge: crosses no copper of layer 1, component 0"),
-        ("across other 2 0 7 0 7 4", "across other: crosses no copper of layer 2, component 0"),
-        ("across slant 1 0 7 0 8 4", "the line is slanted: x0 = x1 or y0 = y1"),
+        ("across off 1 0 20 0 20 4", &*off),
+        ("across edge 1 0 0 0 0 4", &*edge),
+        ("across other 2 0 7 0 7 4", &*other),
+        (
+            "across slant 1 0 7 0 8 4",
+            "the line is slanted: x0 = x1 or y0 = y1",
+        ),
         ("across dot 1 0 7 2 7 2", "the line has no length"),
-        ("across 1 0 7 0 7 4", "cannot make sense of \"across 1 0 7 0 7 4\"; its form is: across NAME LAYER COMPONENT X0 Y0 X1 Y1"),
-        ("across far 1 0 999 0 999 4", "999 mm is past the range of a coordinate; the nearest is 249.999988126 mm"),
-        ("across a 1 0 7 0 7 4\nacross a 1 0 8 0 8 4", "a line across a is on line 23 already"),
+        ("across 1 0 7 0 7 4", &*no_sense),
+        ("across far 1 0 999 0 999 4", &*far),
+        (
+            "across a 1 0 7 0 7 4\nacross a 1 0 8 0 8 4",
+            "a line across a is on line 23 already",
+        ),
     ] {
         let name = folder.put("board.txt", with(&format!("{line}\n")).as_bytes());
         let said = refused(BOARD, &["solve", &name], b"");
@@ -239,8 +254,8 @@ fn rounds_leave_straight_copper_alone() {
     // 261.4 squares: 38 of the first and the last run, 18 of each other one, 1 of each turn, and 0.5587 of each corner.
     let ohms: f64 = said
         .lines()
-        .filter_map(|line| line.split(" leaves, ").nth(1)?.split(" ohm").next())
-        .last()
+        .rev()
+        .find_map(|line| line.split(" leaves, ").nth(1)?.split(" ohm").next())
         .expect("ohms")
         .parse()
         .expect("a number");

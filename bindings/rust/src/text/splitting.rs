@@ -230,7 +230,7 @@ pub fn with_splits(text: &str, ids: &[usize]) -> String {
 /// where the text has a pitch, and otherwise in ticks.
 ///
 /// ```
-/// let text = "target 8\npolygon 1 0 1\n0 0\n8 0\n8 8\n0 8 # the last corner";
+/// let text = "level 2\ntarget 8\npolygon 1 0 1\n0 0\n8 0\n8 8\n0 8 # the last corner";
 /// let region = leafmesh::Region { rect: [0, 0, 8, 4], level: 2, layer: None };
 /// let refined = leafmesh::text::with_regions(text, &[region], None);
 /// assert_eq!(refined, format!("{text}\nrefine 0 0 8 4 2\n"));
