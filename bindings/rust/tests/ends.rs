@@ -120,7 +120,7 @@ fn words_that_make_no_sense_are_told_with_the_usage() {
             [&["csv"], &TERMINALS[..]].concat(),
             "--terminal says nothing without --power",
         ),
-        (BOARD, vec!["refine"], "--rounds is missing"),
+        (BOARD, vec!["refine"], "--rounds or --until is missing"),
         (
             BOARD,
             vec!["refine", "--rounds", "0"],

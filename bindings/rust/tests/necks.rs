@@ -108,7 +108,10 @@ fn as_many_necks_as_are_asked_for() {
     let (count, table) = necks(&["--necks", "all"]);
     assert_eq!(count, 23);
     assert!(!table.contains("more"), "{table}");
-    // All carry the same current over the same width.
+    // All carry the same current over the same width, and stand by their place.
+    let first = table.lines().find(|line| line.starts_with("layer 1, "));
+    let first = first.expect("a neck");
+    assert!(first.contains(" at (0.5 mm, 3.5 mm), along y "), "{first}");
     for line in table.lines().filter(|line| line.starts_with("layer 1, ")) {
         assert!(
             line.ends_with(" 2            2") || line.ends_with(" -2            2"),

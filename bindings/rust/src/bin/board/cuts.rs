@@ -3,11 +3,15 @@
 use leafmesh::necks::{self, Neck, Runs};
 use leafmesh::solving::{Crossing, Cuts};
 use leafmesh::tool::{digits, say, Given, Solved};
+use leafmesh::TICK;
+use std::cmp::Reverse;
 use std::fmt::{self, Write};
 
 /// Why a line has no current.
 const UNDER_LINK: &str =
     "meets cells in which a link's end has an area: it is at one potential, and no current is known there";
+/// Means that differ by no more than this share of the largest are alike.
+const ALIKE: f64 = 1e-9;
 
 /// How many necks are shown.
 #[derive(Clone, Copy, Debug, PartialEq, Eq)]
@@ -60,7 +64,13 @@ impl Tables {
             .into_iter()
             .filter_map(|neck| Some((neck, cuts.through(&neck.cut())?)))
             .collect();
-        necks.sort_by(|(_, a), (_, b)| b.mean().total_cmp(&a.mean()));
+        // Those alike, but for what the iteration leaves, by their place.
+        let most = necks
+            .iter()
+            .map(|(_, crossing)| crossing.mean())
+            .fold(f64::MIN_POSITIVE, f64::max);
+        let rank = |crossing: &Crossing| (crossing.mean() / most / ALIKE).round() as i64;
+        necks.sort_by_key(|(neck, crossing)| (Reverse(rank(crossing)), *neck));
         Ok(Tables {
             across,
             necks,
@@ -174,11 +184,12 @@ fn name_of(given: &Given, neck: &Neck) -> String {
 
 /// Amperes, and the mean and the largest amperes a millimetre; what the iteration leaves is none.
 fn figures(solved: &Solved, crossing: &Crossing) -> [String; 3] {
-    let amperes = solved.without_rest(crossing.amperes);
-    let mean = if amperes == 0.0 {
-        0.0
-    } else {
-        crossing.mean() * 1e-3
-    };
-    [amperes, mean, crossing.largest * 1e-3].map(digits)
+    let metres = crossing.copper as f64 * TICK;
+    let through = [
+        crossing.amperes,
+        metres * crossing.mean(),
+        metres * crossing.largest,
+    ];
+    let [amperes, mean, most] = through.map(|amperes| solved.without_rest(amperes));
+    [amperes, mean * 1e-3 / metres, most * 1e-3 / metres].map(digits)
 }

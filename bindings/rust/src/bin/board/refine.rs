@@ -14,21 +14,21 @@ pub const REFINE: Command = Command {
     name: "refine",
     help: concat!(
         "\
-usage: board refine [FILE] (--rounds N | --until S | both) [--share S]
-                    [--leaves M] [--terminal WORDS] .. [--snap PITCH] [-o FILE]
+usage: board refine [FILE] (--rounds N | --until S) [--share S] [--leaves M]
+                    [--terminal WORDS] .. [--snap PITCH] [-o FILE]
 
-The board split where its current is least even: of a text the text as it stands
-and lines `refine` behind it, of a record a record. A round solves on the cells,
-splits the leaves in which, and round which, the current changes most, and
-balances; a line on standard error tells what came of it. Where no more is to be
-split, or there is no more room, what was reached by then is written.
+The board split where its current is least even: of a text the text as it
+stands and lines `refine` behind it, of a record a record. A round solves on the
+cells, splits the leaves in which, and round which, the current changes most,
+and balances; a line on standard error tells what came of it. Where no more is
+to be split, or there is no more room, what was reached by then is written.
 
   --rounds N        so many rounds at most
-  --until S         a round that moves the resistance by less than this share, as
-                    0.1% or 0.001, is the last; of more than two terminals the
-                    power
-  --share S         a round splits this share of the leaves that can be split, as
-                    0.25 or 1/4; 1/6 without it
+  --until S         a round that moves the resistance by less than this share,
+                    as 0.1% or 0.001, is the last; of more than two terminals
+                    the power
+  --share S         a round splits this share of the leaves that can be split,
+                    as 0.25 or 1/4; 1/6 without it
   --leaves M        the mesh before the round that would pass so many leaves is
                     the last
 ",
