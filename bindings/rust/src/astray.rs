@@ -2,12 +2,12 @@
 
 use crate::links::{Link, Links};
 use crate::unmeshed::Unmeshed;
-use crate::{Point, Rect};
+use crate::{Pad, Point, Rect};
 use std::collections::BTreeMap;
 use std::fmt;
 
 /// A via or a channel of which no copper of its layer and component lies at an end: the library takes the nearest node,
-/// however far away that is.
+/// however far away that is. An end that has an area has to have a part of it in common with copper.
 #[derive(Clone, Copy, Debug, PartialEq, Eq)]
 pub struct Astray {
     /// Which one.
@@ -41,6 +41,8 @@ struct End {
     component: u32,
     place: Point,
     rect: Rect,
+    /// Whether all of its area is one potential, so that it has to have an area in common with copper.
+    is_pad: bool,
 }
 
 impl End {
@@ -48,10 +50,20 @@ impl End {
         let [x0, y0, x1, y1] = self.rect;
         x0 < x1 && y0 < y1
     }
+
+    /// Whether copper lies there: a footprint's border counts for nodes, and not for a pad.
+    fn is_on(&self, copper: &Rect) -> bool {
+        let common = |axis: usize| {
+            let [low, high] = [axis, axis + 2];
+            copper[high].min(self.rect[high]) - copper[low].max(self.rect[low])
+        };
+        let least = i64::from(self.is_pad);
+        common(0) >= least && common(1) >= least
+    }
 }
 
 /// The ends of one link that have a place; a contact's have none.
-fn ends_of(one: Links) -> Vec<End> {
+fn ends_of(link: Link, one: Links, pads: &[Pad]) -> Vec<End> {
     let of_vias = one.vias.iter().flat_map(|via| {
         let footprint = via.footprint;
         let place = [footprint.x, footprint.y];
@@ -60,25 +72,30 @@ fn ends_of(one: Links) -> Vec<End> {
         } else {
             point(place)
         };
-        [via.bottom, via.top].map(|layer| End {
-            layer,
-            component: via.component,
-            place,
-            rect,
-        })
+        [via.bottom, via.top].map(|layer| (layer, via.component, place, rect))
     });
     let of_channels = one.channels.iter().flat_map(|channel| {
         [channel.drain, channel.source].map(|end| {
             let place = [end.x, end.y];
-            End {
-                layer: one.channel_layer,
-                component: end.component,
-                place,
-                rect: point(place),
-            }
+            (one.channel_layer, end.component, place, point(place))
         })
     });
-    of_vias.chain(of_channels).collect()
+    let ends = of_vias.chain(of_channels).enumerate();
+    ends.map(|(number, (layer, component, place, rect))| {
+        let pad = pads.iter().find(|pad| pad.end == (link, number));
+        End {
+            layer,
+            component,
+            place: pad.map_or(place, |pad| middle(pad.rect)),
+            rect: pad.map_or(rect, |pad| pad.rect),
+            is_pad: pad.is_some(),
+        }
+    })
+    .collect()
+}
+
+fn middle([x0, y0, x1, y1]: Rect) -> Point {
+    [x0 + (x1 - x0) / 2, y0 + (y1 - y0) / 2]
 }
 
 fn point([x, y]: Point) -> Rect {
@@ -99,15 +116,15 @@ impl Coppers {
     }
 
     /// What is wrong with a link that finds copper of its layers and components somewhere: a via from a layer to
-    /// itself, or an end that lies on none and on no side of any.
-    pub fn judge(&self, link: Link, one: Links) -> Result<(), Unmeshed> {
+    /// itself, or an end that lies on none and on no side of any, or that is a pad and has no area of any.
+    pub fn judge(&self, link: Link, one: Links, pads: &[Pad]) -> Result<(), Unmeshed> {
         if let (Link::Via(at), [via]) = (link, one.vias) {
             if via.bottom == via.top {
                 let layer = via.bottom;
                 return Err(Unmeshed::SameLayer(SameLayer { via: at, layer }));
             }
         }
-        for (number, end) in ends_of(one).into_iter().enumerate() {
+        for (number, end) in ends_of(link, one, pads).into_iter().enumerate() {
             let nearest = self.nearest(&end);
             if let Some(nearest) = nearest {
                 return Err(Unmeshed::Astray(Astray {
@@ -127,22 +144,15 @@ impl Coppers {
     /// The place on copper that is nearest to an end which lies on none.
     fn nearest(&self, end: &End) -> Option<Point> {
         let copper = self.0.get(&(end.layer, end.component))?;
-        let gap = |rect: &Rect| {
-            let apart = |axis: usize| {
-                let [low, high] = [
-                    rect[axis].max(end.rect[axis]),
-                    rect[axis + 2].min(end.rect[axis + 2]),
-                ];
-                i128::from((low - high).max(0))
-            };
-            apart(0).pow(2) + apart(1).pow(2)
+        if copper.iter().any(|rect| end.is_on(rect)) {
+            return None;
+        }
+        let on = |rect: &Rect| [0, 1].map(|axis| end.place[axis].clamp(rect[axis], rect[axis + 2]));
+        let apart = |place: &Point| {
+            let [x, y] = [0, 1].map(|axis| i128::from(place[axis] - end.place[axis]));
+            x * x + y * y
         };
-        let (least, rect) = copper
-            .iter()
-            .map(|rect| (gap(rect), rect))
-            .min_by_key(|(gap, _)| *gap)?;
-        let on = |axis: usize| end.place[axis].clamp(rect[axis], rect[axis + 2]);
-        (least > 0).then(|| [on(0), on(1)])
+        copper.iter().map(on).min_by_key(apart)
     }
 }
 
@@ -156,7 +166,9 @@ impl Astray {
     /// Which of its ends has no copper.
     pub(crate) fn whose(&self) -> String {
         let end = match (self.link, self.end) {
+            (Link::Channel(_), 0) if self.has_area => "drain's footprint",
             (Link::Channel(_), 0) => "drain",
+            (Link::Channel(_), _) if self.has_area => "source's footprint",
             (Link::Channel(_), _) => "source",
             _ if self.has_area => "footprint",
             _ => "via",

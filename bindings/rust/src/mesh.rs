@@ -8,8 +8,8 @@ use crate::sides::has_side;
 use crate::unmeshed::{refused, Idle, Loose, TooLong, Unmeshed};
 use crate::{
     contact, power, Board, Border, CellName, Hanging, Head, Leaf, LeafBorder, Link, Links, Net,
-    NetRows, Pad, Point, Polygons, Reason, Rect, Refusal, Region, Settings, Table, MAX_LEVEL,
-    NO_CELL, SLOT, SLOTS,
+    NetRows, Point, Polygons, Reason, Rect, Refusal, Region, Settings, Table, MAX_LEVEL, NO_CELL,
+    SLOT, SLOTS,
 };
 use std::collections::BTreeSet;
 
@@ -357,8 +357,7 @@ impl Mesh {
     /// # Errors
     ///
     /// Those of [`Table::linked_network`] and of [`Mesh::net`]; for the first link that joins nothing [`Unmeshed::Idle`],
-    /// that has an area without its copper [`Unmeshed::BareArea`], that ends on no copper [`Unmeshed::Astray`], or that is
-    /// a via from a layer to itself [`Unmeshed::SameLayer`].
+    /// that ends on no copper [`Unmeshed::Astray`], or that is a via from a layer to itself [`Unmeshed::SameLayer`].
     pub fn linked_net(&self, links: Links) -> Result<Net, Unmeshed> {
         if let Some(overlap) = first_overlap(self.polygons.outlines()) {
             return Err(Unmeshed::Overlap(overlap));
@@ -368,19 +367,12 @@ impl Mesh {
             return Err(self.why_loose(&net, hanging));
         }
         let made: BTreeSet<Link> = net.joints.iter().map(|joint| joint.link).collect();
-        let leaves: Vec<Leaf> = self.leaves().collect();
-        let is_bare = |pad: &&Pad| !leaves.iter().any(|leaf| pad.covers(leaf));
-        let bare = net.pads.iter().filter(is_bare);
-        let bare: BTreeSet<Link> = bare.map(|pad| pad.end.0).collect();
         let coppers = self.coppers();
         for (link, one) in links.each() {
             if !made.contains(&link) {
                 return Err(Unmeshed::Idle(Idle { link }));
             }
-            if bare.contains(&link) {
-                return Err(Unmeshed::BareArea(link));
-            }
-            coppers.judge(link, one)?;
+            coppers.judge(link, one, &net.pads)?;
         }
         Ok(net)
     }

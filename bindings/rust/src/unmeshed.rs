@@ -20,9 +20,8 @@ pub enum Unmeshed {
     Overlap(Overlap),
     /// A link joins nothing: the library passes it over.
     Idle(Idle),
-    /// A link whose end has an area ([`Links::areas`](crate::Links::areas)) in which none of its copper lies.
-    BareArea(Link),
-    /// A via or a channel ends where there is no copper of its layer and component.
+    /// A via or a channel ends where there is no copper of its layer and component, or in an area
+    /// ([`Links::areas`](crate::Links::areas)) without such.
     Astray(Astray),
     /// A via joins a layer to itself.
     SameLayer(SameLayer),
@@ -80,7 +79,6 @@ impl fmt::Display for Unmeshed {
             Unmeshed::Loose(loose) => loose.fmt(f),
             Unmeshed::Overlap(overlap) => overlap.fmt(f),
             Unmeshed::Idle(idle) => idle.fmt(f),
-            Unmeshed::BareArea(link) => write!(f, "{link} {BARE_AREA}"),
             Unmeshed::Astray(astray) => astray.fmt(f),
             Unmeshed::SameLayer(via) => via.fmt(f),
         }
@@ -88,10 +86,6 @@ impl fmt::Display for Unmeshed {
 }
 
 impl Error for Unmeshed {}
-
-/// What is said of a link with such an area.
-pub(crate) const BARE_AREA: &str =
-    "has an end without copper of its layer and component in its footprint";
 
 impl Idle {
     /// What is missing.

@@ -488,10 +488,11 @@ fn areas_that_make_no_sense_are_refused() {
             .areas
             .push(source(0, footprint([20.0, 4.0], [1.0, 1.0])))
     });
-    assert_eq!(off, Unmeshed::BareArea(Link::Channel(0)));
-    assert!(off
-        .to_string()
-        .starts_with("channel 0 has an end without copper"));
+    let Unmeshed::Astray(astray) = off else {
+        panic!("{off}");
+    };
+    assert_eq!((astray.link, astray.end), (Link::Channel(0), 1));
+    assert!(off.to_string().contains("lies at its source's footprint"));
     assert!(Links::default().pads().expect("none").is_empty());
 }
 

@@ -86,6 +86,40 @@ fn a_link_on_the_copper_or_its_side_is_taken() {
     assert_eq!(said, format!("line 22: {words}\n"));
 }
 
+/// A footprint counts by its area and not by its middle; where it only touches, its copper isn't there.
+#[test]
+fn a_channels_footprint_and_a_barrel_need_an_area_of_copper() {
+    let joined = |line: &str| with(&format!("{line}\nvia 1 2 0 5 2.5 0 0 0.001"));
+    for line in [
+        "channel 0 at 10.2 2.5 0.5 0.5 1 at 12.5 2.5 0.5 0.5 1",
+        "via 1 2 0 10.2 2.5 0.5 0.5 0.001 barrel",
+    ] {
+        made(BOARD, &["solve"], joined(line).as_bytes());
+    }
+    for (line, whose) in [
+        (
+            "channel 0 at 10.5 2.5 0.5 0.5 1 at 12.5 2.5 0.5 0.5 1",
+            "layer 2, component 0 lies at its drain's footprint, (10.5 mm, 2.5 mm)",
+        ),
+        (
+            "channel 0 at 9 2.5 0.5 0.5 1 at 15 2.5 0.5 0.5 1",
+            "layer 2, component 1 lies at its source's footprint, (15 mm, 2.5 mm)",
+        ),
+        (
+            "via 1 2 0 10.5 2.5 0.5 0.5 0.001 barrel",
+            "layer 1, component 0 lies at its footprint, (10.5 mm, 2.5 mm)",
+        ),
+    ] {
+        let said = refused(BOARD, &["solve"], joined(line).as_bytes());
+        assert!(
+            said.starts_with(&format!(
+                "line 22: no copper of {whose}: the nearest is at (1"
+            )),
+            "{said}"
+        );
+    }
+}
+
 #[test]
 fn a_mesh_tells_which_end_and_how_far() {
     let whole = text::parse_whole(&with("via 1 2 0 50 25 0 0 0.001")).expect("a board");

@@ -6,7 +6,7 @@ use super::unit::Unit;
 use super::{Lines, Unclear};
 use crate::limits::MEANS_DEFAULT;
 use crate::merging::Overlap;
-use crate::unmeshed::{strips_of, west_of, Loose, TooLong, Unmeshed, BARE_AREA};
+use crate::unmeshed::{strips_of, west_of, Loose, TooLong, Unmeshed};
 use crate::{Astray, Board, Link, Point, Reason, Rect, Refusal, Settings, MAX_LEVEL};
 use std::fmt;
 
@@ -110,10 +110,6 @@ impl Fault {
             Unmeshed::Idle(idle) => Fault {
                 part: Some(Part::Link(idle.link)),
                 words: idle.words().to_string(),
-            },
-            Unmeshed::BareArea(link) => Fault {
-                part: Some(Part::Link(link)),
-                words: BARE_AREA.to_string(),
             },
             Unmeshed::Astray(astray) => Fault::of_astray(astray, unit),
             Unmeshed::SameLayer(same) => Fault {
