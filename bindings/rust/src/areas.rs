@@ -68,15 +68,19 @@ impl Links<'_> {
     ///
     /// # Errors
     ///
-    /// [`Reason::OutOfRange`] for one of a link that isn't there, without an area, or out of range.
+    /// [`Reason::OutOfRange`] for one of a link that isn't there, without an area, out of range, or given twice.
     pub fn pads(&self) -> Result<Vec<Pad>, Refusal> {
         let pads = self.areas.iter().map(|area| self.pads_of(area));
         let pads: Option<Vec<Vec<Pad>>> = pads.collect();
-        let pads = pads.ok_or(Refusal {
+        let pads = pads.map(|pads| pads.concat());
+        let is_once = |pads: &Vec<Pad>| {
+            let ends: BTreeSet<LinkEnd> = pads.iter().map(|pad| pad.end).collect();
+            ends.len() == pads.len()
+        };
+        pads.filter(is_once).ok_or(Refusal {
             reason: Reason::OutOfRange,
             place: 0,
-        })?;
-        Ok(pads.concat())
+        })
     }
 
     fn pads_of(&self, area: &Area) -> Option<Vec<Pad>> {

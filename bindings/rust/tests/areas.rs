@@ -478,15 +478,15 @@ fn areas_that_make_no_sense_are_refused() {
         source(1, good),
         source(0, thin),
         source(0, far),
+        // A second one of the same end.
+        source(0, good),
         Area::Barrel { via: 0 },
     ] {
         let why = refused(&|links| links.areas.push(area));
         assert!(matches!(why, Unmeshed::Refused(why) if why.reason == Reason::OutOfRange));
     }
     let off = refused(&|links| {
-        links
-            .areas
-            .push(source(0, footprint([20.0, 4.0], [1.0, 1.0])))
+        links.areas[1] = source(0, footprint([20.0, 4.0], [1.0, 1.0]));
     });
     let Unmeshed::Astray(astray) = off else {
         panic!("{off}");
