@@ -37,6 +37,8 @@ pub struct SameLayer {
 
 /// An end of a link: where it asks for copper.
 struct End {
+    /// The first one of the link, or the second.
+    number: usize,
     layer: u16,
     component: u32,
     place: Point,
@@ -62,7 +64,7 @@ impl End {
     }
 }
 
-/// The ends of one link that have a place; a contact's have none.
+/// The ends of one link that have a place, an end that has pads by each of them; a contact's have none.
 fn ends_of(link: Link, one: Links, pads: &[Pad]) -> Vec<End> {
     let of_vias = one.vias.iter().flat_map(|via| {
         let footprint = via.footprint;
@@ -80,18 +82,26 @@ fn ends_of(link: Link, one: Links, pads: &[Pad]) -> Vec<End> {
             (one.channel_layer, end.component, place, point(place))
         })
     });
-    let ends = of_vias.chain(of_channels).enumerate();
-    ends.map(|(number, (layer, component, place, rect))| {
-        let pad = pads.iter().find(|pad| pad.end == (link, number));
-        End {
+    let mut ends = Vec::new();
+    for (number, (layer, component, place, rect)) in of_vias.chain(of_channels).enumerate() {
+        let own = pads.iter().filter(|pad| pad.end == (link, number));
+        let own: Vec<(Point, Rect, bool)> =
+            own.map(|pad| (middle(pad.rect), pad.rect, true)).collect();
+        let all = if own.is_empty() {
+            vec![(place, rect, false)]
+        } else {
+            own
+        };
+        ends.extend(all.into_iter().map(|(place, rect, is_pad)| End {
+            number,
             layer,
             component,
-            place: pad.map_or(place, |pad| middle(pad.rect)),
-            rect: pad.map_or(rect, |pad| pad.rect),
-            is_pad: pad.is_some(),
-        }
-    })
-    .collect()
+            place,
+            rect,
+            is_pad,
+        }));
+    }
+    ends
 }
 
 fn middle([x0, y0, x1, y1]: Rect) -> Point {
@@ -124,12 +134,12 @@ impl Coppers {
                 return Err(Unmeshed::SameLayer(SameLayer { via: at, layer }));
             }
         }
-        for (number, end) in ends_of(link, one, pads).into_iter().enumerate() {
+        for end in ends_of(link, one, pads) {
             let nearest = self.nearest(&end);
             if let Some(nearest) = nearest {
                 return Err(Unmeshed::Astray(Astray {
                     link,
-                    end: number,
+                    end: end.number,
                     layer: end.layer,
                     component: end.component,
                     place: end.place,

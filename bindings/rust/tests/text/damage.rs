@@ -162,14 +162,14 @@ fn is_merged(text: &str) -> bool {
 #[test]
 fn no_damaged_text_is_too_much() {
     let mut dice = Dice(3);
-    let mut texts: Vec<String> = ["neck.txt", "two_layers.txt", "comb.txt"]
+    let mut texts: Vec<String> = ["neck.txt", "two_layers.txt", "comb.txt", "overlap.txt"]
         .map(sample)
         .to_vec();
     texts.push(ALL_KINDS.to_string());
     text::parse_whole(ALL_KINDS).expect("a board");
     let (mut taken, mut refused, mut merged) = (0, 0, 0);
     for time in 0..TIMES {
-        let mut text = texts[(time % 4) as usize].clone();
+        let mut text = texts[(time % 5) as usize].clone();
         for _ in 0..=dice.below(3) {
             if !text.is_empty() {
                 text = damaged(&text, &mut dice);
