@@ -143,13 +143,12 @@ fn mesh(board: &Board, whole: &Whole, lines: Option<&Lines>) {
     }
 }
 
-/// Whether copper of a text is united. What comes of that has none left to be united.
+/// Whether copper of a text is united. What comes of that comes out as it is.
 fn is_merged(text: &str) -> bool {
     match text::merge(text) {
         Ok(merged) => {
             let again = text::merge(&merged.text).expect(&merged.text);
             assert_eq!(again.text, merged.text);
-            assert!(again.united.is_empty() && again.warnings.is_empty());
             !merged.united.is_empty()
         }
         Err(why) => {
