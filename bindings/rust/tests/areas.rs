@@ -572,6 +572,40 @@ fn a_text_gives_ends_their_areas() {
     );
 }
 
+/// In front of a footprint and behind it a cut carries what flows; through it no current has a place.
+#[test]
+fn a_line_through_a_footprint_is_refused() {
+    let table = |line: &str| {
+        let board = format!("{}across cut 1 0 {line}\n", pads(FEET));
+        text_made(BOARD, &["solve"], board.as_bytes())
+    };
+    let carried = table("1 0 1 4");
+    let figures: Vec<&str> = behind(&carried, "cut ").split_whitespace().collect();
+    assert_eq!(figures[..3], ["4", "10", "2.5"]);
+    let refuse = |line: &str| {
+        let board = format!("{}across cut 1 0 {line}\n", pads(FEET));
+        refused(BOARD, &["solve"], board.as_bytes())
+    };
+    // Through it, along its border, and through a cell that it lies in in part.
+    for line in ["3 0 3 4", "2.4 0 2.4 4", "2.1 0 2.1 4", "0 3 4 3"] {
+        let why = refuse(line);
+        assert!(
+            why.contains("line 17: across cut: meets cells in which a link's end has an area"),
+            "{line}: {why}"
+        );
+    }
+    // A neck under a footprint: how many there are is all that is said.
+    let board = "level 3\npitch 1\npolygon 1 0 0.0005\n0 0\n12 0\n12 4\n8 4\n8 2\n4 2\n4 4\n0 4\n\
+                 polygon 1 1 0.0005\n20 0\n24 0\n24 4\n20 4\nchannels 1\n\
+                 channel 0 at 6 1 0.5 0.5 1 at 22 2 0.5 0.5 0.002\n\
+                 terminal in 10 A end 1 0 west\nterminal out 0 V end 1 1 east\n";
+    let table = text_made(BOARD, &["solve"], board.as_bytes());
+    assert!(
+        table.contains("necks     none\n1 under areas of links"),
+        "{table}"
+    );
+}
+
 #[test]
 fn links_of_one_node_are_told_by_their_line() {
     let words = "one node: no value as the mesh gets finer";
