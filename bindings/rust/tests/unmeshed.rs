@@ -38,7 +38,8 @@ fn a_strip_of_more_than_cap_base_cells_is_named() {
     assert_eq!(why, long(40, 5));
     assert_eq!(
         why.to_string(),
-        "polygon 0, point 0: 5 base cells long; at most 4"
+        "polygon 0, point 0: 5 base cells long; at most 4: give its layer a larger cell, take a larger target, or draw two \
+         polygons that touch"
     );
     // Cells of 24 ticks, which it takes.
     let mesh = Mesh::new(SETTINGS, &[], two_strips(96)).expect("even cells");
