@@ -266,7 +266,7 @@ static void skyline(size_t n, int64_t unit, size_t heights)
 }
 
 /* How many rings and boards are drawn by chance for a row. */
-enum { DRAWINGS = 32 };
+enum { DRAWINGS = 96 };
 
 /* The same numbers whenever the program runs, and no order to be seen in them. */
 static uint64_t drawn(uint64_t below)
@@ -334,6 +334,27 @@ static void split_down(size_t root, size_t quadrant)
         PREPARE(leafmesh_refine, refine);
         id = count + quadrant;
         keep_head();
+    }
+}
+
+/* Two roots, before any split, change their slots. */
+static void exchange_roots(uint64_t i, uint64_t j)
+{
+    for (size_t k = 0; k < LEAFMESH_SLOT; k++) {
+        int64_t number = table[LEAFMESH_SLOT * i + k];
+        table[LEAFMESH_SLOT * i + k] = table[LEAFMESH_SLOT * j + k];
+        table[LEAFMESH_SLOT * j + k] = number;
+    }
+}
+
+/* The sorts of places go deeper where roots come backwards, or some of them out of turn. */
+static void disturb_roots(int backwards)
+{
+    for (uint64_t i = 0; backwards && i < count / 2; i++) {
+        exchange_roots(i, count - 1 - i);
+    }
+    for (int i = 0; !backwards && i < 20; i++) {
+        exchange_roots(drawn(count), drawn(count));
     }
 }
 
@@ -544,10 +565,23 @@ static void board_of_drawn_splits(void)
     make_net();
 }
 
+static void board_in_no_order(int drawing)
+{
+    square_board(20 + (int64_t)drawn(40), 3);
+    disturb_roots(drawing % 2);
+    split_anywhere(drawn(300));
+    make_net();
+}
+
 static void measure_links(void)
 {
     for (int i = 0; i < DRAWINGS; i++) {
         board_of_drawn_splits();
+        with_links();
+        MEASURE(leafmesh_edge_rows, edge_rows);
+        MEASURE(leafmesh_network, network);
+        link_count = 0;
+        board_in_no_order(i);
         with_links();
         MEASURE(leafmesh_edge_rows, edge_rows);
         MEASURE(leafmesh_network, network);
@@ -580,6 +614,8 @@ static void measure_net(void)
     MEASURE(leafmesh_network, network);
     for (int i = 0; i < DRAWINGS; i++) {
         board_of_drawn_splits();
+        MEASURE(leafmesh_network, network);
+        board_in_no_order(i);
         MEASURE(leafmesh_network, network);
     }
     board_with_net(60, 3);
