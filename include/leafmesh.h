@@ -48,7 +48,7 @@ extern "C" {
 /* The version of this header and its library; CHANGELOG.md says what changed. */
 #define LEAFMESH_VERSION "0.11.0"
 #define LEAFMESH_VERSION_MAJOR 0
-#define LEAFMESH_VERSION_MINOR 10
+#define LEAFMESH_VERSION_MINOR 11
 #define LEAFMESH_VERSION_PATCH 0
 
 /* Ranges. */
