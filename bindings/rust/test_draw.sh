@@ -6,6 +6,8 @@ set -eu
 . "$(dirname "$0")/../usage.sh"
 take_no_words "$@"
 cd "$(dirname "$0")/../.."
+# What the caller's variables name is not what is tried.
+unset LEAFMESH_LIBRARY LEAFMESH_PROGRAM CARGO_TARGET_DIR
 folder=$(mktemp -d)
 # What nobody may write is root's to write, so all is tried as nobody.
 chmod 755 "$folder"
