@@ -5,7 +5,7 @@ ghost use Rattle.std.specs.Prelude.{◌≡◌, ◌+◌, [], IfErr, IfOk, IfSome,
 ghost use Rattle.std.specs.Io.KnownBytes.{Appends, Keeps};
 ghost use Rattle.refusals.specs.Said.{accepted};
 ghost use Rattle.leafnet_text.specs.Output.{Prints, Tells, leafnet_says, output_text};
-ghost use Rattle.leafnet_text.specs.declared.rooms.TheConstants.{INPUT};
+ghost use Rattle.leafnet_text.specs.Rooms.{input_room};
 ghost use Rattle.leafnet_text.specs.Fronts.{AppendsFront, ConsumesFront};
 ghost use Rattle.leafnet_text.specs.Ends.{Answers, Fails};
 
@@ -76,7 +76,7 @@ pub fn leafnet<R: ReadEnd, W: WriteEnd>(
     ensures front { IfSome (R.remaining reader.old) (λ input.
         AppendsFront (W.contents writer.old) (W.contents writer.new) (output_text input)) }
     ensures left { OnOk result (IfSome (R.remaining reader.old) (λ input.
-        R.remaining reader.new ≡ Some (drop (INPUT + 1) input))) }
+        R.remaining reader.new ≡ Some (drop (input_room + 1) input))) }
     ensures gone { ConsumesFront (R.remaining reader.old) (R.remaining reader.new) }
 {
     let mut room = [0; INPUT + 1];
