@@ -32,3 +32,4 @@ pub mod Bands
 pub mod Eight
 pub mod Sheets
 pub mod Taken
+pub mod KeysInOrder

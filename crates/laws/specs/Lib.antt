@@ -13,3 +13,4 @@ pub mod MadeNets
 pub mod Bands
 pub mod Eight
 pub mod Records
+pub mod Orders

@@ -9,5 +9,6 @@ pub mod boundary;
 pub mod built;
 pub mod hanging;
 pub mod made;
+pub mod orders;
 pub mod records;
 pub mod samples;
