@@ -13,12 +13,12 @@ use Rattle.strips.specs.Rings.{ring_in_range, ring_slants}
 use Rattle.strips.specs.Strips.{strips_of}
 use Rattle.strips.proofs.Picking.{split, all_below}
 use Rattle.strips.proofs.Laying.{few-points}
-use Rattle.build.specs.Grid.{all_even, listed_at, cell_or, flat, roots_in}
+use Rattle.build.specs.Grid.{Root, all_even, listed_at, cell_or, flat, roots_in}
 use Rattle.build.specs.Board.{Board, ring_at, polygons, unit, size_at, strips_at, roots_to, roots_of}
 use Rattle.floats.specs.Fractions.{in_sheet}
 use Rattle.table.specs.Formed.{holds_whole_slots}
 use Rattle.build.specs.Says.{rows_shaped, layer_in, entry_in_range, entry_ok, list_ok, numbers_ok, settings_ok, judge_from, even_from, filled}
-use Rattle.build.specs.Steps.{IsTally, IsSurvey, Fit, Tabled, placed}
+use Rattle.build.specs.Steps.{IsTally, IsSurvey, Fit, Tabled, placed, room_in, alone_says, alone_leaves}
 use Rattle.build.proofs.Judging.{sum_more}
 use Rattle.build.proofs.Placing.{length-flat}
 
@@ -101,13 +101,16 @@ pub tabled : (t : List ℤ) → holds_whole_slots (length t) ≡ true → Tabled
 tabled t e = record { whole = eqb-true _ _ (and_left _ _ e); few = leb-true _ _ (and_right (eqb (length t % 8) 0) _ e) }
 
 -- the roots placed and the rest cleared
-pub cleared : (t u : List ℤ) (b : Board) (k : ℕ) → k ≡ length (roots_of b) → u ≡ placed t 0 (roots_of b) → length u ≡ length t → take (k * 8) u ++ replicate (length u - k * 8) (pos 0) ≡ filled b (length t)
-unfolding placed filled
-cleared t u b k e f n =
-    let rs = roots_of b in
+pub roots-cleared : (t u : List ℤ) (rs : List Root) (k : ℕ) → k ≡ length rs → u ≡ placed t 0 rs → length u ≡ length t → take (k * 8) u ++ replicate (length u - k * 8) (pos 0) ≡ flat rs ++ replicate (length t - length rs * 8) (pos 0)
+unfolding placed
+roots-cleared t u rs k e f n =
     let h : length (flat rs) ≡ k * 8 = length-flat rs ∙ ap (λ (x : ℕ). x * 8) (sym e) in
     let g : take (k * 8) u ≡ flat rs = ap (take (k * 8)) f ∙ take_at (flat rs) (drop ((0 + length rs) * 8) t) (k * 8) h in
     rw (g, n, e) refl
+
+pub cleared : (t u : List ℤ) (b : Board) (k : ℕ) → k ≡ length (roots_of b) → u ≡ placed t 0 (roots_of b) → length u ≡ length t → take (k * 8) u ++ replicate (length u - k * 8) (pos 0) ≡ filled b (length t)
+unfolding filled
+cleared t u b k e f n = roots-cleared t u (roots_of b) k e f n
 
 -- a board of one polygon
 module _ (b : Board) (f : Fit b) (one : length b.counts ≡ 1) where
@@ -120,6 +123,14 @@ module _ (b : Board) (f : Fit b) (one : length b.counts ≡ 1) where
   pub roots-alone : roots_of b ≡ roots_in 0 b.settings.cap (size_at b 0) (strips_of b.points)
   unfolding roots_to
   roots-alone = rw (one, ring-alone) (append-nil _)
+
+  pub says-alone : (slots : ℕ) → even_from b 0 (polygons b) (room_in slots (length (roots_of b))) ≡ alone_says (unit b) b.settings.cap (size_at b 0) (strips_of b.points) slots
+  unfolding even_from
+  says-alone slots = rw (roots-alone, one, ring-alone) refl
+
+  pub leaves-alone : (size : ℕ) → alone_leaves b.settings.cap (size_at b 0) (strips_of b.points) size ≡ filled b size
+  unfolding filled
+  leaves-alone size = rw roots-alone refl
 
   pub uneven-alone : all_even (unit b) b.settings.cap (size_at b 0) (strips_of b.points) ≡ false → (o : Said)
       → even_from b 0 (polygons b) o ≡ refused 5 0

@@ -1,13 +1,13 @@
 -- What the steps of the code promise one another. Internal.
-use Rattle.std.specs.Prelude.{ℕ, ◌+◌, ◌*◌, ◌/◌, ◌%◌, ◌<◌, ◌≤◌, min, ◌≡◌, true, false, List, ◌++◌, ℤ}
-use Rattle.std.specs.Prelude.{length, sum, take, drop, Option, Some, None, Result, Ok, Err, if◌then◌else◌, nat_lt}
+use Rattle.std.specs.Prelude.{ℕ, ◌+◌, ◌-◌, ◌*◌, ◌/◌, ◌%◌, ◌<◌, ◌≤◌, min, ◌≡◌, true, false, List, [], ◌∷◌, ◌++◌, ℤ, pos}
+use Rattle.std.specs.Prelude.{length, sum, take, drop, replicate, Option, Some, None, Result, Ok, Err, if◌then◌else◌, nat_lt}
 use Rattle.refusals.specs.Limits.{widest_level, max_cap, max_cell, max_points, max_polygons, max_slots}
 use Rattle.strips.specs.declared.walk.Strip.{Strip}
 use Rattle.build.specs.declared.grid.Cut.{Cut}
 use Rattle.build.specs.Board.{Board, ring_at, polygons, roots_of}
 use Rattle.build.specs.Says.{roots_head, even_from, room_for, filled}
 use Rattle.refusals.specs.declared.Refusal.{Refusal}
-use Rattle.refusals.specs.Said.{Said, refusal, said, if_accepted}
+use Rattle.refusals.specs.Said.{Said, accepted, refused, refusal, said, if_accepted}
 use Rattle.table.specs.Rows.{head_values}
 use Rattle.build.specs.Grid.{Root, flat, all_even, roots_in, listed_at, cell_or}
 
@@ -77,6 +77,21 @@ Surveyed b slots (Err x) = (o : Said) → even_from b 0 (polygons b) o ≡ refus
 pub record Tabled (t : List ℤ) : Type 0 where
   pub whole : length t % 8 ≡ 0
   pub few : length t / 8 ≤ max_slots
+
+-- what is said of an answer that is a number of roots
+abbrev pub roots_said : Result ℕ Refusal → Said
+roots_said = said (λ n. n ∷ [])
+
+-- more roots than slots, or their number
+abbrev pub room_in : ℕ → ℕ → Said
+room_in slots n = if nat_lt slots n then refused 6 0 else accepted (n ∷ [])
+
+-- what is said of a board of one polygon with these strips, and what it leaves
+abbrev pub alone_says : ℕ → ℕ → ℕ → List Strip → ℕ → Said
+alone_says u cap c ss slots = if all_even u cap c ss then room_in slots (length (roots_in 0 cap c ss)) else refused 5 0
+
+abbrev pub alone_leaves : ℕ → ℕ → List Strip → ℕ → List ℤ
+alone_leaves cap c ss size = flat (roots_in 0 cap c ss) ++ replicate (size - length (roots_in 0 cap c ss) * 8) (pos 0)
 
 -- what is said of an answer that is the number of a board's roots
 abbrev pub counted_said : Board → Result ℕ Refusal → Said

@@ -56,8 +56,9 @@ fn cut(board: &Judged<'_>, table: &mut [i64]) -> Result<usize, Refusal>
         heights: [0; RING_POINTS],
         edges: [0; RING_POINTS],
     };
-    if board.outlines.layers.len() == 1 {
-        return alone::cut_alone(board, &mut room, table);
+    if let [layer] = board.outlines.layers {
+        let cutter = board.cutter(*layer);
+        return alone::cut_alone(board.outlines.points, cutter, &mut room, table);
     }
     cut_many(board, &mut room, table)
 }
