@@ -1,6 +1,6 @@
 -- A strip's cells tile it: together they have its area, and no two overlap. Each is a root: in range, with positive sides that are
 -- multiples of the unit. Assumes nothing.
-use Rattle.std.proofs.Common.{ℕ, zero, suc, ◌+◌, ◌-◌, ◌*◌, ◌/◌, ◌%◌, ◌<◌, ◌≤◌, ◌≡◌, sym, ap, ◌∙◌, true, List, [], ◌∷◌, ◌++◌, arith, add-one, mul_comm, mul_assoc, mul-add, add-mul, mul-one, zero-mul, mul-zero, div-add-mod', mul-div_cancel, add-zero, zero-add, mul-suc, eqb-true}
+use Rattle.std.proofs.Common.{ℕ, zero, suc, ◌+◌, ◌-◌, ◌*◌, ◌/◌, ◌%◌, ◌<◌, ◌≤◌, ◌≡◌, sym, ap, ◌∙◌, true, List, [], ◌∷◌, ◌++◌, ◌⊎◌, inl, inr, ⊎_elim, arith, add-one, mul_comm, mul_assoc, mul-add, add-mul, mul-one, zero-mul, mul-zero, div-add-mod', mul-le-mul_left, mul-div_cancel, add-zero, zero-add, mul-suc, eqb-true}
 use Rattle.std.proofs.lemmas.List.Sums.{sum_by-append}
 use Rattle.cell.proofs.Contact.{and_left, and_right}
 use Rattle.refusals.specs.Limits.{coordinate}
@@ -42,6 +42,9 @@ module _ (w n u : ℕ) (some : 0 < w) (cut : 1 ≤ n) (e : w % (n * u) ≡ 0) wh
 pub step : (d i : ℕ) → d * (i + 1) ≡ d * i + d
 step d i = mul-add d i 1 ∙ ap (λ (x : ℕ). d * i + x) (mul-one d)
 
+pub pieces-apart : (x d i j : ℕ) → i < j → x + d * (i + 1) ≤ x + d * j
+pieces-apart x d i j h = let l : d * (i + 1) ≤ d * j = mul-le-mul_left d (omega arith) in omega arith
+
 pub record RootOk (u n : ℕ) (r : Root) : Type 0 where
   pub wide : (k : ℕ) × (r.x1 ≡ r.x0 + suc k * u)
   pub high : (k : ℕ) × (r.y1 ≡ r.y0 + suc k * u)
@@ -74,6 +77,15 @@ module _ (u n poly : ℕ) (s : Strip) (g : Cut) (below : poly < n) (sound : Soun
         top = omega (arith, pieces (height s) g.ny (j + 1) (omega arith), sound.tall, sound.top);
         polygon = below;
       }
+
+-- two cells of a strip lie in different columns or in different rows, and then one ends before the other begins
+pub cells-apart : (s : Strip) (g : Cut) (i j p q : ℕ) → (i < p) ⊎ (j < q)
+    → ((cell_of (row_of s g j) g.nx i).x1 ≤ (cell_of (row_of s g q) g.nx p).x0) ⊎ ((cell_of (row_of s g j) g.nx i).y1 ≤ (cell_of (row_of s g q) g.nx p).y0)
+cells-apart s g i j p q d =
+    ⊎_elim
+    (λ h. inl (pieces-apart s.x0 (width s / g.nx) i p h))
+    (λ h. inr (pieces-apart s.y0 (height s / g.ny) j q h))
+    d
 
 area-append : (a b : List Root) → area_of (a ++ b) ≡ area_of a + area_of b
 unfolding area_of
