@@ -25,6 +25,8 @@ mod records;
 #[cfg(test)]
 mod refused;
 #[cfg(test)]
+mod rooting;
+#[cfg(test)]
 mod sorting;
 #[cfg(test)]
 mod tables;
