@@ -3,8 +3,11 @@ use leafnet_command::files::FileSystem;
 use leafnet_command::request::USAGE;
 use leafnet_command::run::run;
 use leafnet_text::failure::Failure;
-use leafnet_text::lines::Text;
+use leafnet_text::input::Board;
+use leafnet_text::lines::{Text, put_edge};
+use leafnet_text::mesh::Mesh;
 use leafnet_text::{answer_to, leafnet};
+use net_rows::Edge;
 use refusals::Refusal;
 use std::io::{self, Error, ErrorKind, Read, Write};
 use std::process::Abort;
@@ -16,6 +19,11 @@ const SQUARE: &[u8] = &[
     0, 0, 0, 0, 0, 4, 0, 0, 0, 0, 0, 0, 0, 0, 0, 0, 0, 0, 0, 0, 0, 0, 0, 0, 0, 0, 0, 0, 0, 4, 0, 0,
     0, 0, 0, 0, 0, 0, 0, 0, 0, 0, 0, 0, 0, 4, 0, 0, 0, 0, 0, 0, 0, 4, 0, 0, 0, 0, 0, 0, 0, 0, 0, 0,
     0, 0, 0, 0, 0, 4, 0, 0,
+];
+
+// No polygon, at level 3.
+const EMPTY: &[u8] = &[
+    1, 0, 0, 0, 17, 3, 1, 0, 0, 0, 0, 0, 0, 0, 0, 4, 0, 0, 0, 0, 0, 0,
 ];
 
 const TEXT: &str = "cells 1 leaves 1 nodes 4 edges 4 splits 0
@@ -90,6 +98,27 @@ fn refusals(rt: HostRuntime) {
     assert_eq!(rt; text.as_str(), "refused 2 1\n");
     assert_eq!(rt; answer_to(&[0; 16_385], &mut text), Some(Refusal::NoRoom));
     assert_eq!(rt; text.as_str(), "refused 6 0\n");
+}
+
+// A mesh has the level of its board, where no text shows it too.
+#[test]
+fn a_mesh_without_cells(rt: HostRuntime) {
+    let level = Board::read(EMPTY)
+        .and_then(|board| Mesh::of_board(&board))
+        .map(|mesh| mesh.head.max_level);
+    assert_eq!(rt; level, Ok(3));
+}
+
+#[test]
+fn an_edge_that_is_no_number(rt: HostRuntime) {
+    let edge = Edge {
+        from: 0,
+        to: 1,
+        conductance: f64::NAN,
+    };
+    let mut text = Text::new();
+    put_edge(&mut text, &edge);
+    assert_eq!(rt; text.as_str(), "edge 0 1 7ff8000000000000\n");
 }
 
 #[test]

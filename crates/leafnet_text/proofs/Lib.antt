@@ -1,6 +1,7 @@
 -- Laws that the proofs of the functions cite.
 pub mod Refusing
 pub mod Numbered
+pub mod Bits
 pub mod Refining
 pub mod Fronts
 pub mod Steps

@@ -1,5 +1,6 @@
 -- The rows that a record was read to give its board. Assumes nothing.
 use Rattle.std.proofs.Common.{ℕ, ◌≤◌, ◌<◌, ◌≡◌, refl, sym, ap, ap₂, subst, ◌∙◌, true, List, [], ◌∷◌, map, leb, length, get_or, take, leb-true, Result, Ok, Err}
+use Rattle.std.specs.Prelude.{IsOkAnd}
 use mathlib.Core.List.{map-map}
 use lib.ListN.{length-map, length-replicate}
 use Rattle.refusals.specs.Said.{accepted}
@@ -17,7 +18,7 @@ use Rattle.record.specs.Board.{Board, Polygon, board, points_in}
 use Rattle.record.specs.Rows.{Rows, entry_row, polygon_row, sheet_of, point_row, rings, filled}
 use Rattle.record.specs.Reading.{counts_of, numbers, has_room, reading, says, leaves}
 use Rattle.leafnet_text.specs.Rooms.{layer_room, polygon_room, point_room, split_room, record_rows}
-use Rattle.leafnet_text.specs.Boards.{given, given_by, settings_of, board_in, column, AreNarrow}
+use Rattle.leafnet_text.specs.Boards.{Given, given, given_by, settings_of, board_in, column, AreNarrow}
 use Rattle.leafnet_text.specs.Output.{board_says, record_says}
 use Rattle.leafnet_text.proofs.Fronts.{front}
 use Rattle.leafnet_text.proofs.Narrowing.{record-narrow}
@@ -79,6 +80,12 @@ module _ (s : List ℕ) (b : Board) (p : board_in s ≡ Ok b) where
       let splits = leb-true _ _ (and_right (leb n.points (length record_rows.points)) _ ends) in
       record { layers = simp length-replicate at layers; polygons = simp length-replicate at polygons; points = simp length-replicate at points; splits = simp length-replicate at splits }
 
+-- what rows give, each up to its count
+abbrev pub given_from : Read → Rows → Given
+given_from r rows =
+    given (settings_of r.settings) (take r.counts.layers rows.layers) (column 0 (take r.counts.polygons rows.polygons)) (column 1 (take r.counts.polygons rows.polygons))
+    (take r.counts.polygons rows.sheets) (column 2 (take r.counts.polygons rows.polygons)) (take r.counts.points rows.points) (take r.counts.splits rows.splits)
+
 -- what holds of an accepted record, and the rows that it was read to
 pub record Held (s : List ℕ) (r : Read) (rows : Rows) : Type 0 where
   pub few_layers : r.counts.layers ≤ layer_room
@@ -86,9 +93,8 @@ pub record Held (s : List ℕ) (r : Read) (rows : Rows) : Type 0 where
   pub few_points : r.counts.points ≤ point_room
   pub few_splits : r.counts.splits ≤ split_room
   pub narrow : AreNarrow (take r.counts.polygons rows.polygons)
-  pub says : record_says (board_in s)
-      ≡ board_says (given (settings_of r.settings) (take r.counts.layers rows.layers) (column 0 (take r.counts.polygons rows.polygons)) (column 1 (take r.counts.polygons rows.polygons))
-      (take r.counts.polygons rows.sheets) (column 2 (take r.counts.polygons rows.polygons)) (take r.counts.points rows.points) (take r.counts.splits rows.splits))
+  pub says : record_says (board_in s) ≡ board_says (given_from r rows)
+  pub board : IsOkAnd (board_in s) (λ b. given_from r rows ≡ given_by b)
 
 module _ (s : List ℕ) (r : Read) (rows : Rows) (x : IsRead s r rows) where
   abbrev b : Board
@@ -129,9 +135,7 @@ module _ (s : List ℕ) (r : Read) (rows : Rows) (x : IsRead s r rows) where
       map-ext [] = refl
       map-ext (p ∷ ps) = ap₂ (λ (y : ℕ) (ys : List ℕ). y ∷ ys) (h p) (map-ext ps)
 
-  given-is : given (settings_of r.settings) (take r.counts.layers rows.layers) (column 0 (take r.counts.polygons rows.polygons)) (column 1 (take r.counts.polygons rows.polygons))
-      (take r.counts.polygons rows.sheets) (column 2 (take r.counts.polygons rows.polygons)) (take r.counts.points rows.points) (take r.counts.splits rows.splits)
-      ≡ given_by b
+  given-is : given_from r rows ≡ given_by b
   given-is =
       let layer = column-is 0 (λ p. p.layer) (λ p. refl) in
       let component = column-is 1 (λ p. p.component) (λ p. refl) in
@@ -147,6 +151,7 @@ module _ (s : List ℕ) (r : Read) (rows : Rows) (x : IsRead s r rows) where
         few_splits = rw x.counts room.splits;
         narrow = subst AreNarrow (sym polygons-front) (record-narrow s bytes b (found s b x.read).0);
         says = ap record_says x.read ∙ ap board_says (sym given-is);
+        board = subst (λ o. IsOkAnd o (λ b. given_from r rows ≡ given_by b)) (sym x.read) given-is;
       }
 
 pub held : (s : List ℕ) → ((i : ℕ) → get_or s i 0 < 256) → (r : Read) (rows : Rows) → accepted (numbers r.settings r.counts) ≡ says (board_in s)

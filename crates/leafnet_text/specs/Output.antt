@@ -67,6 +67,10 @@ net_says g row head splits =
 unfoldable pub table_says : Given → List ℤ → Head → ℕ → Said
 table_says g row head splits = unless_refused (list_says row head (order_in row head) (replicate leaf_room 0)) (net_says g row head splits)
 
+-- a board's mesh: its roots, the record's splits one by one, balance
+unfoldable pub mesh_says : Given → Said
+mesh_says g = unless_refused (roots_say g) (unless_refused (splits_say g) (balance_says g))
+
 -- a board: its roots, the record's splits one by one, balance
 unfoldable pub board_says : Given → Said
 board_says g =

@@ -1,5 +1,5 @@
 //! A record's board in rows of its own, as build, refine and network take it.
-ghost use Rattle.std.specs.Prelude.{◌≡◌, ◌≤◌, length, take};
+ghost use Rattle.std.specs.Prelude.{◌≡◌, ◌≤◌, IfErr, IfOk, IsOkAnd, length, take};
 ghost use Rattle.leafnet_text.specs.declared.rooms.TheConstants.{POINTS, SPLITS};
 ghost use Rattle.refusals.specs.declared.limits.TheConstants.{LAYERS, POLYGONS};
 ghost use Rattle.leafnet_text.specs.Boards.{AreNarrow, column};
@@ -56,12 +56,14 @@ pub struct Rows {
 }
 
 impl Rows {
-    ghost use Rattle.leafnet_text.specs.Boards.{board_in};
+    ghost use Rattle.leafnet_text.specs.Boards.{board_in, given_by};
     ghost use Rattle.leafnet_text.specs.Held.{given_in, given_of};
     ghost use Rattle.leafnet_text.specs.Output.{Prints, board_says, record_says};
 
     fn read(bytes: &[u8]) -> Result<Rows, Refusal>
-        ensures { Prints result (λ r. board_says (given_in r)) (record_says (board_in bytes.now)) }
+        ensures says { Prints result (λ r. board_says (given_in r)) (record_says (board_in bytes.now)) }
+        ensures board { IfOk result (λ r. IsOkAnd (board_in bytes.now) (λ b. given_in r ≡ given_by b)) }
+        ensures refusal { IfErr result (λ why. board_in bytes.now ≡ Err why) }
     {
         let mut list = [[0u64; 2]; LAYERS];
         let mut polygons = [[0u64; 3]; POLYGONS];
@@ -113,13 +115,15 @@ pub struct Board {
 }
 
 impl Board {
-    ghost use Rattle.leafnet_text.specs.Boards.{board_in};
+    ghost use Rattle.leafnet_text.specs.Boards.{board_in, given_by};
     ghost use Rattle.leafnet_text.specs.Held.{given_of};
     ghost use Rattle.leafnet_text.specs.Output.{Prints, board_says, record_says};
 
     /// The board of a record that fits the program's room.
     pub fn read(bytes: &[u8]) -> Result<Board, Refusal>
-        ensures { Prints result (λ b. board_says (given_of b)) (record_says (board_in bytes.now)) }
+        ensures says { Prints result (λ b. board_says (given_of b)) (record_says (board_in bytes.now)) }
+        ensures board { IfOk result (λ b. IsOkAnd (board_in bytes.now) (λ r. given_of b ≡ given_by r)) }
+        ensures refusal { IfErr result (λ why. board_in bytes.now ≡ Err why) }
     {
         let rows = Rows::read(bytes)?;
         Ok(rows.board())

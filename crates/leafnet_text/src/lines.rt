@@ -1,6 +1,7 @@
 //! The lines that leafnet prints, put behind a text that has room for them. Internal, but for what `Refused` prints.
 ghost use Rattle.std.specs.Prelude.{◌≡◌, ◌+◌, ◌≤◌, ◌++◌};
-ghost use Rattle.std.specs.Float.{NotNan};
+ghost use Rattle.std.specs.Float.{binary64};
+ghost use Rattle.std.specs.Float.Ieee.{to_bits};
 ghost use Rattle.arrayvec.specs.ArrayString.{array_string_len};
 ghost use Rattle.leafnet_text.specs.Lines.{corners_text, edge_line, ended, last_hex, node_line, refusal_line};
 
@@ -138,10 +139,20 @@ pub fn put_node(text: &mut Text, number: usize, node: &Node)
     text.push_str("\n");
 }
 
-/// An edge of the net. Its conductance is a number, and so has bits that can be printed.
+// The bits of a NaN: sign clear, the highest digit of the fraction set.
+const NAN: u64 = 0x7ff8_0000_0000_0000;
+
+// A float's bits. No net has a NaN; with an answer for it no caller owes a proof of that.
+#[tactic(auto, using(crate::proofs::Bits::nan_bits))]
+fn bits(float: f64) -> u64
+    ensures { result ≡ to_bits binary64 float }
+{
+    if float.is_nan() { NAN } else { float.to_bits() }
+}
+
+/// An edge of the net, with its conductance.
 pub fn put_edge(text: &mut Text, edge: &Edge)
-    requires room { array_string_len text.old + EDGE_LINE ≤ TEXT }
-    requires conducts { NotNan edge.now.conductance }
+    requires { array_string_len text.old + EDGE_LINE ≤ TEXT }
     ensures bytes { text.new.bytes ≡ text.old.bytes ++ ended (edge_line edge.now) }
     ensures short { array_string_len text.new ≤ array_string_len text.old + EDGE_LINE }
 {
@@ -150,7 +161,7 @@ pub fn put_edge(text: &mut Text, edge: &Edge)
     text.push_str(" ");
     put_number(text, edge.to);
     text.push_str(" ");
-    put_hex(text, edge.conductance.to_bits(), 16);
+    put_hex(text, bits(edge.conductance), 16);
     text.push_str("\n");
 }
 

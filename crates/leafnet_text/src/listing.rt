@@ -1,7 +1,6 @@
 //! The text of a mesh and its net, line after line.
 ghost use Rattle.std.specs.Prelude.{◌≡◌, ◌+◌, ◌*◌, ◌≤◌, [], ◌++◌, length, All, OnErr, take};
 ghost use Rattle.arrayvec.specs.ArrayString.{array_string_len};
-ghost use Rattle.std.specs.Float.{NotNan};
 ghost use Rattle.leafnet_text.specs.Output.{leaf_lines, node_lines, edge_lines};
 
 use crate::input::Board;
@@ -62,8 +61,7 @@ fn put_nodes(text: &mut Text, nodes: &[Node])
 }
 
 fn put_edges(text: &mut Text, edges: &[Edge])
-    requires room { array_string_len text.old + EDGE_LINE * length edges.now ≤ TEXT }
-    requires numbers { All (λ e. NotNan e.conductance) edges.now }
+    requires { array_string_len text.old + EDGE_LINE * length edges.now ≤ TEXT }
     ensures { text.new.bytes ≡ text.old.bytes ++ edge_lines edges.now }
 {
     for edge in edges {

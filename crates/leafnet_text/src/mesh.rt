@@ -1,10 +1,13 @@
 //! From a board to its balanced table: roots, the record's splits, balance.
-ghost use Rattle.std.specs.Prelude.{◌≡◌, IfOk, OnOk};
+ghost use Rattle.std.specs.Prelude.{◌≡◌, ◌∷◌, IfOk, OnOk};
+ghost use Rattle.refusals.specs.Said.{accepted};
 ghost use Rattle.table.specs.Refine.{refined_said};
+ghost use Rattle.table.specs.Rows.{head_values};
 ghost use Rattle.build.specs.Says.{built_said};
 ghost use Rattle.leafnet_text.specs.Held.{given_of};
 ghost use Rattle.leafnet_text.specs.Refining.{refine_all_says, refine_all_row};
 ghost use Rattle.leafnet_text.specs.Growing.{roots_say, roots_head, roots_row};
+ghost use Rattle.leafnet_text.specs.Growing.{balanced_row, balanced_head, balance_splits};
 
 use crate::input::Board;
 use crate::rooms::TABLE;
@@ -51,11 +54,18 @@ fn refine_all(row: &mut [i64], head: Head, ids: &[u64]) -> Result<Head, Refusal>
 }
 
 impl Mesh {
-    ghost use Rattle.leafnet_text.specs.Output.{Prints, board_says, table_says};
+    ghost use Rattle.leafnet_text.specs.Output.{Prints, board_says, mesh_says, table_says};
 
     /// The mesh of a board.
     pub fn of_board(board: &Board) -> Result<Mesh, Refusal>
-        ensures { Prints result (λ m. table_says (given_of board.now) m.row m.head m.splits)
+        ensures head { IfOk result (λ m. m.head ≡ balanced_head (given_of board.now)) }
+        ensures row { IfOk result (λ m. m.row ≡ balanced_row (given_of board.now)) }
+        ensures splits { IfOk result (λ m. m.splits ≡ balance_splits (given_of board.now)) }
+
+        // Refused as its roots, its splits or balance are, whatever is said of its net.
+        ensures answer { Prints result (λ m. accepted (m.splits ∷ head_values m.head))
+            (mesh_says (given_of board.now)) }
+        ensures says { Prints result (λ m. table_says (given_of board.now) m.row m.head m.splits)
             (board_says (given_of board.now)) }
     {
         let mut row = [0i64; TABLE];

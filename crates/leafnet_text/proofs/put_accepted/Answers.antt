@@ -12,16 +12,16 @@ pub returns-in_err-board-clause-says : goal.returns-in_err-board-clause-says
 returns-in_err-board-clause-says c =
     let x = c.in_err-board in
     let same : c.from_residual.result ≡ Err x.field-0.0 = search rules in
-    prints-refused c.from_residual.result x.field-0.0 _ _ same (short-enough c.args.record.now c.if-record-gt-INPUT.false ∙ x.ensures)
+    prints-refused c.from_residual.result x.field-0.0 _ _ same (short-enough c.args.record.now c.if-record-gt-INPUT.false ∙ x.ensures.says)
 
 pub returns-in_err-mesh-clause-says : goal.returns-in_err-mesh-clause-says
 returns-in_err-mesh-clause-says c =
     let x = c.in_err-mesh in
     let same : c.from_residual-in_err-mesh.result ≡ Err x.field-0.0 = search rules in
     prints-refused c.from_residual-in_err-mesh.result x.field-0.0 _ _ same
-    (short-enough c.args.record.now c.if-record-gt-INPUT.false ∙ c.in_ok-board.ensures ∙ x.ensures)
+    (short-enough c.args.record.now c.if-record-gt-INPUT.false ∙ c.in_ok-board.ensures.says ∙ x.ensures.says)
 
 pub returns-clause-says : goal.returns-clause-says
 returns-clause-says c =
     subst (Prints c.put.result (λ _. accepted c.put.new.text.bytes))
-    (sym (short-enough c.args.record.now c.if-record-gt-INPUT.false ∙ c.in_ok-board.ensures ∙ c.in_ok-mesh.ensures)) c.put.ensures.says
+    (sym (short-enough c.args.record.now c.if-record-gt-INPUT.false ∙ c.in_ok-board.ensures.says ∙ c.in_ok-mesh.ensures.says)) c.put.ensures.says

@@ -6,6 +6,7 @@ returns-clause-bytes c =
     rw (
       c.push_str-4.ensures.bytes,
       c.put_hex.ensures.bytes,
+      c.bits.ensures,
       c.push_str-3.ensures.bytes,
       c.put_number-2.ensures.bytes,
       c.push_str-2.ensures.bytes,

@@ -17,4 +17,4 @@ pub returns : goal.returns
 returns c =
     let x = c.in_ok-read in
     let h = held c.args.bytes.now (λ i. (c.type_inv.bytes i).fits) x.read (after c.read.new.rows) x.ensures.number_and_place x.ensures.left in
-    h.says
+    record { says = h.says; board = h.board; refusal = tt }
