@@ -154,12 +154,14 @@ impl Board {
     }
 }
 
-// The rows of a net as a call takes them.
+// The rows of a net as a call takes them. Where an entry of the nodes' row fits no node, with a layer or component of too
+// many bits, the row is kept as it was lent.
 #[derive(Drop)]
 struct Net {
     nodes: Vec<Node>,
     edges: Vec<Edge>,
     cells: Vec<NetCell>,
+    lent_nodes: Option<Vec<i64>>,
 }
 
 fn node_of(numbers: [i64; 4]) -> Option<Node> {
@@ -170,6 +172,63 @@ fn node_of(numbers: [i64; 4]) -> Option<Node> {
         x,
         y,
     })
+}
+
+// The nodes, each of no layer and component where its numbers fit none, and the numbers where that is so. Rows of numbers
+// are let go as soon as they have their types.
+fn nodes_of(alloc: Global, numbers: Vec<i64>) -> Result<(Vec<Node>, Option<Vec<i64>>), AllocError> {
+    let mut nodes = Vec::new(alloc);
+    let mut all_fit = true;
+    for numbers in numbers.as_chunks::<4>().0 {
+        let node = node_of(*numbers);
+        all_fit = all_fit && node.is_some();
+        nodes.push(node.unwrap_or(Node {
+            layer: 0,
+            component: 0,
+            x: numbers[2],
+            y: numbers[3],
+        }))?;
+    }
+    if all_fit {
+        return Ok((nodes, None));
+    }
+    Ok((nodes, Some(numbers)))
+}
+
+fn edges_of(
+    alloc: Global,
+    ends: Vec<u64>,
+    conductances: Vec<f64>,
+) -> Result<Vec<Edge>, AllocError> {
+    let mut edges = Vec::new(alloc);
+    for (ends, conductance) in ends.as_chunks::<2>().0.iter().zip(&conductances) {
+        edges.push(Edge {
+            from: ends[0] as usize,
+            to: ends[1] as usize,
+            conductance: *conductance,
+        })?;
+    }
+    Ok(edges)
+}
+
+fn cells_of(
+    alloc: Global,
+    corners: Vec<u64>,
+    sheets: Vec<f64>,
+) -> Result<Vec<NetCell>, AllocError> {
+    let mut cells = Vec::new(alloc);
+    for (corners, sheet) in corners.as_chunks::<4>().0.iter().zip(&sheets) {
+        cells.push(NetCell {
+            corners: Corners {
+                southwest: corners[0] as usize,
+                southeast: corners[1] as usize,
+                northeast: corners[2] as usize,
+                northwest: corners[3] as usize,
+            },
+            sheet: *sheet,
+        })?;
+    }
+    Ok(cells)
 }
 
 impl Numbers {
@@ -188,51 +247,52 @@ impl Numbers {
         })
     }
 
-    // The rows with their types. They are no net where their lengths don't fit together, or a layer or component has
-    // too many bits.
-    fn typed(&self, alloc: Global) -> Result<Option<Net>, AllocError> {
-        let (nodes_in, no_node) = self.nodes.as_chunks::<4>();
-        let (ends_in, no_end) = self.ends.as_chunks::<2>();
-        let (corners_in, no_corner) = self.corners.as_chunks::<4>();
-        let whole = no_node.is_empty() && no_end.is_empty() && no_corner.is_empty();
-        if !whole
-            || ends_in.len() != self.conductances.len()
-            || corners_in.len() != self.sheets.len()
-        {
-            return Ok(None);
+    // Whether the lengths of the rows fit together.
+    fn fit(&self) -> bool {
+        let (_, no_node) = self.nodes.as_chunks::<4>();
+        let (ends, no_end) = self.ends.as_chunks::<2>();
+        let (corners, no_corner) = self.corners.as_chunks::<4>();
+        no_node.is_empty()
+            && no_end.is_empty()
+            && no_corner.is_empty()
+            && ends.len() == self.conductances.len()
+            && corners.len() == self.sheets.len()
+    }
+
+    // The rows with their types, to be written to: what they hold doesn't count. The numbers again where their lengths
+    // don't fit together.
+    fn lent(self, alloc: Global) -> Result<Result<Net, Numbers>, AllocError> {
+        if !self.fit() {
+            return Ok(Err(self));
         }
-        let mut nodes = Vec::new(alloc);
-        for numbers in nodes_in {
-            match node_of(*numbers) {
-                Some(node) => nodes.push(node)?,
-                None => return Ok(None),
-            }
-        }
-        let mut edges = Vec::new(alloc);
-        for (ends, conductance) in ends_in.iter().zip(&self.conductances) {
-            edges.push(Edge {
-                from: ends[0] as usize,
-                to: ends[1] as usize,
-                conductance: *conductance,
-            })?;
-        }
-        let mut cells = Vec::new(alloc);
-        for (corners, sheet) in corners_in.iter().zip(&self.sheets) {
-            cells.push(NetCell {
-                corners: Corners {
-                    southwest: corners[0] as usize,
-                    southeast: corners[1] as usize,
-                    northeast: corners[2] as usize,
-                    northwest: corners[3] as usize,
-                },
-                sheet: *sheet,
-            })?;
-        }
-        Ok(Some(Net {
+        let Numbers {
+            nodes,
+            ends,
+            conductances,
+            corners,
+            sheets,
+        } = self;
+        let (nodes, lent_nodes) = nodes_of(alloc, nodes)?;
+        let edges = edges_of(alloc, ends, conductances)?;
+        let cells = cells_of(alloc, corners, sheets)?;
+        Ok(Ok(Net {
             nodes,
             edges,
             cells,
+            lent_nodes,
         }))
+    }
+
+    // The rows with their types. They are no net where their lengths don't fit together, or a layer or component has
+    // too many bits.
+    fn typed(self, alloc: Global) -> Result<Option<Net>, AllocError> {
+        let Ok(net) = self.lent(alloc)? else {
+            return Ok(None);
+        };
+        if net.lent_nodes.is_some() {
+            return Ok(None);
+        }
+        Ok(Some(net))
     }
 
     fn print(&self, out: &mut String) -> Result<(), AllocError> {
@@ -253,42 +313,71 @@ impl Net {
         }
     }
 
-    fn numbers(&self, alloc: Global) -> Result<Numbers, AllocError> {
-        let mut nodes = Vec::new(alloc);
-        for node in &self.nodes {
-            nodes.extend_from_slice(&[
-                i64::from(node.layer),
-                i64::from(node.component),
-                node.x,
-                node.y,
-            ])?;
+    // Behind the nodes that were written stands what was lent.
+    fn print_nodes(&self, written: usize, out: &mut String) -> Result<(), AllocError> {
+        let typed = match &self.lent_nodes {
+            None => self.nodes.len(),
+            Some(_) => written,
+        };
+        for node in self.nodes.iter().take(typed) {
+            let Node {
+                layer,
+                component,
+                x,
+                y,
+            } = *node;
+            write!(out, " {layer} {component} {x} {y}")?;
         }
-        let mut ends = Vec::new(alloc);
+        if let Some(numbers) = &self.lent_nodes {
+            for number in numbers.iter().skip(written.saturating_mul(4)) {
+                write!(out, " {number}")?;
+            }
+        }
+        writeln!(out)
+    }
+
+    fn print_edges(&self, alloc: Global, out: &mut String) -> Result<(), AllocError> {
         let mut conductances = Vec::new(alloc);
         for edge in &self.edges {
-            ends.extend_from_slice(&[edge.from as u64, edge.to as u64])?;
-            conductances.push(edge.conductance)?;
+            let Edge {
+                from,
+                to,
+                conductance,
+            } = *edge;
+            write!(out, " {from} {to}")?;
+            conductances.push(conductance)?;
         }
-        let mut corners = Vec::new(alloc);
+        writeln!(out)?;
+        print::fractions(out, &conductances)
+    }
+
+    fn print_cells(&self, alloc: Global, out: &mut String) -> Result<(), AllocError> {
         let mut sheets = Vec::new(alloc);
         for cell in &self.cells {
-            let at = cell.corners;
-            corners.extend_from_slice(&[
-                at.southwest as u64,
-                at.southeast as u64,
-                at.northeast as u64,
-                at.northwest as u64,
-            ])?;
+            let Corners {
+                southwest,
+                southeast,
+                northeast,
+                northwest,
+            } = cell.corners;
+            write!(out, " {southwest} {southeast} {northeast} {northwest}")?;
             sheets.push(cell.sheet)?;
         }
-        Ok(Numbers {
-            nodes,
-            ends,
-            conductances,
-            corners,
-            sheets,
-        })
+        writeln!(out)?;
+        print::fractions(out, &sheets)
     }
+
+    // The rows as numbers, of which so many nodes were written.
+    fn print(&self, alloc: Global, written: usize, out: &mut String) -> Result<(), AllocError> {
+        self.print_nodes(written, out)?;
+        self.print_edges(alloc, out)?;
+        self.print_cells(alloc, out)
+    }
+}
+
+// How many nodes a call wrote.
+fn nodes_in(answer: Result<NetSize, Refusal>) -> usize {
+    answer.map_or(0, |size| size.nodes)
 }
 
 // The hanging node and the two ends of the edge that it hangs on, or nothing.
@@ -369,15 +458,15 @@ fn run_network(alloc: Global, cases: &mut Cases, out: &mut String) -> Result<(),
     let layers: Vec<u16> = cases.row(alloc)?;
     let components: Vec<u32> = cases.row(alloc)?;
     let sheets: Vec<f64> = cases.row(alloc)?;
-    let lent = Numbers::read(alloc, cases)?;
+    let lent = Numbers::read(alloc, cases)?.lent(alloc)?;
     let mut work: Vec<u64> = cases.row(alloc)?;
     write!(out, "network")?;
     let polygons = Polygons {
         layers: &layers,
         components: &components,
     };
-    match lent.typed(alloc)? {
-        Some(mut net) => {
+    match lent {
+        Ok(mut net) => {
             let answer = network::network(
                 &t,
                 head,
@@ -390,11 +479,11 @@ fn run_network(alloc: Global, cases: &mut Cases, out: &mut String) -> Result<(),
                 &mut work,
             );
             print::answered(out, answer, print_counts)?;
-            net.numbers(alloc)?.print(out)?;
+            net.print(alloc, nodes_in(answer), out)?;
         }
-        None => {
+        Err(numbers) => {
             print::refused(out, Refusal::BadTable)?;
-            lent.print(out)?;
+            numbers.print(out)?;
         }
     }
     print::work(out, &work)
@@ -407,11 +496,11 @@ fn print_size(out: &mut String, n: NetSize) -> Result<(), AllocError> {
 // A board with links, and the rows for the net stand next.
 fn run_linked(alloc: Global, cases: &mut Cases, out: &mut String) -> Result<(), AllocError> {
     let board = Board::read(alloc, cases)?;
-    let lent = Numbers::read(alloc, cases)?;
+    let lent = Numbers::read(alloc, cases)?.lent(alloc)?;
     let mut work: Vec<u64> = cases.row(alloc)?;
     write!(out, "linked_network")?;
-    match lent.typed(alloc)? {
-        Some(mut net) => {
+    match lent {
+        Ok(mut net) => {
             let answer = network::network(
                 &board.table,
                 board.head,
@@ -424,11 +513,11 @@ fn run_linked(alloc: Global, cases: &mut Cases, out: &mut String) -> Result<(), 
                 &mut work,
             );
             print::answered(out, answer, print_size)?;
-            net.numbers(alloc)?.print(out)?;
+            net.print(alloc, nodes_in(answer), out)?;
         }
-        None => {
+        Err(numbers) => {
             print::refused(out, Refusal::BadTable)?;
-            lent.print(out)?;
+            numbers.print(out)?;
         }
     }
     print::work(out, &work)
