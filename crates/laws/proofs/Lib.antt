@@ -33,3 +33,4 @@ pub mod Eight
 pub mod Sheets
 pub mod Taken
 pub mod KeysInOrder
+pub mod Moving

@@ -14,3 +14,4 @@ pub mod Bands
 pub mod Eight
 pub mod Records
 pub mod Orders
+pub mod Moves

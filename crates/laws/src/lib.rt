@@ -9,6 +9,7 @@ pub mod boundary;
 pub mod built;
 pub mod hanging;
 pub mod made;
+pub mod moves;
 pub mod orders;
 pub mod records;
 pub mod samples;
