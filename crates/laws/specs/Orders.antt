@@ -17,6 +17,20 @@ in_order = (3 ∷ 1 ∷ []) ∷ (3 ∷ 4 ∷ []) ∷ (5 ∷ 0 ∷ []) ∷ (5 ∷
 abbrev pub SixAreInOrder : Type 0
 SixAreInOrder = IsInOrder entry 6 in_order
 
+-- the same with the numbers of one key the other way round, and with one entry in place of another
+abbrev pub exchanged : List (List ℕ)
+exchanged = (3 ∷ 1 ∷ []) ∷ (3 ∷ 4 ∷ []) ∷ (5 ∷ 2 ∷ []) ∷ (5 ∷ 0 ∷ []) ∷ (5 ∷ 5 ∷ []) ∷ (9 ∷ 3 ∷ []) ∷ []
+
+abbrev pub doubled : List (List ℕ)
+doubled = (3 ∷ 1 ∷ []) ∷ (3 ∷ 4 ∷ []) ∷ (5 ∷ 0 ∷ []) ∷ (5 ∷ 0 ∷ []) ∷ (5 ∷ 5 ∷ []) ∷ (9 ∷ 3 ∷ []) ∷ []
+
+-- neither is in order
+abbrev pub ExchangedAreNot : Type 0
+ExchangedAreNot = ¬ IsInOrder entry 6 exchanged
+
+abbrev pub DoubledAreNot : Type 0
+DoubledAreNot = ¬ IsInOrder entry 6 doubled
+
 -- no key, no entry
 abbrev pub NoneAreInOrder : Type 0
 NoneAreInOrder = IsInOrder entry 0 []
